@@ -12,7 +12,7 @@ use Rattle.sq_chart.specs.declared.moment.Event.{Event}
 use Rattle.sq_chart.specs.declared.moment.Moment.{Moment}
 use Rattle.sq_chart.specs.Moments.{AreMoments, answers_job, answer_in, moment_of, one_more, moment_after}
 
--- what stands in a list with one more at its end
+-- what is in a list with one more at its end
 push_stood : {X : Type 0} (xs : List X) (x : X) (i : ℕ) (y : X) → slice_get (xs ++ x ∷ []) i ≡ Some y → (slice_get xs i ≡ Some y) ⊎ ((i ≡ length xs) × (x ≡ y))
 push_stood xs x i y at =
     let is : get_or (xs ++ x ∷ []) i y ≡ y = get_or_from_slice_get (xs ++ x ∷ []) i y y at in

@@ -17,7 +17,7 @@ title_text all =
     concat (codes "<text class=\"ink\" x=\"130\" y=\"44\" font-size=\"32\">A live run of " ∷ decimal all.jobs
     ∷ codes " jobs while " ∷ decimal all.segments ∷ codes " segments move</text>\n" ∷ [])
 
--- the title, and what stands behind the curves
+-- the title, and what is behind the curves
 abbrev pub ground_text : Moment → List ℕ
 ground_text all = HEAD.now ++ (title_text all ++ (ticks_text all.micros ++ AXIS.now))
 

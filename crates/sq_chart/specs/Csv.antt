@@ -9,7 +9,7 @@ use Rattle.sq_chart.specs.declared.moment.Moment.{Moment}
 abbrev pub three_digits : ℕ → List ℕ
 three_digits n = styled_decimal (format_spec 32 0 4 3 (2 ^ 64 - 1)) n
 
--- microseconds, told in milliseconds
+-- microseconds, written in milliseconds
 abbrev pub milliseconds : ℕ → List ℕ
 milliseconds micros = decimal (micros / 1000) ++ (46 ∷ three_digits (micros % 1000))
 

@@ -31,7 +31,7 @@ across all micros = LEFT + share_of micros all.micros WIDTH
 abbrev pub height : ℕ → ℕ → ℕ
 height count all = BOTTOM - share_of count all HEIGHT
 
--- the curve goes on to the moment, and there up to its count
+-- the curve reaches the moment, and there rises to its count
 abbrev pub step_text : Curve → Moment → Moment → List ℕ
 step_text curve all moment =
     codes "H" ++ (decimal (across all moment.micros) ++ (codes "V" ++ decimal (height (count_of curve moment) (count_of curve all))))

@@ -8,7 +8,8 @@ use Rattle.sq_chart.specs.declared.svg.TheConstants.{LEFT, BOTTOM, WIDTH, HEIGHT
 use Rattle.sq_chart.specs.Curves.{share_of}
 use Rattle.sq_chart.specs.Ticks.{step_within, label_text}
 
--- how many microseconds an interval has of a run of so many: a step of which there are so few, and one at least
+-- how many microseconds an interval of a run of this length has: a step that makes few enough intervals, and one at
+-- least
 abbrev pub interval_len : ℕ → ℕ
 interval_len micros = max (step_within micros INTERVALS) 1
 

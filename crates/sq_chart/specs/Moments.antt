@@ -16,8 +16,8 @@ abbrev pub answer_in : Happened → Option TimedAnswer
 answer_in (JobAnswered answer) = Some answer
 answer_in SegmentComplete = None
 
--- the moment after these events, of which this is the last:
--- when it was, how many jobs were answered by then, how many segments were complete, and the answer that the last one is
+-- the moment after these events: when the last of them was, how many jobs were answered by then, how many segments were
+-- complete, and its answer
 abbrev pub moment_of : List Event → Event → Moment
 moment_of events last = record {
   micros = last.micros;

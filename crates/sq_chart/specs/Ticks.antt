@@ -9,11 +9,11 @@ use Rattle.sq_chart.specs.Curves.{share_of}
 abbrev pub step_within : ℕ → ℕ → ℕ
 step_within micros most = unwrap_or (find (λ step. nat_lt (micros / most) step) STEPS) micros
 
--- how many microseconds lie between two ticks, of which there are eight at most
+-- how many microseconds lie between two ticks; there are eight at most
 abbrev pub tick_step : ℕ → ℕ
 tick_step micros = step_within micros 8
 
--- microseconds, told in milliseconds, with decimals only where they aren't zero
+-- microseconds, written in milliseconds, with decimals only where they aren't zero
 abbrev pub label_text : ℕ → List ℕ
 label_text micros = if micros % 1000 == 0 then decimal (micros / 1000) else milliseconds micros
 

@@ -125,7 +125,7 @@ fn write_interval<W: Write>(
     }
 }
 
-// Goes on to the start of an interval, and there to its count.
+// Continues to the start of an interval, and there to its count.
 fn write_top_of<W: Write>(
     writer: &mut W,
     micros: u64,

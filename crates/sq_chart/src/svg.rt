@@ -80,7 +80,7 @@ const STEPS: [u64; 27] = [
     500_000_000,
 ];
 
-/// The ticks, of which those are drawn that lie within the run.
+/// The ticks; those are drawn that lie within the run.
 const TICKS: [u64; 9] = [0, 1, 2, 3, 4, 5, 6, 7, 8];
 
 /// The axis of time.
@@ -106,7 +106,6 @@ impl Curve {
         }
     }
 
-    // Its class.
     fn class(self) -> &'static str
         ensures { result.now ≡ curve_class self }
     {
@@ -147,7 +146,7 @@ pub fn write_svg<W: Write>(
     write_curves(writer, moments, all)
 }
 
-// Writes the title, and what stands behind the curves.
+// Writes the title, and what is behind the curves.
 fn write_top<W: Write>(writer: &mut W, all: Moment) -> io::Result<()>
     ensures { OnOk result (Appends (W.contents writer.old) (W.contents writer.new)
         (ground_text all)) }

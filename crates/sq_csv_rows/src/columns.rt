@@ -18,7 +18,7 @@ pub const NOTE_COLUMN: usize = 4;
 // What stands in front of the digits of a note.
 const HEX: [u8; 4] = *b"hex:";
 
-// What stands in the place of a byte that a word can't have.
+// What takes the place of a byte that a word can't have.
 const NO_BYTE: u8 = b'?';
 
 // Room for the line of a row with a short note.

@@ -22,7 +22,7 @@ pub struct CsvRows<'a, R: Read> {
     // The line of the last record, and how many of its bytes were given.
     line: Vec<u8>,
     given: usize,
-    // Who wants to know where the records stand.
+    // Where the records are, for whoever wants to know.
     lines: &'a RecordLines,
 }
 

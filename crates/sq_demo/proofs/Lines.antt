@@ -14,7 +14,7 @@ one_number text a zero j e = let same : a ≡ j = omega (arith, e) in append-nil
 one_number text a (suc n) j e =
     ap (λ (t : List ℕ). text a ++ t) (one_number text (a + 1) n j (omega (arith, e))) ∙ sym (append_assoc (text a) (flat_map text (range_with_len (a + 1) n)) (text j))
 
--- the texts of numbers, and then that of the next
+-- the texts of numbers, and then the text of the next
 pub next_number : (text : ℕ → List ℕ) (n : ℕ) (a b c : Option (List ℕ)) → Appends a b (flat_map text (range_with_len 0 n)) → Appends b c (text n) → Appends a c (flat_map text (range_with_len 0 (n + 1)))
 next_number text n a b c before here =
     let count : suc n ≡ n + 1 = omega arith in
@@ -35,7 +35,6 @@ lines_with_last old id (first ∷ roots) root at e =
     let here = job_line (owner old first) id first in
     ap (λ (t : List ℕ). here ++ t) (lines_with_last old (id + 1) roots root at (omega (arith, e))) ∙ sym (append_assoc here (job_lines old (id + 1) roots) (job_line (owner old root) at root))
 
--- no job
 pub no_job : (old : PlanValue) (end : ℕ) (a : Option (List ℕ)) → AddsJobs old end 0 a a
 no_job old end a = record { roots = []; as_many = refl; each = All-nil (λ (key : ℕ). key < end); wrote = appends_none a }
 

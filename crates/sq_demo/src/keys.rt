@@ -8,7 +8,7 @@ use crate::sizes::DemoSizes;
 pub(crate) struct KeySource {
     state: u64,
     roots: u64,
-    // Of those that move and have rows, how many there are, and how many of a hundred are drawn of these.
+    // How many root keys move and have rows, and how many of a hundred jobs are for these.
     hot_roots: u64,
     hot: u64,
     ghost some: { 1 ≤ hot_roots },

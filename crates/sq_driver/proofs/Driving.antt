@@ -45,7 +45,6 @@ then_step fabric first old step answer new driven made =
       holds = λ o began is held. step_keeps fabric step old answer new made o began is (driven.holds o began is held);
     }
 
--- looks
 pub then_looks : (fabric : FabricValue) (first old new : NodeState) → Driven fabric first old → Looks old new → Driven fabric first new
 then_looks fabric first old new driven looks =
     record {

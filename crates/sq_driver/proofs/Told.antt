@@ -1,4 +1,4 @@
--- What is told of the receipts of a node that is driven with a teller, step by step.
+-- What a teller hears of the receipts of a node that it is driven with, step by step.
 use Rattle.std.proofs.Common.{◌≡◌, Bool, true, ◌+◌, ◌≤◌, arith, List, [], ◌∷◌, ◌++◌, length, refl, sym, ap, ◌∙◌, subst, ◌⊎◌, inl, inr, append_assoc}
 use Rattle.std.proofs.lemmas.List.{append-nil, length-append}
 use Rattle.sq_store.specs.StoreValue.{StoreValue}
@@ -70,7 +70,7 @@ told_nothing tells old new teller (inl same) few =
 told_nothing tells old new teller (inr (receipt, grown)) few =
     let long : length new ≡ length old + 1 = longer old new receipt grown in absurd (omega (arith, few, long))
 
--- one step, and what it wrote was told
+-- one step, and the teller heard what it wrote
 pub telling_step : {X : Type 0} (tells : X → ReceiptValue → X → Type 0) (fabric : FabricValue) (step : NodeStep)
     (old : NodeState) (before : X) (answer : Stepped) (new : NodeState) (after : X)
     → IsNodeOf fabric old → MakesStep fabric step old answer new → HasTold tells old.receipts before new.receipts after
@@ -90,7 +90,7 @@ telling_looks tells fabric first before old after new was looks = record {
       (sym (ap (λ (node : NodeState). node.receipts) looks.after)) was.told;
 }
 
--- what a teller told grows by what it is told, as long as it doesn't break off
+-- a teller's list has one more entry for each receipt that it hears, as long as it doesn't break off
 grows : {X : Type 0} (tells : X → ReceiptValue → X → Type 0) (told : X → List ReceiptValue) (goes_on : X → Bool)
     → ((before after : X) (receipt : ReceiptValue) → tells before receipt after → goes_on after ≡ true → (goes_on before ≡ true) × (told after ≡ told before ++ receipt ∷ []))
     → (first last : X) (more : List ReceiptValue) → TellsEach tells first more last → goes_on last ≡ true → (goes_on first ≡ true) × (told last ≡ told first ++ more)
@@ -100,7 +100,7 @@ grows tells told goes_on each first last (receipt ∷ more) all still =
     let one = each first all.0 receipt all.1 rest.0 in
     (one.0, rest.1 ∙ ap (λ (xs : List ReceiptValue). xs ++ more) one.1 ∙ append_assoc (told first) (receipt ∷ []) more)
 
--- what a teller told that didn't break off has grown by what was written
+-- the list of a teller that didn't break off has grown by what was written
 pub told_grows : {X : Type 0} (tells : X → ReceiptValue → X → Type 0) (told : X → List ReceiptValue) (goes_on : X → Bool)
     → ((before after : X) (receipt : ReceiptValue) → tells before receipt after → goes_on after ≡ true → (goes_on before ≡ true) × (told after ≡ told before ++ receipt ∷ []))
     → (old new : List ReceiptValue) (before after : X) → HasTold tells old before new after → goes_on after ≡ true

@@ -1,4 +1,4 @@
--- What becomes of nodes that are driven.
+-- How nodes change that are driven.
 use Rattle.std.specs.Prelude.{◌≡◌, ◌⊎◌, List}
 use Rattle.sq_node.specs.declared.stepped.Stepped.{Stepped}
 use Rattle.sq_node.specs.declared.stepped.Stepped.TheVariants.{Nothing}
@@ -26,8 +26,8 @@ MakesStep fabric Pump old answer new = (answer ≡ Nothing) × (new ≡ old)
 abbrev pub StepsOrLooks : FabricValue → NodeState → NodeState → Type 0
 StepsOrLooks fabric old new = ((step : NodeStep) × (answer : Stepped) × MakesStep fabric step old answer new) ⊎ Looks old new
 
--- a node was driven: what became of it came by its own steps, it is the same partition's and one of the fabric, and what a
--- node keeps holds still, under each opening under which it did
+-- a node was driven: it changed by its own steps, it is the same partition's and one of the fabric, and what a node
+-- keeps holds still, under each opening under which it did
 pub record Driven (fabric : FabricValue) (old new : NodeState) : Type 0 where
   pub steps : ComesStepByStep (StepsOrLooks fabric) old new
   pub part : new.core.part ≡ old.core.part

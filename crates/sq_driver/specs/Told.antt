@@ -1,4 +1,4 @@
--- What becomes of nodes that are driven with tellers.
+-- How nodes change that are driven with tellers.
 use Rattle.std.specs.Prelude.{◌≡◌, List, [], ◌∷◌, ◌++◌, map}
 use Rattle.sq_node_model.specs.NodeValue.{ReceiptValue}
 use Rattle.sq_node.specs.FabricValue.{FabricValue}
@@ -7,21 +7,21 @@ use Rattle.sq_driver.specs.declared.teller.TellingNode.{TellingNode}
 use Rattle.sq_driver.specs.Ways.{EachDriven}
 use Rattle.sq_driver.specs.Nodes.{Driven}
 
--- a teller was told of these receipts, each once, one after another
+-- a teller heard of these receipts, each once, one after another
 abbrev pub TellsEach : {X : Type 0} → (X → ReceiptValue → X → Type 0)
     → X → List ReceiptValue → X → Type 0
 TellsEach tells first [] last = last ≡ first
 TellsEach {X} tells first (receipt ∷ more) last =
     (next : X) × tells first receipt next × TellsEach tells next more last
 
--- the receipts of a node grew by some, and its teller was told of just those, each once, in their order
+-- the receipts of a node grew by some, and its teller heard of just those, each once, in their order
 pub record HasTold {X : Type 0} (tells : X → ReceiptValue → X → Type 0)
     (old : List ReceiptValue) (before : X) (new : List ReceiptValue) (after : X) : Type 0 where
   pub more : List ReceiptValue
   pub written : new ≡ old ++ more
   pub told : TellsEach tells before more after
 
--- a node was driven, and its teller was told of what it wrote
+-- a node was driven, and its teller heard of what it wrote
 pub record DrivenAndTold {X : Type 0} (tells : X → ReceiptValue → X → Type 0) (fabric : FabricValue)
     (old : NodeState) (before : X) (new : NodeState) (after : X) : Type 0 where
   pub driven : Driven fabric old new
@@ -37,7 +37,7 @@ DrivenTelling tells fabric old new =
 abbrev pub nodes_of : {X : Type 0} → List (TellingNode X) → List NodeState
 nodes_of {X} pairs = map (λ (pair : TellingNode X). pair.node) pairs
 
--- each of the nodes was driven, and its teller told
+-- each of the nodes was driven, and its teller informed
 abbrev pub AllDrivenTelling : {X : Type 0} → (X → ReceiptValue → X → Type 0)
     → FabricValue → List (TellingNode X) → List (TellingNode X) → Type 0
 AllDrivenTelling tells fabric old new = EachDriven (DrivenTelling tells fabric) old new

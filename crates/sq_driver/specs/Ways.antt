@@ -1,12 +1,12 @@
--- Steps one after another, and what becomes of many by theirs.
+-- Steps one after another, and how many things change by their own.
 use Rattle.std.specs.Prelude.{◌≡◌, ℕ, ◌<◌, List, [], ◌∷◌, length, slice_index_or}
 
--- the last state comes of the first by steps of a kind, by way of these states, the latest first
+-- the last state comes from the first by steps of a kind, by way of these states, the latest first
 abbrev pub ComesBySteps : {X : Type 0} → (X → X → Type 0) → X → List X → X → Type 0
 ComesBySteps step first [] last = last ≡ first
 ComesBySteps step first (before ∷ earlier) last = ComesBySteps step first earlier before × step before last
 
--- the last state comes of the first by steps of a kind
+-- the last state comes from the first by steps of a kind
 abbrev pub ComesStepByStep : {X : Type 0} → (X → X → Type 0) → X → X → Type 0
 ComesStepByStep {X} step first last = (way : List X) × ComesBySteps step first way last
 

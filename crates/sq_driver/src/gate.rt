@@ -1,4 +1,4 @@
-// What a worker asks before each of its steps, and what it tells of them.
+// What a worker asks before each of its steps, and what it reports of them.
 use std::sync::Wait;
 use std::sync::atomic::AtomicU64;
 use std::thread;
@@ -42,7 +42,7 @@ pub enum NodeStep {
     Pump,
 }
 
-/// What a worker tells of a step in which there was something to do.
+/// What a worker reports of a step in which there was something to do.
 #[derive(Clone, Copy, Debug, PartialEq, Eq)]
 pub enum WorkerEvent {
     /// A node has written a receipt in this step.
@@ -53,24 +53,25 @@ pub enum WorkerEvent {
     Made(NodeStep),
 }
 
-/// What all workers of a run ask before each of their steps, and tell of each step in which they did something.
+/// All workers of a run ask it before each of their steps, and inform it of each step in which they did something.
 pub trait Gate {
     /// Whether a worker may make a step. Where it may not, it ends. A call may keep the worker for a while, and has to
     /// return.
     fn pass(&self, who: WorkerId, step: NodeStep) -> bool;
 
-    /// It is told of each step in which there was something to do, once that is made. A gate that ends the worker for what
-    /// it is told says so where it is asked next.
+    /// Hears of each step in which there was something to do, once that is made. A gate that ends the worker for it
+    /// says so where it is asked next.
     fn did(&self, _who: WorkerId, _event: WorkerEvent) {}
 
-    /// It is told that a worker has taken a turn without work, and how many it has taken in a row. A call may keep the worker
-    /// for a while. By default other threads go first, and after many turns in a row the worker sleeps for some microseconds.
+    /// Hears that a worker has taken a turn without work, and how many it has taken in a row. A call may keep the
+    /// worker for a while. By default other threads go first, and after many turns in a row the worker sleeps for some
+    /// microseconds.
     fn rests<R: Wait>(&self, rt: &R, _who: WorkerId, turns: u64) {
         rest(rt, turns);
     }
 
-    /// Whether a node ends where it is idle. One that doesn't goes on until it may not pass, since more may come. It is asked
-    /// after each turn of a node. A pump that is done ends in any case: for it nothing more comes in a stage.
+    /// Whether a node ends where it is idle. Otherwise it continues until it may not pass, since more may come. It is
+    /// asked after each turn of a node. A pump that is done ends in any case: nothing more comes for it in a stage.
     fn ends_idle(&self) -> bool {
         true
     }

@@ -1,5 +1,5 @@
 //! Workers: each node and each pump of a run in a thread of its own, which takes its turns one after another. A gate is
-//! asked before each step, and may end a worker. A node may have a teller, who is told of each receipt that it writes.
+//! asked before each step, and may end a worker. A node may have a teller, who hears of each receipt that it writes.
 #![tactic(auto)]
 
 mod gate;

@@ -81,13 +81,14 @@ impl<T: Teller> Worker for TellingNode<T> {
         first.node first.teller old.node old.teller new.node new.teller was more };
 }
 
-/// Drives a node: it takes this many turns. In a turn it makes each step once, and cuts and sends a second chunk. It takes no
-/// request while it has something to cut or to send: what isn't asked of it yet it still serves. Where it cut or loaded a
-/// chunk, it goes on with jobs until it has done three times as much for them as for chunks, or finds none.
+/// Drives a node: it takes this many turns. In a turn it makes each step once, and cuts and sends a second chunk. It
+/// takes no request while it has something to cut or to send: it still serves what isn't asked of it yet. Where it cut
+/// or loaded a chunk, it continues with jobs until it has done three times as much for them as for chunks, or finds
+/// none.
 ///
-/// It ends before where it is idle, unless the gate says that it goes on then. And it ends where the gate says so, which is
-/// asked before each step. The gate is told of each step in which there was something to do, and where the node rests after a
-/// turn without work, which it may do by keeping it for a while.
+/// It ends before where it is idle, unless the gate says that it continues then. And it ends where the gate says so,
+/// which is asked before each step. The gate hears of each step in which there was something to do, and where the node
+/// rests after a turn without work, during which it may keep it for a while.
 pub fn drive<R: Wait, G: Gate>(rt: &R, fabric: &Fabric, node: &mut Node, turns: u64, gate: &G)
     requires { IsNodeOf fabric.now node.old }
     ensures { Driven fabric.now node.old node.new }
@@ -95,8 +96,9 @@ pub fn drive<R: Wait, G: Gate>(rt: &R, fabric: &Fabric, node: &mut Node, turns: 
     take_turns(rt, fabric, node, turns, gate);
 }
 
-/// Drives a node with its teller, as [`drive`] does. The teller is told of each receipt that the node writes, once, in their
-/// order, and of nothing else. It is told as soon as the step is made that wrote the receipt, before the gate is.
+/// Drives a node with its teller, as [`drive`] does. The teller hears of each receipt that the node writes, once, in
+/// their order, and of nothing else. It hears of it as soon as the step is made that wrote the receipt, before the gate
+/// is.
 pub fn drive_telling<T: Teller, R: Wait, G: Gate>(
     rt: &R,
     fabric: &Fabric,
@@ -110,7 +112,7 @@ pub fn drive_telling<T: Teller, R: Wait, G: Gate>(
     take_turns(rt, fabric, pair, turns, gate);
 }
 
-// Sends what is pending, and makes each step once. Where a chunk was cut or loaded, it goes on with jobs for a while.
+// Sends what is pending, and makes each step once. Where a chunk was cut or loaded, it continues with jobs for a while.
 fn take_node_turn<T: Teller, R: Wait, G: Gate>(
     rt: &R,
     fabric: &Fabric,
@@ -143,8 +145,8 @@ fn take_node_turn<T: Teller, R: Wait, G: Gate>(
     turn
 }
 
-// Goes on with jobs, by as much as is owed for the chunks that were cut or loaded since a turn began. Whether the gate lets
-// the node go on.
+// Continues with jobs, by as much as is owed for the chunks that were cut or loaded since a turn began. Says whether
+// the gate lets the node continue.
 fn serve_on<T: Teller, R: Wait, G: Gate>(
     rt: &R,
     fabric: &Fabric,
@@ -192,7 +194,8 @@ fn serve<T: Teller, R: Wait, G: Gate>(
     }
 }
 
-// Makes a step of a node, where the gate lets it pass, tells its receipt, and tells the gate what it did.
+// Makes a step of a node, where the gate lets it pass, and informs its teller of the receipt and the gate of what it
+// did.
 fn try_step<T: Teller, R: Wait, G: Gate>(
     rt: &R,
     fabric: &Fabric,
@@ -219,7 +222,7 @@ fn try_step<T: Teller, R: Wait, G: Gate>(
     Turn::Worked
 }
 
-// Makes a step of a node, and tells the receipt that it wrote, if it wrote one.
+// Makes a step of a node, and informs its teller of the receipt that it wrote, if it wrote one.
 fn step_and_tell<T: Teller, R: Wait>(
     rt: &R,
     fabric: &Fabric,
@@ -239,7 +242,7 @@ fn step_and_tell<T: Teller, R: Wait>(
     stepped
 }
 
-// What the gate is told of a step in which a node did something, which had this many receipts before.
+// What the gate hears of a step in which a node did something, which had this many receipts before.
 fn event_of(node: &Node, step: NodeStep, receipts: usize) -> WorkerEvent {
     if node.receipts().len() != receipts {
         return WorkerEvent::Answered(step);

@@ -53,13 +53,14 @@ impl Worker for Pump {
     ghost further = { pump_further };
 }
 
-/// Drives a pump: it takes this many turns. Before them it splits the segments where they are few, so that it claims no large
-/// part of what moves at once. In a turn it claims a tree node of a segment whose source has few requests to begin, if there is
-/// one: what isn't claimed is still served where it stands, and a transaction that waits can claim it.
+/// Drives a pump: it takes this many turns. Before them it splits the segments where they are few, so that it claims no
+/// large part of what moves at once. In a turn it claims a tree node of a segment whose source has few requests to
+/// begin, if there is one: what isn't claimed is still served where it stands, and a transaction that waits can claim
+/// it.
 ///
-/// It ends before where it is done: there was nothing to claim in any segment of the running stage, and nothing is pending. And
-/// it ends where the gate says so, which is asked before each turn. The gate is told of each claim, and where the pump rests,
-/// which it may do by keeping it for a while.
+/// It ends before where it is done: there was nothing to claim in any segment of the running stage, and nothing is
+/// pending. And it ends where the gate says so, which is asked before each turn. The gate hears of each claim, and
+/// where the pump rests, during which it may keep it for a while.
 pub fn drive_pump<R: Wait, G: Gate>(rt: &R, fabric: &Fabric, pump: &mut Pump, turns: u64, gate: &G)
     requires { AreSeatsOf fabric.now.trees pump.old.seats }
     ensures { PumpDriven fabric.now pump.old pump.new }

@@ -1,12 +1,12 @@
-// Who is told of the receipts of a node.
+// Recorders of the receipts of a node.
 ghost use Rattle.sq_node_model.specs.Prelude.{ReceiptValue};
 
 use sq_node::{Node, Receipt};
 use std::sync::Wait;
 
-/// Who is told of the receipts of one node, by the thread that drives it.
+/// A recorder of the receipts of one node, in the thread that drives it.
 pub trait Teller {
-    /// What telling a receipt makes of a teller.
+    /// What a receipt makes of a teller.
     ghost Tells: { Self → ReceiptValue → Self → Type 0 };
 
     /// Tells a receipt of its node, as soon as that is written. It may wait.
@@ -14,16 +14,16 @@ pub trait Teller {
         ensures { Tells self.old receipt.now self.new };
 }
 
-/// A node, and who is told of its receipts.
+/// A node, and the recorder of its receipts.
 #[derive(Drop)]
 pub struct TellingNode<T> {
     /// The node.
     pub node: Node,
-    /// Who is told of each receipt that it writes.
+    /// The recorder of each receipt that it writes.
     pub teller: T,
 }
 
-/// A teller that tells nobody.
+/// A teller that records nothing.
 #[derive(Clone, Copy, Debug)]
 pub struct NoTeller;
 

@@ -5,7 +5,7 @@ use crate::gate::{Gate, WorkerId};
 use sq_node::Fabric;
 use std::sync::Wait;
 
-/// What became of a turn.
+/// The outcome of a turn.
 #[derive(Clone, Copy, Debug, PartialEq, Eq)]
 pub(crate) enum Turn {
     /// The worker did something.
@@ -21,10 +21,10 @@ pub(crate) trait Worker {
     /// The worker is of the fabric.
     ghost IsOf: { FabricValue → Self → Type 0 };
 
-    /// What becomes of a worker in its turns.
+    /// How a worker changes in its turns.
     ghost Driven: { FabricValue → Self → Self → Type 0 };
 
-    /// Who it is to a gate.
+    /// Its name to a gate.
     fn id(&self) -> WorkerId;
 
     /// What it does before its turns.
@@ -48,7 +48,7 @@ pub(crate) trait Worker {
         → Driven fabric first old → Driven fabric old new → Driven fabric first new };
 }
 
-/// Drives a worker: it takes this many turns, or fewer where it doesn't go on. The gate is told where it rests.
+/// Drives a worker: it takes this many turns, or fewer where it stops. The gate hears where it rests.
 pub(crate) fn take_turns<W: Worker, R: Wait, G: Gate>(
     rt: &R,
     fabric: &Fabric,

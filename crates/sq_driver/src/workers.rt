@@ -33,8 +33,8 @@ pub fn run_workers<R: Threads + Wait + Sync, G: Gate + Sync>(
     run_all(rt, fabric, nodes, pumps, turns, gate);
 }
 
-/// Drives each node, with its teller, and each pump, as [`run_workers`] does. A teller is told of each receipt that its node
-/// writes, once, in their order, and of nothing else, by the thread that drives the node.
+/// Drives each node, with its teller, and each pump, as [`run_workers`] does. A teller hears of each receipt that its
+/// node writes, once, in their order, and of nothing else, by the thread that drives the node.
 pub fn run_telling<T: Teller + Send, R: Threads + Wait + Sync, G: Gate + Sync>(
     rt: &R,
     fabric: &Fabric,

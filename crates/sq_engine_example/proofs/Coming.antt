@@ -140,7 +140,7 @@ module _ (o : OpeningValue) where
         planned = λ sound last_sound. end.planned last_sound (all_sound here came.page came.verdict (paged (latest ∷ earlier)) one sound audited);
       }
 
-  -- an engine that had come so far gave a page, went on, and was closed
+  -- an engine that had come so far gave a page, continued, and was closed
   pub comes_back : (there rest : Standing) (came : ThereAndBack) → CameByPages o [] there → TakesPage there came.page rest
       → SpeaksForRuns came.page.plan came.page.page.run came.page.page.jobs.items came.verdict
       → ClosesLater rest came.closed → SpeaksForEngines came.closed came.last_verdict → HasComeBack o came

@@ -1,4 +1,4 @@
--- What became of an engine whose rows moved to another plan and back.
+-- The outcome for an engine whose rows moved to another plan and back.
 use Rattle.std.specs.Prelude.{◌≡◌, List, [], ◌∷◌}
 use Rattle.sq_ranges.specs.OpeningValue.{OpeningValue}
 use Rattle.sq_audit.specs.declared.verdict.Verdict.{Verdict}
@@ -19,7 +19,7 @@ use Rattle.sq_engine_example.specs.declared.ThereAndBack.{ThereAndBack}
 abbrev pub CameByPages : OpeningValue → List PauseValue → Standing → Type 0
 CameByPages o pages standing = (past : List Episode) × Stands o past standing × (paged past ≡ pages)
 
--- an engine went on, and then it was closed
+-- an engine continued, and then it was closed
 abbrev pub ClosesLater : Standing → Closed → Type 0
 ClosesLater standing closed = (later : Standing) × KeepsHistory standing later × HasClosedAfter later closed
 

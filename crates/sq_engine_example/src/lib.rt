@@ -27,7 +27,7 @@ const TURNS: u64 = 1_000_000;
 
 const PUMPS: u32 = 1;
 
-/// What became of an engine whose rows moved to another plan and back.
+/// The outcome for an engine whose rows moved to another plan and back.
 #[derive(Drop)]
 pub struct ThereAndBack {
     /// The page that was taken at the other plan.

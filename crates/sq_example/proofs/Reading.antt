@@ -53,7 +53,6 @@ opens number tables old new config rows (Ok world) given opened =
     }
 opens number tables old new config rows (Err e) given opened = tt
 
--- the family that there is where there is one
 its_family : (b : Bool) (family other : FamilyValue) → Some family ≡ (if b then Some other else None) → family ≡ other
 its_family true family other is = ap (λ (o : Option FamilyValue). unwrap_or o family) is
 its_family false family other is = absurd (true≢false (ap is_some is))

@@ -131,7 +131,6 @@ module _ (stage part : ℕ) (recon : ReconValue) where
     pub all_loaded_due : (arrivals : List Arrival) → list_all (due_by stage started part recon loaded) arrivals ≡ true → list_all (λ a. due_by stage started part recon more_loaded (due_if covered a)) arrivals ≡ true
     all_loaded_due arrivals all = all_follow (due_by stage started part recon loaded) (due_by stage started part recon more_loaded) (due_if covered) loaded_due arrivals all
 
-  -- some more are due
   pub all_more_due : (started : Bool) (loaded : List (List Run)) (passes : Arrival → Bool) (arrivals : List Arrival) → list_all (due_by stage started part recon loaded) arrivals ≡ true
       → list_all (λ a. due_by stage started part recon loaded (due_if passes a)) arrivals ≡ true
   all_more_due started loaded passes arrivals all = all_follow (due_by stage started part recon loaded) (due_by stage started part recon loaded) (due_if passes) (λ a here. more a.is_due (passes a) (coming_by stage started part recon loaded (a.txn).root) here) arrivals all

@@ -47,7 +47,7 @@ module _ (limit : ℕ) (ends : Link) (out : OutLinkValue) (store : StoreValue) (
         within = omega (arith, within, hi_is);
       }
 
-  -- the chunk that was cut of what is left of the work is that of the definition
+  -- the chunk that was cut of what is left of the work is the one of the definition
   pub was_cut : (now : OutLinkValue) (work : WorkValue) (rest : Extent) (kept : List Note) (base : Note) (chunk : ChunkValue) (note noted : Note) (notes : List Note) (works : List WorkValue) (left : StoreValue)
       → out ≡ now → is_some out.outbox ≡ false → Some at ≡ next_work out.work → work ≡ get_or out.work at work → rest.lo ≡ work.rest → rest.hi ≡ work.hi
       → kept ≡ out.notes → base ≡ record (note_for ends (record out { notes = kept }) work work.rest) { last = false } → chunk ≡ next_chunk store base rest limit

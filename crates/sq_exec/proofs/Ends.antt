@@ -16,7 +16,7 @@ link_of out = out.link
 abbrev pub links_of : List RoomyOutLink → List OutLinkValue
 links_of outs = map link_of outs
 
--- a partition of which one end was changed
+-- a partition with one end changed
 pub core_changed : {seen now : PartCoreValue} → seen ≡ now → (outs : List RoomyOutLink) → links_of outs ≡ seen.core.outs
     → (change : OutLinkValue → OutLinkValue) (i dst : ℕ) (out after : RoomyOutLink) → i ≡ dst → out ≡ get_or outs i out → after.link ≡ change out.link
     → record seen.core { outs = links_of (set outs i after) } ≡ with_out now.core dst (change (out_at now.core dst))
@@ -25,7 +25,7 @@ core_changed {seen} {now} view_is outs outs_is change i dst out after same read 
     seen_changed link_of outs new_out_link change i dst out after same read is ∙ ap (λ links. set links dst (change (get_or links dst new_out_link))) outs_is in
     ap (λ links. record seen.core { outs = links }) changed ∙ ap (λ (v : PartCoreValue). with_out v.core dst (change (out_at v.core dst))) view_is
 
--- a partition of which one end is another, and the store too
+-- a partition with another end, and another store
 pub core_with : {seen now : PartCoreValue} → seen ≡ now → (outs : List RoomyOutLink) → links_of outs ≡ seen.core.outs → (store : StoreValue) (i dst : ℕ) (after : RoomyOutLink) → i ≡ dst
     → record seen.core { outs = links_of (set outs i after); store = store } ≡ record (with_out now.core dst after.link) { store = store }
 core_with {seen} {now} view_is outs outs_is store i dst after same =

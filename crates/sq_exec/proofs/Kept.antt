@@ -1,4 +1,4 @@
--- A partition that goes on as it is set up.
+-- A partition that continues as it is set up.
 use Rattle.std.proofs.Common.{◌≡◌, Bool, true, List}
 use Rattle.std.specs.Prelude.{is_some}
 use Rattle.std.specs.List.{list_all}

@@ -48,7 +48,7 @@ loadable core src chunk can = of_segment (slice_get core.recon.segments chunk.no
     }
 
 module _ {seen now : PartCoreValue} (view_is : seen ≡ now) (src from : ℕ) (from_is : from ≡ src) (within : from < length seen.core.inboxes) where
-  -- what stands in the inbox came from there
+  -- what is in the inbox came from there
   pub came : (inbox : Option ChunkValue) (chunk : ChunkValue) → inbox ≡ get_or seen.core.inboxes from inbox → inbox ≡ Some chunk → inbox_at now.core src ≡ Some chunk
   came inbox chunk read is =
       ap (λ (v : PartCoreValue). inbox_at v.core src) (sym view_is) ∙ ap (inbox_at seen.core) (sym from_is) ∙ sym (get_or_default seen.core.inboxes from inbox None within) ∙ sym read ∙ is
@@ -93,7 +93,6 @@ module _ {seen now : PartCoreValue} (view_is : seen ≡ now) (src from : ℕ) (f
 pub same_waiting : {passes : Arrival → Bool} (old new : WaitingValue) → IsMoreDue passes old new → txns_of new.arrivals ≡ txns_of old.arrivals
 same_waiting {passes} old new more = ap (λ (w : WaitingValue). txns_of w.arrivals) more.more ∙ txns-due (λ a. passes a && more.some a) old.arrivals
 
--- with the same numbers
 pub same_numbering : {passes : Arrival → Bool} (old new : WaitingValue) → IsMoreDue passes old new → ◌≡◌ {A = Numbering} (record { numbers = numbers_of new.arrivals; next = new.next }) (record { numbers = numbers_of old.arrivals; next = old.next })
 same_numbering {passes} old new more =
     ap (λ (w : WaitingValue). record { numbers = numbers_of w.arrivals; next = w.next }) more.more

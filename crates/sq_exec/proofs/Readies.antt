@@ -120,7 +120,6 @@ module _ (core : CoreValue) (arrivals : List Arrival) (due : list_all (is_due_he
         (λ k. option_and_then (slice_get (waiting_is k)) (position (is_ready_here core) (waiting_is k))) ∙ ap (option_and_then (slice_get (txns_of arrivals))) first.1 ∙ first.3 in
         ap (option_map (λ (t : TxnValue). route core t.root)) chosen ∙ ap Some (sym who_is)
 
-  -- none is ready
   pub none_is_ready : (from : ℕ) (fault : ResumeFault) → find (is_due_from from) arrivals ≡ None → list_all (pass_below (is_off core) from) arrivals ≡ true → fault ≡ stays_by (list_all (pass_below (comes core) from) arrivals)
       → core.waiting ≡ txns_of arrivals → Some fault ≡ resume_refusal core
   none_is_ready from fault none off fault_is waiting_is = ap Some (fault_is ∙ ap stays_by all_come) ∙ by_all (list_all (λ txn. is_coming_here core txn.root) core.waiting) refl

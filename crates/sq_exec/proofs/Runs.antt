@@ -43,7 +43,7 @@ module _ (note : Note) (p : Run → Bool) (more : Bool)
   any-runs_with : (runs : List Run) → list_any p (runs_with runs note) ≡ (list_any p runs || more)
   any-runs_with runs = any-grown runs (position (goes_on note) runs) refl
 
--- what it is for a chunk to go on where a run ends
+-- a chunk continues a run where that ends
 record GoesOn (note : Note) (run : Run) : Type 0 where
   node : run.node ≡ note.node
   rises : run.lo ≤ run.hi
@@ -55,7 +55,7 @@ goes note run on =
     let rest = and_parts (nat_le run.lo run.hi) (run.hi == note.lo) first.1 in
     record { node = eqb-true run.node note.node first.0; rises = leb-true run.lo run.hi rest.0; meets = eqb-true run.hi note.lo rest.1 }
 
--- the keys of a run with those that go on where it ends
+-- the keys of a run with those that continue where it ends
 joined : (lo hi end key : ℕ) → lo ≤ hi → (nat_le lo key && nat_lt key (max hi end)) ≡ ((nat_le lo key && nat_lt key hi) || (nat_le hi key && nat_lt key end))
 joined lo hi end key le = grind (arith, nat_tests)
 

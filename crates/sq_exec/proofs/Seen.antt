@@ -1,4 +1,4 @@
--- Lists of which each element is seen by a part of it.
+-- Lists whose elements are each seen by a part of them.
 use Rattle.std.proofs.Common.{◌≡◌, ℕ, ◌<◌, ◌≤◌, List, map, length, get_or, set, inl, inr, sym, ap, ◌∙◌, arith}
 use Rattle.std.proofs.lemmas.Bool.{cases_lt}
 use Rattle.std.proofs.lemmas.List.{get_or-map, map-set, length-map, set_past}
@@ -16,7 +16,6 @@ module _ {A B : Type 0} (f : A → B) (xs : List A) where
   past : (i : ℕ) (after : A) (y : B) → length xs ≤ i → map f (set xs i after) ≡ set (map f xs) i y
   past i after y le = ap (map f) (set_past xs i after le) ∙ sym (set_past (map f xs) i y (omega (arith, le, length-map xs f)))
 
-  -- one was changed
   pub seen_changed : (none : B) (change : B → B) (i j : ℕ) (x after : A) → i ≡ j → x ≡ get_or xs i x → f after ≡ change (f x) → map f (set xs i after) ≡ set (map f xs) j (change (get_or (map f xs) j none))
   seen_changed none change i j x after same read is =
       elim (cases_lt i (length xs)) [

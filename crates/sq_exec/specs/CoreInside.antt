@@ -1,4 +1,4 @@
--- A partition by itself, as it is kept.
+-- A single partition, as it is kept.
 use Rattle.std.specs.Prelude.{map}
 use Rattle.sq_waiting.specs.Waiting.{txns_of}
 use Rattle.sq_store.specs.StoreValue.{StoreValue}

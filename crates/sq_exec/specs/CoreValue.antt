@@ -1,4 +1,4 @@
--- A partition by itself.
+-- A single partition.
 use Rattle.std.specs.Prelude.{ℕ, Bool, false, ◌&&◌, nat_lt, List, [], replicate, length, slice_set, slice_index_or, Option, None}
 use Rattle.sq_schema.specs.TxnValue.{TxnValue}
 use Rattle.sq_plan.specs.PlanValue.{PlanValue}
@@ -63,7 +63,7 @@ opened_core o part store =
 abbrev pub folded_core : CoreValue → CoreValue
 folded_core core = record core { store = folded_store core.store }
 
--- a partition to which the stage was told that runs now
+-- a partition that knows which stage runs now
 abbrev pub entered_core : ℕ → CoreValue → CoreValue
 entered_core stage core = record core { stage = stage }
 

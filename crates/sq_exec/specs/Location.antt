@@ -1,4 +1,4 @@
--- Where a root key is, as far as a partition by itself can tell.
+-- Where a root key is, as far as a single partition can know.
 use Rattle.std.specs.Prelude.{ℕ, Bool, false, ◌==◌, ◌&&◌, not, nat_lt, if◌then◌else◌, Option, Some, None, slice_get, option_and_then, option_map}
 use Rattle.std.specs.List.{list_any}
 use Rattle.sq_plan.specs.PlanValue.{owner}
@@ -43,9 +43,9 @@ route_from core root (Some at) =
     else if (at.dst == core.part) && at.loaded then at.dst
     else at.src
 
--- the partition that transactions on the root key go to, as far as this one can tell: its owner where it doesn't move, the
--- destination once its stage went, and else the source until it gave the key up, and the destination from then on at the
--- source, and once it loaded the key at the destination
+-- the partition that transactions on the root key go to, as far as this one can know: its owner where it doesn't move,
+-- the destination once its stage went, and else the source until it gave the key up, and the destination from then on
+-- at the source, and once it loaded the key at the destination
 abbrev pub route : CoreValue → ℕ → ℕ
 route core root = route_from core root (location core root)
 

@@ -1,4 +1,4 @@
--- What the steps of a move do to a partition by itself: Begin, Cut and Load.
+-- What the steps of a move do to a single partition: Begin, Cut and Load.
 use Rattle.std.specs.Prelude.{◌≡◌, ℕ, Bool, false, ◌==◌, ◌&&◌, not, nat_le, if◌then◌else◌, [], ◌∷◌, ◌++◌, slice_get, slice_set, Option, Some, None, is_some}
 use Rattle.std.specs.Option.{option_map_or}
 use Rattle.sq_ranges.specs.declared.recon.Extent.{Extent}

@@ -1,4 +1,4 @@
--- What transactions come to that are submitted at a partition, and those that waited at it.
+-- The outcomes of transactions that are submitted at a partition, and of those that waited at it.
 use Rattle.std.specs.Prelude.{◌≡◌, ℕ, Bool, true, false, ◌==◌, ◌&&◌, ◌||◌, not, nat_le, if◌then◌else◌, [], ◌∷◌, ◌++◌, length, position, remove, slice_get, Option, Some, None, is_none, option_and_then}
 use Rattle.std.specs.Option.{option_map_or}
 use Rattle.std.specs.List.{list_all}
@@ -50,7 +50,7 @@ submit_refusal core txn =
 abbrev pub submit_takes_memory : CoreValue → TxnValue → Bool
 submit_takes_memory core txn = must_wait core txn.root || (route core txn.root == core.part)
 
--- the transaction waits behind all others, and its segment and leaf are told
+-- the transaction waits behind all others, and the answer has its segment and leaf
 pub record IsMadeToWait (old : CoreValue) (txn : TxnValue) (outcome : Outcome) (new : CoreValue) : Type 0 where
   pub at : Location
   pub moves : location old txn.root ≡ Some at

@@ -1,4 +1,4 @@
-// Why a call was refused, in the order in which the causes are looked at. The number of a variant is that of the step's
+// Why a call was refused, in the order in which the causes are looked at. Each variant has the number of the step's
 // refusal.
 ghost use Rattle.std.specs.Prelude.{◌≡◌};
 ghost use Rattle.sq_exec.specs.Fault.{submit_fault_number, resume_fault_number, cut_fault_number, load_fault_number};

@@ -5,8 +5,8 @@ ghost use Rattle.sq_exec.specs.GivenUp.{none_given_up, is_given_up, given_up_wit
 use sq_tree::{LEAVES, Leaf, NodeId};
 use std::marker::Model;
 
-/// The leaves of a segment that its source gave up: those of each node that was begun. To a contract it is a list that
-/// tells it of each leaf.
+/// The leaves of a segment that its source gave up: those of each node that was begun. To a contract it is a list with
+/// an entry for each leaf.
 #[derive(Debug, Drop)]
 pub(crate) struct GivenUp {
     leaves: [bool; 32],

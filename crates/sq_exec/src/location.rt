@@ -3,7 +3,7 @@ use sq_plan::PartId;
 use sq_ranges::SegId;
 use sq_tree::Leaf;
 
-/// Where a root key is that moves, as far as a partition by itself can tell.
+/// Where a root key is that moves, as far as a single partition can know.
 #[derive(Clone, Copy, Debug)]
 pub struct Location {
     /// Its segment.

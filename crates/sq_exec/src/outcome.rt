@@ -1,10 +1,10 @@
-// What becomes of transactions.
+// Outcomes of transactions.
 use sq_plan::PartId;
 use sq_ranges::SegId;
 use sq_schema::{Reply, Txn};
 use sq_tree::Leaf;
 
-/// What becomes of a transaction at a partition.
+/// The outcome of a transaction at a partition.
 #[derive(Debug, Drop)]
 pub enum Outcome {
     /// It ran, with this reply.
@@ -20,6 +20,6 @@ pub enum Outcome {
 pub struct Resumed {
     /// The transaction.
     pub txn: Txn,
-    /// What became of it.
+    /// Its outcome.
     pub outcome: Outcome,
 }

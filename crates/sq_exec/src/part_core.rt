@@ -1,4 +1,4 @@
-// One partition by itself.
+// One partition.
 ghost use Rattle.std.specs.Prelude.{◌≡◌, ◌↔◌, ◌<◌, true, List, IsTrue, length, map};
 ghost use Rattle.std.specs.Option.{option_copied};
 ghost use Rattle.sq_waiting.specs.Waiting.{Arrival, txns_of, numbers_of};
@@ -19,8 +19,8 @@ mod moving;
 mod open;
 mod serving;
 
-/// One partition by itself: its families, the transactions that wait at it, and its ends of the links. To a contract it
-/// is a `CoreValue`, whether there is room for what the next Begin adds, and the arrival numbers of what waits.
+/// One partition: its families, the transactions that wait at it, and its ends of the links. To a contract it is a
+/// `CoreValue`, whether there is room for what the next Begin adds, and the arrival numbers of what waits.
 #[derive(Drop)]
 pub struct PartCore<S: FamilyStore> {
     part: PartId,

@@ -34,14 +34,14 @@ impl Run {
         self.lo.max(note.lo) < self.hi.min(note.hi)
     }
 
-    // Whether a chunk goes on where it ends.
+    // Whether a chunk continues where it ends.
     fn goes_on(&self, note: &Note) -> bool
         ensures { result ≡ goes_on note.now self.now }
     {
         self.node == note.node && self.lo <= self.hi && self.hi == note.lo
     }
 
-    // It with the keys of a chunk that goes on where it ends.
+    // The run with the keys of a chunk that continues where it ends.
     fn with(self, note: &Note) -> Run
         ensures { result ≡ run_with note.now self }
     {
@@ -91,7 +91,7 @@ pub(crate) fn add(runs: &mut Vec<Run>, note: &Note)
     }
 }
 
-// Where the first run stands that a chunk goes on from.
+// Where the first run is that a chunk continues.
 fn place(runs: &[Run], note: &Note) -> Option<usize>
     ensures { result ≡ position (goes_on note.now) runs.now }
 {

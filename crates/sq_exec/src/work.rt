@@ -85,14 +85,14 @@ impl Work {
     }
 }
 
-// Where the first work stands that a transaction waits for.
+// Where the first work is that a transaction waits for.
 fn first_reactive(work: &[Work]) -> Option<usize>
     ensures { result ≡ position is_reactive_work work.now }
 {
     work.iter().position(|work| work.is_reactive())
 }
 
-/// Where the work stands that is done next: the first for a reactive pull, or where there is none the first.
+/// Where the work is that is done next: the first for a reactive pull, or where there is none the first.
 #[tactic(auto, using(crate::proofs::Works::front_found, crate::proofs::Works::front_first, crate::proofs::Works::front_none))]
 pub(crate) fn next_work(work: &[Work]) -> Option<usize>
     ensures { result ≡ next_work work.now }

@@ -6,7 +6,7 @@ use Rattle.sq_explain.specs.declared.table.Entry.{Entry}
 abbrev pub row_of : Entry → ℕ × List ℕ
 row_of entry = (entry.number, entry.meaning.now)
 
--- what is told of a found entry, and of a found row
+-- the text of a found entry, and of a found row
 abbrev told : Option Entry → Option (List ℕ)
 told = option_map (λ entry. entry.meaning.now)
 

@@ -1,4 +1,4 @@
--- What the numbers that a user sees mean, and what is told of them.
+-- What the numbers that a user sees mean, and the texts about them.
 use Rattle.std.specs.Prelude.{◌≡◌, ◌==◌, ℕ, Bool, true, false, List, ◌∷◌, ◌++◌, [], Option, Some, None, find, map, option_map, decimal, codes}
 use Rattle.std.specs.List.{flat_map}
 use Rattle.std.specs.Io.KnownBytes.{Appends}
@@ -98,7 +98,7 @@ pub record TellsNothing (number : ℕ) (before now : Option (List ℕ)) : Type 0
   pub unknown : meaning_of number ≡ None
   pub written : Appends before now []
 
--- what is written of this number, or of all; told says whether there is something to tell
+-- what is written of this number, or of all; `told` says whether there is something to write
 abbrev pub Explains : Option ℕ → Option (List ℕ) → Option (List ℕ) → Bool → Type 0
 Explains None before now told = TellsAll before now × (told ≡ true)
 Explains (Some number) before now true = TellsOne number before now

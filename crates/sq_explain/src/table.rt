@@ -1,6 +1,6 @@
 // The table of numbers.
 
-/// What is told of a number.
+/// The texts of a number.
 #[derive(Clone, Copy, Debug, PartialEq, Eq)]
 pub struct Entry {
     pub number: u16,

@@ -30,7 +30,7 @@ room_left old node nodes left new adds is room =
       owners = omega (arith, room.owners, ap length is, ap length adds.owners, length-append old.owners (node.seats ∷ []), adds.room.owners);
     }
 
--- what comes of adding them all
+-- the result of adding them all
 pub record HasAdded (old : GatheringValue) (nodes : List NodeState) (new : GatheringValue) : Type 0 where
   pub stores : new.stores ≡ old.stores ++ map (λ (node : NodeState). node.core.store) nodes
   pub receipts : new.receipts ≡ old.receipts ++ flat_map (λ (node : NodeState). node.receipts) nodes

@@ -23,7 +23,7 @@ pub record StandsFor (ends : List (Option EndValue)) (other i : ℕ) : Type 0 wh
   pub there : end_at ends other ≡ Some end
   pub here : end.link ≡ i
 
--- a node's end of a link is there, with what stands beside it: to put it once more changes nothing
+-- a node's end of a link is there, with what is beside it: to put it once more changes nothing
 pub record HasEnd {Y : Type 0} (put : LinkEndsValue → EndValue → Y → LinkEndsValue) (ends : List (Option EndValue)) (beside : List Y) (none : Y) (other i : ℕ) (left : LinkEndsValue) : Type 0 where
   pub own : StandsFor ends other i
   pub is : put left own.end (slice_index_or beside other none) ≡ left
@@ -35,7 +35,7 @@ HasSource node dst i left = HasEnd with_source node.sends node.core.outs new_out
 abbrev pub HasDestination : NodeState → ℕ → ℕ → LinkEndsValue → Type 0
 HasDestination node src i left = HasEnd with_destination node.recvs node.core.inboxes None src i left
 
--- the ends of these nodes are there, each where its link stands
+-- the ends of these nodes are there, each where its link is
 abbrev pub HaveEnds : (LinkValue → ℕ) → (LinkValue → ℕ) → (NodeState → ℕ → ℕ → LinkEndsValue → Type 0) → List LinkValue → List NodeState → List LinkEndsValue → Type 0
 HaveEnds near far Has links nodes ends =
     (i : ℕ) (link : LinkValue) (left : LinkEndsValue) (node : NodeState) → slice_get links i ≡ Some link → slice_get ends i ≡ Some left → slice_get nodes (near link) ≡ Some node → Has node (far link) i left
@@ -54,7 +54,7 @@ end_of ends other i is = by (end_at ends other) refl is
     by None there is = absurd cc
     by (Some end) there is = record { end = end; there = there; here = same_Some end.link i is }
 
--- what became of the ends of a link where a node's ends are put
+-- the ends of a link after a node's ends are put in place
 came_of : {Y : Type 0} {put : LinkEndsValue → EndValue → Y → LinkEndsValue} {ends : List (Option EndValue)} {beside : List Y} {none : Y} {old new : List LinkEndsValue} (i : ℕ) (now : LinkEndsValue) → HavePut put ends beside none 0 old new → slice_get new i ≡ Some now
     → (was : LinkEndsValue) × (slice_get old i ≡ Some was) × (WasPut put ends beside none 0 i was now ⊎ (now ≡ was))
 came_of {put = put} {ends = ends} {beside = beside} {none = none} {old = old} {new = new} i now puts there =
@@ -79,7 +79,7 @@ module _ (near far : LinkValue → ℕ) (links : List LinkValue) (part : ℕ) (e
       let found = found_link near far links part other end.link between in
       (link_at links end.link, slice_get-get_or links end.link no_link found.0, found.1, found.2)
 
-  -- no two are of one link, since a link tells the place of its end
+  -- no two are of one link, since a link gives the place of its end
   pub ends_apart : AreApart ends
   ends_apart a b one other one_there other_there same =
       let first = end_over a one one_there in

@@ -37,7 +37,7 @@ maps_same f h (x ∷ xs) (y ∷ ys) count each =
     let rest = maps_same f h xs ys (omega (arith, count)) (λ i a b. each (suc i) a b) in
     λ k. first k ∷ rest k
 
--- nothing comes of elements of each of which nothing comes
+-- a flat map over elements that each give nothing gives nothing
 pub flat_map_none : {X Y : Type 0} (f : X → List Y) (xs : List X) → ((i : ℕ) (x : X) → slice_get xs i ≡ Some x → f x ≡ []) → flat_map f xs ≡ []
 flat_map_none f [] none = refl
 flat_map_none f (x ∷ xs) none = let first = none 0 x refl in let rest = flat_map_none f xs (λ i a. none (suc i) a) in (λ k. first k ++ rest k)

@@ -100,7 +100,7 @@ module _ {Y : Type 0} (put : PutBeside Y) (ends : List (Option EndValue)) (besid
         )
         here_or_there i was was_there kept kept_there same (inr other) = (kept, set_kept now end.link i after kept kept_there other, inr same)
 
--- the first ends are left, with what stands beside them, and the others were put
+-- the first ends are left, with what is beside them, and the others were put
 pub record AreLeft {Y : Type 0} (put : PutBeside Y) (none : Y) (all : List (Option EndValue)) (beside : List Y) (old : List LinkEndsValue) (left : List (Option EndValue)) (left_beside : List Y)
     (now : List LinkEndsValue) : Type 0 where
   pub others : HavePut put all beside none (length left) old now
@@ -108,7 +108,7 @@ pub record AreLeft {Y : Type 0} (put : PutBeside Y) (none : Y) (all : List (Opti
   pub front : AreFront left all
   pub front_beside : AreFront left_beside beside
 
--- the last of those that are left is taken, with what stands beside it
+-- the last of those that are left is taken, with what is beside it
 pub record IsTaken {Y : Type 0} (put : PutBeside Y) (none : Y) (all : List (Option EndValue)) (beside : List Y) (old : List LinkEndsValue) (rest : List (Option EndValue)) (rest_beside : List Y)
     (now : List LinkEndsValue) (one : Option EndValue) (its : Y) : Type 0 where
   pub left : List (Option EndValue)
@@ -134,7 +134,7 @@ module _ {Y : Type 0} {put : PutBeside Y} {none : Y} {all : List (Option EndValu
   there : end_at all (length rest) ≡ one
   there = get_or_from_slice_get all (length rest) one None (front_last taken.left rest all one taken.is taken.so_far.front)
 
-  -- what stands beside it
+  -- what is beside it
   beside_it : slice_index_or beside (length rest) none ≡ its
   beside_it =
       get_or_from_slice_get beside (length rest) its none
@@ -153,13 +153,13 @@ module _ {Y : Type 0} {put : PutBeside Y} {none : Y} {all : List (Option EndValu
     pub link_below : end.link < length now
     link_below = subst (λ (n : ℕ). end.link < n) (sym taken.so_far.others.count) (among (length rest) end (there ∙ end_is))
 
-    -- the end is put there with what stands beside it
+    -- the end is put there with what is beside it
     pub end_put : AreApart all → (cur : LinkEndsValue) → cur ≡ slice_index_or now end.link cur → AreLeft put none all beside old rest rest_beside (slice_set now end.link (put cur end its))
     end_put apart cur read =
         subst (λ (y : Y). AreLeft put none all beside old rest rest_beside (slice_set now end.link (put cur end y))) beside_it
         (left_now _ (put_one put all beside none apart old now (length rest) (length taken.left) next end (there ∙ end_is) taken.so_far.others cur (slice_get_read now (length now) end.link cur refl link_below read)))
 
--- the ends were put with what is read of what stands beside them
+-- the ends were put with what is read of what is beside them
 pub put_as : {W Y : Type 0} {put : PutBeside Y} (read : W → Y) {ends : List (Option EndValue)} {beside : List W} {none : W} {from : ℕ} {old new : List LinkEndsValue}
     → HavePut (λ was end w. put was end (read w)) ends beside none from old new → HavePut put ends (map read beside) (read none) from old new
 put_as {put = put} read {ends = ends} {beside = beside} {none = none} {from = from} put_all =

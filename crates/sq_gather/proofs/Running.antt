@@ -1,4 +1,4 @@
--- Runs: how they begin, how they go on, and how the next stage and the next move begin.
+-- Runs: how they begin, how they continue, and how the next stage and the next move begin.
 use Rattle.std.proofs.Common.{◌≡◌, ℕ, ◌+◌, List, length, refl, sym, ap₂, ◌∙◌, subst}
 use Rattle.sq_schema.specs.Table.{TableValue}
 use Rattle.sq_ranges.specs.OpeningValue.{OpeningValue}

@@ -6,7 +6,7 @@ use Rattle.std.proofs.lemmas.Option.{same_Some}
 use Rattle.sq_schema.specs.TxnValue.{TxnValue}
 use Rattle.sq_waiting.specs.Waiting.{Arrival, is_numbered, txn_at}
 
--- the arrival number of one that is found is that of a transaction that waits
+-- the arrival number of one that is found is the number of a transaction that waits
 pub found_waits : (p : Arrival → Bool) (xs : List Arrival) (number : ℕ) (txn : TxnValue) → Some (number, txn) ≡ option_map {U = ℕ × TxnValue} (λ a. (a.number, a.txn)) (find p xs) → IsSome (txn_at xs number)
 found_waits p [] number txn found = absurd cc
 found_waits p (x ∷ xs) number txn found =

@@ -32,7 +32,7 @@ stood goes old new count each i now there =
     (get_or old i now, slice_get-get_or old i now before, subst (goes (get_or old i now)) (get_or_from_slice_get new i now now there) (each i now before))
 
 module _ (fabric : FabricValue) where
-  -- nodes stay of which each does, and so do pumps
+  -- nodes stay, each by its own, and so do pumps
   pub each_stays : (old new : List NodeState) → length new ≡ length old → ((i : ℕ) (d : NodeState) → i < length old → Stays fabric (get_or old i d) (get_or new i d)) → AllStay fabric old new
   each_stays old new count each = record { count = count; each = stood (Stays fabric) old new count each }
 

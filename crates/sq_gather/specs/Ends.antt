@@ -1,15 +1,15 @@
--- The ends that a node had of links, each put where its link stands.
+-- The ends that a node had of links, each put where its link is.
 use Rattle.std.specs.Prelude.{◌≡◌, ◌⊎◌, ℕ, ◌<◌, ◌≤◌, false, List, length, slice_get, slice_index_or, Option, Some, None}
 use Rattle.sq_chunk.specs.ChunkValue.{ChunkValue}
 use Rattle.sq_exec.specs.OutLink.{OutLinkValue, RoomyOutLink, new_out_link}
 use Rattle.sq_node.specs.Ends.{EndValue, end_at}
 use Rattle.sq_gather.specs.LinkEnds.{LinkEndsValue}
 
--- how an end of a node is put where its link stands, with what stands beside it
+-- how an end of a node is put where its link is, with what is beside it
 abbrev pub PutBeside : Type 0 → Type 0
 PutBeside Y = LinkEndsValue → EndValue → Y → LinkEndsValue
 
--- the end of this place of a node was put here, with what stands beside it
+-- the end of this place of a node was put here, with what is beside it
 pub record WasPut {Y : Type 0} (put : PutBeside Y) (ends : List (Option EndValue)) (beside : List Y) (none : Y) (from i : ℕ)
     (was now : LinkEndsValue) : Type 0 where
   pub other : ℕ
@@ -19,7 +19,7 @@ pub record WasPut {Y : Type 0} (put : PutBeside Y) (ends : List (Option EndValue
   pub here : end.link ≡ i
   pub is : now ≡ put was end (slice_index_or beside other none)
 
--- each end that a node had, from this place on, was put where its link stands, with what stands beside it, and nothing else was
+-- each end that a node had, from this place on, was put where its link is, with what is beside it, and nothing else was
 -- put
 pub record HavePut {Y : Type 0} (put : PutBeside Y) (ends : List (Option EndValue)) (beside : List Y) (none : Y) (from : ℕ)
     (old new : List LinkEndsValue) : Type 0 where

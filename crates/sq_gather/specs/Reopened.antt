@@ -1,4 +1,4 @@
--- Runs, and how they go on from one stage to the next.
+-- Runs, and how they continue from one stage to the next.
 use Rattle.std.specs.Prelude.{◌≡◌, ℕ, List, length, slice_get, Some}
 use Rattle.sq_ranges.specs.OpeningValue.{OpeningValue}
 use Rattle.sq_ranges.specs.Opening.{IsOpening}
@@ -36,7 +36,7 @@ IsFirstStageAfter next g fabric nodes pumps =
     (o : OpeningValue) → IsOpening o → IsPlaced o g → IsStageDone o g → IsNextMove o g next
     → IsRunInStage next (onward_began o g) fabric nodes pumps
 
--- a node is that of the same partition and of the run still, and what a node keeps holds of it still
+-- a node is the same partition's and of the run still, and what a node keeps holds of it still
 pub record Stays (fabric : FabricValue) (old new : NodeState) : Type 0 where
   pub part : new.core.part ≡ old.core.part
   pub of : IsNodeOf fabric new

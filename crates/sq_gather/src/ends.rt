@@ -7,7 +7,7 @@ use sq_chunk::Chunk;
 use sq_exec::OutLink;
 use sq_node::{LinkEnd, Receiver, Sender};
 
-// Puts each sending end of a node where its link stands, with the partition's end of the link.
+// Puts each sending end of a node where its link is, with the partition's end of the link.
 pub(crate) fn put_sources(ends: &mut Vec<LinkEnds>, mut sends: Vec<Sender>, mut outs: Vec<OutLink>)
     requires outs { length outs.items ≡ length sends.items }
     requires among { AreAmong (length ends.old.items) sends.items }
@@ -26,7 +26,7 @@ pub(crate) fn put_sources(ends: &mut Vec<LinkEnds>, mut sends: Vec<Sender>, mut 
     }
 }
 
-// Puts each receiving end of a node where its link stands, with the chunk that isn't loaded.
+// Puts each receiving end of a node where its link is, with the chunk that isn't loaded.
 pub(crate) fn put_destinations(
     ends: &mut Vec<LinkEnds>,
     mut recvs: Vec<Receiver>,

@@ -20,7 +20,7 @@ pub struct Gathered {
     pub stores: Vec<RunStore>,
     /// The links, by source and then by destination.
     pub links: Vec<ClosedLink>,
-    /// For each segment the statuses of its tree's nodes, that of node 1 first.
+    /// For each segment the statuses of its tree's nodes, from node 1 on.
     pub statuses: Vec<[Status; NODES]>,
     /// The receipts, partition by partition, each partition's in the order in which they were written.
     pub receipts: Vec<Receipt>,

@@ -145,7 +145,6 @@ impl Gathering {
         add_posts(&mut self.left, posts);
     }
 
-    // Adds the jobs of the queues.
     pub(crate) fn add_jobs<R: Wait>(&mut self, rt: &R, queues: Vec<ArrayQueue<Txn>>)
         ensures { self.new ≡ self.old }
     {

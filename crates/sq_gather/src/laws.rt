@@ -21,8 +21,8 @@ pub fn a_run_goes_on()
         → IsRunInStage o began fabric new after }
 {}
 
-/// A run can be gathered: its nodes and pumps are all of it, and what is gathered is placed and goes on from what its stage
-/// began with.
+/// A run can be gathered: its nodes and pumps are all of it, and what is gathered is placed and continues what its
+/// stage began with.
 pub fn a_run_can_be_gathered()
     ensures all { (o : OpeningValue) (began : BeganWith) (fabric : FabricValue) (nodes : List NodeState) (pumps : List PumpValue)
         → IsRunInStage o began fabric nodes pumps → AreAllOf fabric nodes pumps }

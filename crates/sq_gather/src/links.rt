@@ -31,7 +31,7 @@ impl Model for ClosedLink {
     ghost view = { λ l. record { src = l.src; dst = l.dst; notes = l.notes.items; under_way = l.under_way.items } };
 }
 
-/// Closes the links, each with what its ends left of it. What comes is in the room that was brought.
+/// Closes the links, each with what its ends left of it. The result is in the room that was brought.
 pub fn close_links<R: Wait>(
     rt: &R,
     links: Vec<SharedLink>,

@@ -16,12 +16,13 @@ use std::alloc::Global;
 // The stage in which a move begins.
 const FIRST_STAGE: u64 = 0;
 
-/// Opens the stage after the one of which this was gathered: what a run shares in that stage, its nodes with the families and the
-/// jobs that were gathered, and this many pumps. The receipts so far go along. Where what was gathered is placed and its segments
-/// are complete, under this opening or one that differs from it in its rows alone, this is a run of that opening.
+/// Opens the stage after the one that this was gathered of: what a run shares in that stage, its nodes with the
+/// families and the jobs that were gathered, and this many pumps. The receipts so far go along. Where what was gathered
+/// is placed and its segments are complete, under this opening or one that differs from it in its rows alone, this is a
+/// run of that opening.
 ///
-/// Where it doesn't have the families and the jobs of as many partitions, where there is no such stage, and where there is no
-/// memory, what was gathered comes back as it was.
+/// Where it doesn't have the families and the jobs of as many partitions, where there is no such stage, and where there
+/// is no memory, what was gathered comes back as it was.
 pub fn reopen(
     alloc: Global,
     opening: &Opening,

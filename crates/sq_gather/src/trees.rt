@@ -7,8 +7,8 @@ ghost use Rattle.sq_gather.specs.Trees.{AllAreSeatsOf, AwaitOwners, AreJoined, A
 use sq_status::{StatusTree, TreeSeat};
 use sq_tree::{NODES, Status};
 
-/// Closes the trees, once all other seats are joined into those that they were opened with. Each owner brings a seat of each
-/// tree. What comes is the statuses of each tree's nodes, in the room that was brought.
+/// Closes the trees, once all other seats are joined into those that they were opened with. Each owner brings a seat of
+/// each tree. The result is the statuses of each tree's nodes, in the room that was brought.
 pub fn close_trees(
     trees: Vec<StatusTree>,
     mut first: Vec<TreeSeat>,

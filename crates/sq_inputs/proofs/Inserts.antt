@@ -36,7 +36,6 @@ first_line_goes_on others byte (Some xs) None other consumed = absurd consumed
 first_line_goes_on None byte (Some xs) (Some ys) other consumed = tt
 first_line_goes_on (Some zs) byte (Some xs) (Some ys) other consumed = ap (with_inserted zs) consumed ∙ inserted-goes_on zs byte ys other
 
--- and the one that ends it
 pub first_line_ends : (others : Option (List ℕ)) (byte : ℕ) (old new : Option (List ℕ)) → (byte == 10) ≡ true → Consumes old new (byte ∷ [])
     → Consumes (inserted_text old others) (ended_text true new others) (byte ∷ [])
 first_line_ends others byte None new other consumed = tt
@@ -128,7 +127,7 @@ first_ends place others old new count b rest is some within few ends took = (
   λ none room. absurd (omega (arith, some, none)),
 )
 
--- one that goes on in it
+-- a part that continues in it
 pub first_goes_on : (place : Place) (others old new : Option (List ℕ)) (count : ℕ) (b rest : List ℕ) → place ≡ FirstLine → 0 < count → count ≤ length b → length b ≤ 1
     → (slice_index_or (b ++ rest) 0 0 ≡ 10 → ⊥) → Consumes old new (take count b)
     → Consumes (left_at place old others) (left_at place new others) (take count (b ++ rest)) × (count ≡ 0 → 0 < length (b ++ rest) → IsAtEnd (left_at place new others))

@@ -17,6 +17,6 @@ left_at FirstLine main others = inserted_text main others
 left_at (Inserted at_start) main others = ended_text at_start main others
 left_at Rest main others = main
 
--- what is left, where that of the readers is known
+-- what is left, where it is known what the readers have left
 abbrev pub inserting_remaining : {M W : Type 0} → (M → Option (List ℕ)) → (W → Option (List ℕ)) → Inserting M W → Option (List ℕ)
 inserting_remaining main others r = left_at r.place (main r.main) (others r.inserted)

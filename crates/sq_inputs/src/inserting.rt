@@ -19,11 +19,11 @@ pub struct Inserting<'a, M: Read, W: Read> {
     place: Place,
     // How many lines of the other one were given.
     lines: usize,
-    // Who wants to know how many lines it has.
+    // How many lines it has, for whoever wants to know.
     all_lines: &'a Cell<Option<usize>>,
 }
 
-/// Where the reading stands.
+/// Where the reading is.
 #[derive(Clone, Copy, Debug, PartialEq, Eq)]
 pub(crate) enum Place {
     /// In the first line.
@@ -49,7 +49,7 @@ impl<'a, M: Read, W: Read> Inserting<'a, M, W> {
         }
     }
 
-    // Reads the next byte of the first line; what stands behind that line isn't taken before the other reader.
+    // Reads the next byte of the first line; what is behind that line isn't taken before the other reader.
     fn read_first_line(&mut self, buf: &mut [u8]) -> io::Result<usize>
         requires some { 0 < length buf.old }
         requires place { self.old.place ≡ Place.FirstLine }

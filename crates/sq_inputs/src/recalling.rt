@@ -23,7 +23,7 @@ pub struct Recalling<R: Read> {
     // How many of these bytes are whole lines, and how many lines those are.
     whole: usize,
     whole_lines: usize,
-    // How many lines stand before them.
+    // How many lines are before them.
     lines_before: usize,
     // Whether there was no room for them.
     is_lost: bool,
@@ -82,7 +82,7 @@ impl<R: Read> Recalling<R> {
         }
     }
 
-    /// The line with this number, of which the first is 1, where the last read touched it.
+    /// The line with this number, from 1, where the last read touched it.
     pub fn line(&self, number: usize) -> Recalled<'_> {
         if self.is_lost || number <= self.lines_before {
             return Recalled::Lost;

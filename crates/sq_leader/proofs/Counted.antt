@@ -1,4 +1,4 @@
--- Partitions that count as having told something: those into which no segment moves in the stage count too.
+-- Partitions that count as having reported: those into which no segment moves in the stage count too.
 use Rattle.std.proofs.Common.{◌≡◌, inl, inr, ℕ, ◌<◌, ◌||◌, Bool, true, length, get_or, refl, sym, ap, ◌∙◌, arith}
 use Rattle.std.specs.Prelude.{not, nat_lt, ◌==◌}
 use Rattle.std.specs.List.{list_any, list_all, range_with_len}
@@ -21,11 +21,11 @@ module _ (recon : ReconValue) (stage : ℕ) (told : ℕ → Bool) where
   abbrev has_any : ℕ → Bool
   has_any part = list_any (moves_into recon stage part) (range_with_len 0 (length recon.segments))
 
-  -- the segment moves in another stage, or its destination told it
+  -- the segment moves in another stage, or its destination reported
   abbrev is_told : Range → Bool
   is_told segment = not (stage_in recon segment == stage) || told segment.dst
 
-  -- the partition told it, or no segment moves into it
+  -- the partition reported, or no segment moves into it
   abbrev counts : ℕ → Bool
   counts part = told part || not (has_any part)
 
@@ -39,7 +39,7 @@ module _ (recon : ReconValue) (stage : ℕ) (told : ℕ → Bool) where
       list_any_at (moves_into recon stage dst) (range_with_len 0 count) seg 0 (omega (arith, length-range_with_len 0 count, lt))
       (ap (moves_into recon stage dst) at ∙ is_into-at recon stage dst seg d lt ∙ and_from (stage_in recon (get_or recon.segments seg d) == stage) (dst == dst) now (eq-eqb dst dst refl))
 
-  -- a partition into which a segment moves told it, where all of those did
+  -- a partition into which a segment moves reported, where all of those did
   told_there : (part : ℕ) → list_all is_told recon.segments ≡ true → has_any part ≡ true → told part ≡ true
   told_there part all some =
       let count = length recon.segments in
@@ -61,14 +61,14 @@ module _ (recon : ReconValue) (stage : ℕ) (told : ℕ → Bool) where
     | inr none ↦ or_right (told part) (not (has_any part)) (not_from_false (has_any part) none)
   ]
 
-  -- a partition that counts told it, if a segment moves into it
+  -- a partition that counts reported, if a segment moves into it
   told_if_counted : (part : ℕ) → counts part ≡ true → has_any part ≡ true → told part ≡ true
   told_if_counted part does some = elim (or_cases (told part) (not (has_any part)) does) [
     | inl did ↦ did
     | inr none ↦ absurd (both_ways (has_any part) (not-true (has_any part) none) some)
   ]
 
-  -- where each of the partitions counts, those told it into which a segment moves
+  -- where each of the partitions counts, those reported into which a segment moves
   all_if_counted : (parts : ℕ) → list_all (λ segment. nat_lt segment.dst parts) recon.segments ≡ true → list_all counts (range_with_len 0 parts) ≡ true → list_all is_told recon.segments ≡ true
   all_if_counted parts exist each =
       list_all-from_AllPass is_told recon.segments (λ seg d lt.
@@ -82,7 +82,8 @@ module _ (recon : ReconValue) (stage : ℕ) (told : ℕ → Bool) where
         | inr other ↦ or_left (not (stage_in recon segment == stage)) (told segment.dst) (not_from_false (stage_in recon segment == stage) other)
       ])
 
-  -- where each segment moves into one of the partitions, those into which one moves told it just where each of the partitions counts
+  -- where each segment moves into one of the partitions, those into which one moves reported just where each of the
+  -- partitions counts
   pub told-counted : (parts : ℕ) → list_all (λ segment. nat_lt segment.dst parts) recon.segments ≡ true
       → list_all (λ segment. not (stage_in recon segment == stage) || told segment.dst) recon.segments
       ≡ list_all (λ part. told part || not (list_any (moves_into recon stage part) (range_with_len 0 (length recon.segments)))) (range_with_len 0 parts)
@@ -94,7 +95,6 @@ module _ (recon : ReconValue) (stage : ℕ) (told : ℕ → Bool) where
         both_ways (list_all is_told recon.segments) not_all (all_if_counted parts exist each)))
   ]
 
--- so it is with reports
 pub have_reported-counted : (at : StageValue) → list_all (λ segment. nat_lt segment.dst (length at.reported)) at.recon.segments ≡ true
     → have_reported at ≡ list_all (owes_no_report at) (range_with_len 0 (length at.reported))
 have_reported-counted at exist = told-counted at.recon at.stage (is_marked at.reported) (length at.reported) exist

@@ -9,7 +9,7 @@ use Rattle.std.proofs.Math.Seq.{set_out}
 use Rattle.std.proofs.Math.ListN.{get_or-eq_default}
 use Rattle.sq_leader.specs.Marks.{none_marked, is_marked, with_mark, all_marked, marks_after}
 
--- there are as many marks as partitions, whoever told it
+-- there are as many marks as partitions, whoever reported
 pub length-marks_after : (parts : ℕ) (told : List ℕ) → length (marks_after parts told) ≡ parts
 length-marks_after parts [] = length-replicate parts false
 length-marks_after parts (part ∷ told) = length-set (marks_after parts told) part true ∙ length-marks_after parts told
@@ -25,7 +25,7 @@ is_marked-none_marked parts part = elim (cases_lt part parts) [
   | inr past ↦ is_marked-past (none_marked parts) part (omega (arith, length-replicate parts false))
 ]
 
--- whoever told it is marked, if there is such a partition
+-- whoever reported is marked, if there is such a partition
 is_marked-with_mark : (marks : List Bool) (one part : ℕ) → one ≡ part → is_marked (with_mark marks one) part ≡ nat_lt part (length marks)
 is_marked-with_mark marks one part same = elim (cases_lt part (length marks)) [
   | inl lt ↦
@@ -36,7 +36,7 @@ is_marked-with_mark marks one part same = elim (cases_lt part (length marks)) [
       ∙ sym (le-ltb part (length marks) past)
 ]
 
--- those are marked that there are and that told it
+-- just those are marked that there are and that reported
 pub is_marked-marks_after : (parts : ℕ) (told : List ℕ) (part : ℕ) → is_marked (marks_after parts told) part ≡ (list_any (λ one. one == part) told && nat_lt part parts)
 is_marked-marks_after parts [] part = is_marked-none_marked parts part
 is_marked-marks_after parts (one ∷ told) part = elim (cases_eq one part) [
@@ -69,7 +69,7 @@ by_part (mark ∷ marks) q a same =
 pub all_marked-by_part : (marks : List Bool) → all_marked marks ≡ list_all (is_marked marks) (range_with_len 0 (length marks))
 all_marked-by_part marks = sym (by_part marks (is_marked marks) 0 (λ i lt. ap (is_marked marks) (omega arith)))
 
--- each partition is marked just where each told it
+-- each partition is marked just where each reported
 pub all_marked-marks_after : (parts : ℕ) (told : List ℕ) → all_marked (marks_after parts told) ≡ list_all (λ part. list_any (λ one. one == part) told) (range_with_len 0 parts)
 all_marked-marks_after parts told =
     all_marked-by_part (marks_after parts told)

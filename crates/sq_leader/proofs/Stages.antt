@@ -43,7 +43,6 @@ module _ (recon : ReconValue) where
       split : (here rest : ℕ) → max (here + 1) rest ≤ most → (here < most) × (rest ≤ most)
       split here rest le = (omega (arith, le), omega (arith, le))
 
-  -- the stage of a segment is one of those that there are
   segment_stage : IsRecon recon → (segment : Range) → Contains recon.segments segment → stage_in recon segment < stages recon
   segment_stage is segment has =
       let p : Range → Bool = λ range. nat_lt (stage_in recon range) (stages recon) in
@@ -69,7 +68,7 @@ module _ (recon : ReconValue) where
       ap (heard segment.dst) same ∙ told.now segment.dst marked
 
   module _ (at : StageValue) (heard : ℕ → ℕ → Bool) (so_far : IsTold at heard) where
-    -- a report told to the leader
+    -- the leader hears a report
     hears : {F : Type 0} (told : ReportValue) (f : F) (now : Bool) → (told.stage == at.stage) ≡ now
         → IsTold (state_after at (if now then Ok (record at { reported = with_mark at.reported told.part }) else Err f)) (λ part stage. ((told.part == part) && ((told.stage == stage) && (at.stage == stage))) || heard part stage)
     hears told f true same = record {

@@ -18,7 +18,6 @@ all_pass p a (suc n) each =
     let here : p a ≡ true = each a (omega arith) (omega arith) in
     rw here (all_pass p (a + 1) n (λ k low high. each k (omega arith) (omega arith)))
 
--- one fails
 pub one_fails : (p : ℕ → Bool) (n k : ℕ) → k < n → p k ≡ false → list_all p (range_with_len 0 n) ≡ false
 one_fails p n k lt fails =
     list_all_at p (range_with_len 0 n) k 0 (omega (arith, length-range_with_len 0 n))

@@ -6,7 +6,7 @@ use Rattle.sq_ranges.specs.ReconValue.{ReconValue, stage_in}
 use Rattle.sq_leader.specs.LeaderValue.{StageValue, ReportValue}
 use Rattle.sq_leader.specs.Leader.{first_stage, answer_to_report, answer_to_next, answer_to_finish}
 
--- a report is told to the leader, or the next stage is asked for
+-- the leader hears a report, or is asked for the next stage
 pub data Call : Type 0 where
   Hear : (told : ReportValue) → Call
   Next : Call

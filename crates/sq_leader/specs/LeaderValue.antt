@@ -1,8 +1,8 @@
--- What a leader is in each of its states, and what a report tells it.
+-- The leader in each of its states, and what a report says.
 use Rattle.std.specs.Prelude.{ℕ, Bool, List}
 use Rattle.sq_ranges.specs.ReconValue.{ReconValue}
 
--- a leader to which no partition has told anything: how many partitions there are, and what is to move between them
+-- a leader that no partition has informed of anything: how many partitions there are, and what is to move between them
 pub record IdleValue : Type 0 where
   pub parts : ℕ
   pub recon : ReconValue

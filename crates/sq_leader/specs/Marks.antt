@@ -1,4 +1,4 @@
--- Which partitions told the leader something: a list that tells it of each partition.
+-- Which partitions informed the leader, as a list with an entry for each partition.
 use Rattle.std.specs.Prelude.{ℕ, Bool, true, false, List, [], ◌∷◌, replicate, slice_set, slice_index_or}
 use Rattle.std.specs.List.{list_all}
 
@@ -18,7 +18,7 @@ with_mark marks part = slice_set marks part true
 abbrev pub all_marked : List Bool → Bool
 all_marked marks = list_all (λ mark. mark) marks
 
--- the marks of this many partitions once these told it, the last of them first
+-- the marks of this many partitions once these reported, the last of them first
 abbrev pub marks_after : ℕ → List ℕ → List Bool
 marks_after parts [] = none_marked parts
 marks_after parts (part ∷ told) = with_mark (marks_after parts told) part

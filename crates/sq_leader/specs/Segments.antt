@@ -6,7 +6,7 @@ use Rattle.sq_ranges.specs.ReconValue.{ReconValue, stage_in, moves_into}
 use Rattle.sq_leader.specs.LeaderValue.{StageValue}
 use Rattle.sq_leader.specs.Marks.{is_marked}
 
--- the segment of this number is whole; one of which nothing is said isn't
+-- the segment of this number is whole; a segment without an entry isn't
 abbrev pub is_told_whole : List Bool → ℕ → Bool
 is_told_whole whole seg = slice_index_or whole seg false
 

@@ -5,7 +5,7 @@ ghost use Rattle.sq_leader.specs.Fault.{prepare_fault_number, start_fault_number
 use sq_explain::meaning;
 use thiserror::Error;
 
-/// Why a partition didn't prepare. The number of a variant, here and below, is that of the step's refusal.
+/// Why a partition didn't prepare. Each variant, here and below, has the number of the step's refusal.
 #[derive(Clone, Copy, Debug, PartialEq, Eq, Error)]
 #[error("{}", meaning(self.number()))]
 pub enum PrepareFault {

@@ -1,4 +1,4 @@
-// Laws of what the partitions tell the leader.
+// Laws of what the partitions report to the leader.
 ghost use Rattle.std.specs.Prelude.{◌≡◌, ℕ, ◌==◌, ◌&&◌, ◌||◌, not, nat_lt, true, List, length};
 ghost use Rattle.std.specs.List.{list_any, list_all, range_with_len};
 ghost use Rattle.sq_ranges.specs.Prelude.{ReconValue, IsRecon, stage_in};
@@ -7,19 +7,19 @@ ghost use Rattle.sq_leader.specs.Marks.{is_marked, all_marked, marks_after};
 ghost use Rattle.sq_leader.specs.Segments.{have_reported, owes_no_report};
 ghost use Rattle.sq_leader.specs.Calls.{Call, EndsHeard};
 
-/// Just those partitions are marked that there are and that told it, in whichever order and however often.
+/// Just those partitions are marked that there are and that reported, in whichever order and however often.
 pub fn those_that_told_it_are_marked()
     ensures { (parts : ℕ) (told : List ℕ) (part : ℕ)
         → is_marked (marks_after parts told) part ≡ (list_any (λ one. one == part) told && nat_lt part parts) }
 {}
 
-/// A move can start just where each of its partitions has told that it has prepared.
+/// A move can start just where each of its partitions has said that it has prepared.
 pub fn a_move_starts_once_each_partition_prepared()
     ensures { (parts : ℕ) (told : List ℕ) → all_marked (marks_after parts told)
         ≡ list_all (λ part. list_any (λ one. one == part) told) (range_with_len 0 parts) }
 {}
 
-/// A stage can be left just where for each segment of it a report came of the partition into which it moves.
+/// A stage can be left just where for each of its segments the partition into which it moves has reported.
 pub fn a_stage_is_over_once_each_segment_of_it_is_reported()
     ensures { (recon : ReconValue) (stage parts : ℕ) (told : List ℕ)
         → have_reported (record { reported = marks_after parts told; stage = stage; recon = recon })
@@ -33,7 +33,7 @@ pub fn a_partition_without_segments_counts_as_reported()
         → have_reported at ≡ list_all (owes_no_report at) (range_with_len 0 (length at.reported)) }
 {}
 
-/// Whatever reports a leader is told and however often the next stage is asked for, the move can end only after a report
+/// Whatever reports a leader hears and however often the next stage is asked for, the move can end only after a report
 /// was heard for every segment: one of the partition into which it moves, made in the segment's stage while that ran.
 pub fn an_ended_move_heard_each_segment_in_its_stage()
     ensures { (parts : ℕ) (recon : ReconValue) (calls : List Call) → IsRecon recon → EndsHeard parts recon calls }

@@ -1,4 +1,4 @@
-// Which partitions told the leader something.
+// Which partitions informed the leader.
 ghost use Rattle.std.specs.Prelude.{◌≡◌, ◌≤◌, length};
 ghost use Rattle.sq_plan.specs.declared.plan.TheConstants.{MAX_PARTS};
 ghost use Rattle.sq_leader.specs.Marks.{none_marked, is_marked, with_mark, all_marked};
@@ -9,7 +9,7 @@ use std::marker::Model;
 // How many partitions there are at most, as the length of an array.
 const FLAGS: usize = MAX_PARTS as usize;
 
-/// Which partitions told the leader something. To a contract it is a list that tells it of each partition.
+/// Which partitions informed the leader. To a contract it is a list with an entry for each partition.
 #[derive(Debug, Drop)]
 pub(crate) struct Marks {
     parts: u8,

@@ -83,8 +83,8 @@ impl Moving {
         self.reported.has(part)
     }
 
-    /// Notes a report, which may come again and stays with the caller. That of a partition which the leader hasn't changes
-    /// nothing. Refused where it is a report of another stage than the running one.
+    /// Notes a report, which may come again and stays with the caller. A report of a partition that the leader doesn't
+    /// have changes nothing. Refused where it is a report of another stage than the running one.
     pub fn report(mut self, report: &Report) -> Result<Moving, Refused<Moving, StageFault>>
         ensures { result ≡ answer_to_report self report.now }
     {

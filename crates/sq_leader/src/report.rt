@@ -9,7 +9,8 @@ use sq_plan::{PartId, Plan};
 use sq_ranges::Recon;
 use std::marker::Model;
 
-/// A partition tells that each segment that moves into it in a stage is whole there. To a contract it is a `ReportValue`.
+/// A partition says that each segment that moves into it in a stage is whole there. To a contract it is a
+/// `ReportValue`.
 #[derive(Debug, Drop)]
 pub struct Report {
     part: PartId,
@@ -25,9 +26,9 @@ impl Model for Report {
 }
 
 impl Report {
-    /// The report of a partition in a stage, where each segment that moves into it in that stage is whole there: `whole`
-    /// tells it of each segment by its number, and a segment of which it tells nothing isn't whole. Refused for the first of
-    /// these: the plan has no such partition, and a segment isn't whole.
+    /// The report of a partition in a stage, where each segment that moves into it in that stage is whole there:
+    /// `whole` has an entry for each segment by its number, and a segment without one isn't whole. Refused for the
+    /// first of these: the plan has no such partition, and a segment isn't whole.
     pub fn made(
         part: u64,
         plan: &Plan,

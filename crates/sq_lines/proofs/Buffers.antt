@@ -1,4 +1,4 @@
--- The buffer of a reader of lines, as it goes on.
+-- The buffer of a reader of lines, as it continues.
 use Rattle.std.proofs.Common.{◌≡◌, ℕ, ◌+◌, ◌-◌, ◌≤◌, List, [], ◌∷◌, ◌++◌, length, take, Option, None, sym, ap, ◌∙◌, arith}
 use Rattle.std.specs.Prelude.{slice_range, position, Some, ◌==◌}
 use Rattle.std.specs.Io.KnownBytes.{IsAtEnd}

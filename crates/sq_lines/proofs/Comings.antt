@@ -1,4 +1,4 @@
--- What can come of a reader of lines.
+-- The pieces that a reader of lines may give.
 use Rattle.std.proofs.Common.{◌≡◌, ℕ, ◌+◌, ◌-◌, ◌<◌, ◌≤◌, Bool, true, false, cond, eqb, List, [], ◌∷◌, ◌++◌, length, Option, Some, None, inl, inr, refl, sym, ap, ◌∙◌, subst, append_assoc, arith}
 use Rattle.std.specs.Prelude.{nat_lt, ◌⊎◌}
 use Rattle.std.specs.Io.KnownBytes.{Consumes}
@@ -208,7 +208,7 @@ fail_before old new ps was_open failed lines held can =
       are = can.are ∙ rw (lines, held, is.0, is.1) refl;
     }
 
--- ---- as much as is needed to tell what comes next
+-- ---- as much as is needed to know what comes next
 
 pub found : (most : ℕ) (first old new : LinesValue) (told_next : NextPiece) → ReadsOn first old → Gives most old told_next new → (told_next ≡ next.Unread → ⊥) → Finds most first told_next new
 found most first old new next.Line on gives told =

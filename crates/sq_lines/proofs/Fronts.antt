@@ -72,7 +72,6 @@ longer_begins held more [] enough = refl
 longer_begins [] more (f ∷ front) enough = absurd (omega (arith, enough))
 longer_begins (x ∷ held) more (f ∷ front) enough = ap (λ (b : Bool). eqb f x && b) (longer_begins held more front (omega (arith, enough)))
 
--- or where it begins otherwise
 otherwise_begins : (held more front : List ℕ) → length held ≤ length front → starts_with nat_eq front held ≡ false → starts_with nat_eq (held ++ more) front ≡ false
 otherwise_begins [] more front short apart = absurd cc
 otherwise_begins (x ∷ held) more [] short apart = absurd (omega (arith, short))
@@ -101,7 +100,7 @@ none_begin : (end : InputEnd) (bytes : List ℕ) (f : ℕ) (front : List ℕ) �
 none_begin end [] f front = nothing_begins end 0 f front
 none_begin end (x ∷ xs) f front = rw (none_left end (x ∷ xs) (omega arith)) refl
 
--- ---- what a reader of lines can tell of the next piece
+-- ---- what a reader of lines can know of the next piece
 
 pub no_line : (v : LinesValue) (front : List ℕ) (ps : List PieceValue) → 0 < length front → v.lines_left ≡ 0 → CanCome v ps → next_begins front ps ≡ false
 no_line v [] ps some none can = absurd (omega (arith, some))

@@ -1,4 +1,4 @@
--- What a reader gives, by what can come of a reader of its lines.
+-- What a reader gives, by what a reader of its lines may give.
 use Rattle.std.proofs.Common.{◌≡◌, ℕ, List, [], Option, refl, subst, ◌∙◌}
 use Rattle.sq_lines.specs.declared.reader.TheConstants.{MAX_LINES}
 use Rattle.sq_lines.specs.declared.reader.ReadState.TheVariants.{Open}
@@ -6,7 +6,7 @@ use Rattle.sq_lines.specs.Pieces.{PieceValue}
 use Rattle.sq_lines.specs.Coming.{LinesValue, Comes, CanCome}
 use Rattle.sq_lines.specs.Given.{IsGiven}
 
--- what can come of a reader of lines at its start is given by its reader
+-- what a reader of lines may give at its start is what its reader gives
 pub given_first : (v : LinesValue) (known : Option (List ℕ)) (given : List PieceValue) → v.held ≡ [] → v.reading ≡ Open → v.lines_left ≡ MAX_LINES → v.known ≡ known → CanCome v given → IsGiven known given
 given_first v known given none still most same can = record {
   input = can.more;

@@ -7,8 +7,8 @@ use Rattle.sq_lines.specs.declared.reader.Next.{Next as NextPiece}
 use Rattle.sq_lines.specs.declared.reader.Next.TheVariants as next
 use Rattle.sq_lines.specs.Pieces.{cut_at_ends, PieceValue, Line, Rest, Failed, TooMany, InputEnd, Whole, Cut, pieces_in, next_line_number, bytes_of}
 
--- a reader of lines: the bytes of the piece that it gave last, what was read and not given, how the reading stands, how many
--- lines may still come, and what its reader has left, where that is known
+-- a reader of lines: the bytes of the piece that it gave last, what was read and not given, how far the reading is, how
+-- many lines may still come, and what its reader has left, where that is known
 pub record LinesValue : Type 0 where
   pub piece : List ℕ
   pub held : List ℕ
@@ -16,7 +16,7 @@ pub record LinesValue : Type 0 where
   pub lines_left : ℕ
   pub known : Option (List ℕ)
 
--- these bytes can come of a reader that has this left, where that is known, and then the reading ends so
+-- a reader that has this left, where that is known, may give these bytes, and then the reading ends so
 abbrev pub Comes : ReadState → Option (List ℕ) → InputEnd → List ℕ → Type 0
 Comes reading.Ended known end bytes = (end ≡ Whole) × (bytes ≡ [])
 Comes reading.Failed known end bytes = (end ≡ Cut) × (bytes ≡ [])
@@ -24,7 +24,7 @@ Comes reading.Open None end bytes = Unit {0}
 Comes reading.Open (Some left) Whole bytes = left ≡ bytes
 Comes reading.Open (Some left) Cut bytes = (others : List ℕ) × (left ≡ bytes ++ others)
 
--- these pieces can come of a reader of lines
+-- a reader of lines may give these pieces
 pub record CanCome (v : LinesValue) (ps : List PieceValue) : Type 0 where
   pub more : List ℕ
   pub end : InputEnd
@@ -35,7 +35,7 @@ pub record CanCome (v : LinesValue) (ps : List PieceValue) : Type 0 where
 abbrev pub CameBefore : LinesValue → PieceValue → LinesValue → Type 0
 CameBefore old piece new = (ps : List PieceValue) → CanCome new ps → CanCome old (piece ∷ ps)
 
--- what is held has no line end, and it can't be told without a read what comes next
+-- what is held has no line end, and what comes next can't be known without a read
 pub record IsUndecided (most : ℕ) (v : LinesValue) : Type 0 where
   pub unended : cut_at_ends v.held ≡ v.held ∷ []
   pub short : length v.held ≤ most
@@ -76,7 +76,7 @@ reads_for reading.Open held = MAX_UNENDED + 1 - held
 reads_for reading.Ended held = 0
 reads_for reading.Failed held = 0
 
--- a bound of the reads before it is told what comes next
+-- a bound of the reads before it is known what comes next
 abbrev pub reads_left : LinesValue → ℕ
 reads_left v = reads_for v.reading (length v.held)
 
@@ -84,7 +84,7 @@ reads_left v = reads_for v.reading (length v.held)
 abbrev pub ReadsOn : LinesValue → LinesValue → Type 0
 ReadsOn old new = ((ps : List PieceValue) → CanCome new ps → CanCome old ps) × (new.lines_left ≡ old.lines_left)
 
--- what a reader of lines gives next, where it reads as much as it needs to tell
+-- what a reader of lines gives next, where it reads as much as it needs to know
 abbrev pub Finds : ℕ → LinesValue → NextPiece → LinesValue → Type 0
 Finds most old next.Line new = GivesLine old new
 Finds most old next.Rest new = CanEndIn old Rest new.piece × (length new.piece ≤ most)
@@ -94,6 +94,6 @@ Finds most old next.TooMany new = CanCome old (TooMany ∷ [])
 Finds most old next.End new = CanCome old []
 Finds most old next.Unread new = ⊥
 
--- whatever can come after, something can come before of which this holds
+-- whatever can come after, something with this property can come before
 abbrev pub Leaves : LinesValue → LinesValue → (List PieceValue → List PieceValue → Type 0) → Type 0
 Leaves old new holds = (left : List PieceValue) → CanCome new left → (all : List PieceValue) × CanCome old all × holds all left

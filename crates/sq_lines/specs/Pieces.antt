@@ -8,7 +8,7 @@ use Rattle.sq_lines.specs.declared.reader.TheConstants.{MAX_LINES}
 abbrev pub cut_at_ends : List ℕ → List (List ℕ)
 cut_at_ends bytes = slice_split (λ byte. byte == 10) bytes
 
--- the number of the next line, where this many may still come; that of the first is 1
+-- the number of the next line, from 1, where this many may still come
 abbrev pub next_line_number : ℕ → ℕ
 next_line_number left = MAX_LINES - left + 1
 
@@ -30,13 +30,14 @@ pub data InputEnd : Type 0 where
   Whole : InputEnd
   Cut : InputEnd
 
--- what stands after the last line end, where it isn't too long: a rest, unless it is empty, or what came before a read failed
+-- what is after the last line end, where it isn't too long: a rest, unless it is empty, or what came before a read
+-- failed
 abbrev pub ending_piece : InputEnd → ℕ → List ℕ → List PieceValue
 ending_piece Cut left bytes = Failed (next_line_number left) bytes ∷ []
 ending_piece Whole left [] = []
 ending_piece Whole left (byte ∷ bytes) = Rest (next_line_number left) (byte ∷ bytes) ∷ []
 
--- what stands after the last line end, where at most this many lines may come
+-- what is after the last line end, where at most this many lines may come
 abbrev pub last_piece : InputEnd → ℕ → List ℕ → List PieceValue
 last_piece end left [] = ending_piece end left []
 last_piece end left (byte ∷ bytes) =
@@ -51,7 +52,7 @@ line_then left line others =
     else if nat_lt MAX_UNENDED (length line) then Endless (next_line_number left) line ∷ []
     else Line (next_line_number left) line ∷ others
 
--- the pieces of an input, given what stands between its line ends, where at most this many lines may come
+-- the pieces of an input, given what is between its line ends, where at most this many lines may come
 abbrev pub pieces_of : InputEnd → ℕ → List (List ℕ) → List PieceValue
 pieces_of end left [] = []
 pieces_of end left (rest ∷ []) = last_piece end left rest

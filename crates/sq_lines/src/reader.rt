@@ -12,7 +12,7 @@ use std::marker::Model;
 /// The most lines that an input has.
 pub const MAX_LINES: u32 = 1_000_000;
 
-/// What comes next of an input. The bytes of a piece that is given are those of [`LineReader::piece`].
+/// The next thing of an input. The bytes of a piece are those of [`LineReader::piece`].
 #[derive(Clone, Copy, Debug, PartialEq, Eq)]
 pub enum Next {
     /// A line, without the byte 0A that ends it.
@@ -23,15 +23,15 @@ pub enum Next {
     Long,
     /// A byte after the [`MAX_LINES`]th line. It isn't given.
     TooMany,
-    /// What came before a read failed. It isn't given.
+    /// A read failed behind some bytes, which aren't a piece.
     Failed,
     /// Nothing.
     End,
-    /// That can't be told before more is read.
+    /// It can't be known before more is read.
     Unread,
 }
 
-/// How the reading of an input stands.
+/// How far the reading of an input is.
 #[derive(Clone, Copy, Debug, PartialEq, Eq)]
 pub enum ReadState {
     /// More may come.
@@ -103,7 +103,7 @@ impl<R: Read> LineReader<R> {
         }
     }
 
-    /// The number of the line that comes next, or in which the input ends; that of the first is 1.
+    /// The number of the line that comes next, or in which the input ends, from 1.
     pub fn next_line_number(&self) -> u32
         ensures { result ≡ next_line_number self.now.lines_left }
     {
@@ -131,7 +131,7 @@ impl<R: Read> LineReader<R> {
         &self.buffer[self.start..self.end]
     }
 
-    /// Whether the next piece begins so; `None` where that can't be told before more is read.
+    /// Whether the next piece begins so; `None` where that can't be known before more is read.
     pub fn begins(&self, front: &[u8]) -> Option<bool>
         requires unended { list_all (λ byte. not (byte == 10)) front.now ≡ true }
         requires some { 0 < length front.now }
@@ -153,7 +153,7 @@ impl<R: Read> LineReader<R> {
         }
     }
 
-    /// Gives the next piece, if it can be told without a read. The end of a line is looked for in this many bytes.
+    /// Gives the next piece, if it is known without a read. The end of a line is looked for in this many bytes.
     pub fn next(&mut self, most: usize) -> Next
         requires { most ≤ MAX_UNENDED }
         ensures { Gives most self.old result self.new }
@@ -196,7 +196,7 @@ impl<R: Read> LineReader<R> {
         Next::Line
     }
 
-    /// Asks the reader for more bytes, where it can't be told what comes next.
+    /// Asks the reader for more bytes, where it isn't known what comes next.
     pub fn read_more(&mut self)
         requires { IsUndecided MAX_UNENDED self.old }
         ensures comes { (ps : List PieceValue) → CanCome self.new ps → CanCome self.old ps }
@@ -216,7 +216,7 @@ impl<R: Read> LineReader<R> {
         }
     }
 
-    /// Gives the next piece, and reads as much as is needed to tell it. It takes one line at most.
+    /// Gives the next piece, and reads as much as is needed for that. It takes one line at most.
     pub fn next_read(&mut self, most: usize) -> Next
         requires { most ≤ MAX_UNENDED }
         ensures finds { Finds most self.old result self.new }
@@ -230,7 +230,7 @@ impl<R: Read> LineReader<R> {
         }
     }
 
-    /// Whether the next piece begins so. Reads as much as is needed to tell it.
+    /// Whether the next piece begins so. Reads as much as is needed to know it.
     pub fn begins_read(&mut self, front: &[u8]) -> bool
         requires unended { list_all (λ byte. not (byte == 10)) front.now ≡ true }
         requires some { 0 < length front.now }

@@ -1,4 +1,4 @@
-// The rule of a link's queue, and what its steps tell.
+// The rule of a link's queue, and what its steps show.
 use crossbeam_queue::protocol::{Join, Lesson, Outcome, Protocol, Split};
 use crossbeam_queue::{Pass, RuledArrayQueue};
 use sq_chunk::Chunk;

@@ -100,7 +100,6 @@ impl<S: Side> Model for LinkPass<S> {
 }
 
 impl<S: Side> LinkPass<S> {
-    // The pass of this end.
     pub(crate) fn new(end: End) -> LinkPass<S>
         requires end { knows end ≡ S.knows (S.chunks (knows end)) }
         requires slots { end.me.1 ≡ [] }

@@ -51,7 +51,7 @@ module _ (o : OpeningValue) (is : IsOpening o) (t : Trace) (legal : IsLegal o t)
       let touched = begun_touched (status_of t g n) begun in
       covering_touched (status_of t g) (grown o t legal g) (leaf_of o.recon.width segment root) n at.leaf (is_there o t legal g n touched.0).node above touched.0 touched.1
 
-  -- so where a begun node has a key in its extent, the key tells the segment and the node
+  -- so where a begun node has a key in its extent, the key gives the segment and the node
   pub record IsBegunOver (root g n : ℕ) (segment : Range) : Type 0 where
     pub found : segment_of o.recon.segments root ≡ Some g
     pub at : IsIn o root g segment

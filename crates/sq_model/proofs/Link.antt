@@ -18,7 +18,6 @@ is_of_test src dst note test =
 test_is_of : (src dst : ℕ) (note : Note) → IsOf src dst note → ((note.src == src) && (note.dst == dst)) ≡ true
 test_is_of src dst note is = and_from (note.src == src) (note.dst == dst) (eq-eqb note.src src is.source) (eq-eqb note.dst dst is.destination)
 
--- what a link has is of it
 pub link_has : (src dst : ℕ) (notes : List Note) (note : Note) → Contains (link src dst notes) note → Contains notes note × IsOf src dst note
 link_has src dst notes note has =
     let kept = kept_in (λ (other : Note). (other.src == src) && (other.dst == dst)) notes note has in

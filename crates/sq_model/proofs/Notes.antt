@@ -110,7 +110,7 @@ numbered o ((Cut from to, WasCut note families) ∷ t) legal src dst =
     before
 numbered o ((step, given) ∷ t) legal src dst = numbered o t legal.1 src dst
 
--- the next note of an item goes on where those before it end
+-- the next note of an item continues where those before it end
 next_goes_on : (o : OpeningValue) (t : Trace) (src dst : ℕ) (item : Item) → Tiles o (notes t) → has_last item.seg item.node (notes t) ≡ false → GoesOn o (next_note o t src dst item) (notes t)
 next_goes_on o t src dst item tiles unfinished =
     let lo = reached o item.seg item.node (notes t) in
@@ -173,7 +173,7 @@ loaded_in o t legal note has =
     let there = subst (λ list. Contains list note) before.1 (Contains-append_right before.0 (link note.src note.dst (loads t)) note here) in
     (link_has note.src note.dst (notes t) note there).0
 
--- a segment's notes are all of one link, so that it alone tells of its nodes
+-- a segment's notes are all of one link, so that this alone gives its nodes
 abbrev AllGo : OpeningValue → List Note → Type 0
 AllGo o ns = (note : Note) → Contains ns note → SegmentGoes o note.seg note.src note.dst
 
@@ -192,12 +192,12 @@ has_last-link o ns all src dst seg node goes =
     list_any-filter (λ (note : Note). is_about seg node note && note.last) (λ (note : Note). (note.src == src) && (note.dst == dst)) ns
     (λ note has test. same_link o ns all src dst seg node goes note has (and_parts (is_about seg node note) note.last test).0)
 
--- a note that goes on from notes whose node stands alike goes on from the others
+-- a note that continues notes whose node stands alike continues the others
 goes_on_like : (o : OpeningValue) (note : Note) (ns others : List Note) → reached o note.seg note.node ns ≡ reached o note.seg note.node others → has_last note.seg note.node ns ≡ has_last note.seg note.node others → GoesOn o note ns → GoesOn o note others
 goes_on_like o note ns others same_end same_last goes =
     record { begins = goes.begins ∙ same_end; rises = goes.rises; within = goes.within; last = goes.last; first_last = sym same_last ∙ goes.first_last }
 
--- a note goes on from those of its link that came before it
+-- a note continues those of its link that came before it
 goes_on_first : (o : OpeningValue) (next : Note) (ns : List Note) → GoesOn o next ns → AllGo o (next ∷ ns) → (src dst : ℕ) → IsOf src dst next → GoesOn o next (link src dst ns)
 goes_on_first o next ns goes all src dst is =
     let segment : SegmentGoes o next.seg src dst = subst₂ (SegmentGoes o next.seg) is.source is.destination (all next (Contains-first next ns)) in
@@ -238,7 +238,7 @@ next_found o t legal src dst note next =
     ap (find (λ (other : Note). other.number == load_count t src dst)) (sym next.notes_are)
     ∙ find_next next.front note (link src dst (loads t)) (subst AreNumbered (sym next.notes_are) (numbered o t legal src dst))
 
--- goes on from the loads
+-- the next note continues the loads
 pub next_goes : (o : OpeningValue) (t : Trace) → IsLegal o t → (src dst : ℕ) (note : Note) → LoadNext t src dst note → GoesOn o note (loads t)
 next_goes o t legal src dst note next =
     let has = next_has t src dst note next in

@@ -1,4 +1,5 @@
--- On a legal trace: where a root key's family is while a note that covers it is under way, where a partition runs it, and where a node goes on.
+-- On a legal trace: where a root key's family is while a note that covers it is under way, where a partition runs it,
+-- and where a node continues.
 use Rattle.std.proofs.Common.{◌≡◌, inl, inr, ℕ, ◌<◌, ◌≤◌, true, false, ◌&&◌, nat_le, nat_lt, if◌then◌else◌, List, [], ◌∷◌, ◌++◌, find, Contains, Option, Some, None, refl, sym, ap, ap₂, ◌∙◌, subst, true≢false, append_assoc, arith}
 use Rattle.std.proofs.lemmas.Bool.{cases_Bool, and_from, le-leb, lt-ltb, le-ltb, and_right, false_from_ne_true, cond-true, cond-false}
 use Rattle.std.proofs.lemmas.List.Elements.{Contains-append_left, Contains-push}

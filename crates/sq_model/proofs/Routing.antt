@@ -1,4 +1,5 @@
--- On a legal trace a root key's segment, and the node that covers its leaf, tell whether it was given up, cut and loaded.
+-- On a legal trace a root key's segment, and the node that covers its leaf, say whether it was given up, cut and
+-- loaded.
 use Rattle.std.proofs.Common.{◌≡◌, ℕ, ◌<◌, true, false, ◌&&◌, nat_le, nat_lt, List, slice_get, Contains, Some, None, sym, ap₂, ◌∙◌, subst, subst₂, arith}
 use Rattle.std.proofs.lemmas.Bool.{and_parts, and_from, lt-ltb, false_from_ne_true}
 use Rattle.sq_tree.specs.Status.{is_begun, covering}

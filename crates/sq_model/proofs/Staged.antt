@@ -1,4 +1,5 @@
--- On a legal trace the running stage alone tells what is where: the stages before it are done, and those after it haven't begun.
+-- On a legal trace the running stage alone says what is where: the stages before it are done, and those after it
+-- haven't begun.
 use Rattle.std.proofs.Common.{◌≡◌, inl, inr, ℕ, ◌+◌, ◌<◌, ◌≤◌, Bool, true, false, ◌==◌, ◌&&◌, ◌||◌, not, nat_lt, is_some, if◌then◌else◌, List, [], ◌∷◌, ◌++◌, find, filter, slice_get, Contains, Option, Some, None, refl, sym, ap, ap₂, ◌∙◌, subst, true≢false, append_assoc, arith}
 use Rattle.std.specs.List.{list_any}
 use Rattle.std.proofs.lemmas.Bool.{cases_Bool, and_parts, and_from, lt-ltb, ltb-true, eqb-true, cond_both, cond-true, cond-false, false_from_ne_true}
@@ -64,7 +65,6 @@ since_next {X = X} f i now all h = record {
   past = λ x has. all_past f i now h.older h.here h.past x (subst (λ (xs : List X). Contains xs x) h.made has);
 }
 
--- the stage of a note
 abbrev pub note_stage : OpeningValue → Note → ℕ
 note_stage o note = stage_on o.recon note.src note.dst
 

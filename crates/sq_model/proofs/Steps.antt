@@ -254,7 +254,7 @@ wait_goes o t part txn id seg leaf given =
 pub cut_is_of : (o : OpeningValue) (t : Trace) (src dst : ℕ) (note : Note) (families : ℕ) → CutGoes o t src dst note families → IsOf src dst note
 cut_is_of o t src dst note families goes = record { source = ap (λ n. n.src) goes.noted; destination = ap (λ n. n.dst) goes.noted }
 
--- and so is that of a Load that went, and was cut
+-- and so is the note of a Load that went, and was cut
 pub load_is_of : (o : OpeningValue) (t : Trace) (src dst : ℕ) (note : Note) (families : ℕ) → LoadGoes o t src dst note families → Contains (notes t) note × IsOf src dst note
 load_is_of o t src dst note families goes =
     link_has src dst (notes t) note (found_in (λ other. other.number == load_count t src dst) (link src dst (notes t)) note goes.found).0

@@ -37,7 +37,7 @@ about_is seg node note about = both_equal note.seg seg note.node node about
 pub is_about-from : (seg node : ℕ) (note : Note) → note.seg ≡ seg → note.node ≡ node → is_about seg node note ≡ true
 is_about-from seg node note = equal-both note.seg seg note.node node
 
--- one more note goes on to its end, and may be the last one, if it is about the node
+-- one more note continues to its end, and may be the last one, if it is about the node
 pub node_at : (P : ℕ → Bool → Type 0) (o : OpeningValue) (seg node : ℕ) (note : Note) (ns : List Note) → (note.seg ≡ seg → note.node ≡ node → P note.hi (note.last || has_last seg node ns)) → P (reached o seg node ns) (has_last seg node ns) → P (reached o seg node (note ∷ ns)) (has_last seg node (note ∷ ns))
 node_at P o seg node note ns here before =
     elim (cases_Bool (is_about seg node note)) [

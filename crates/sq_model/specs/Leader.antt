@@ -1,4 +1,4 @@
--- How far the leader is, and what the partitions told it.
+-- How far the leader is, and what the partitions said to it.
 use Rattle.std.specs.Prelude.{ℕ, Bool, true, false, ◌==◌, ◌||◌}
 use Rattle.sq_model.specs.declared.step.Step.{Step}
 use Rattle.sq_model.specs.declared.step.Step.TheVariants.{Prepare, Start, Report, Next, Finish}

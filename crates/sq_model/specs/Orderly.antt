@@ -23,8 +23,8 @@ abbrev pub AreNumbered : List Note → Type 0
 AreNumbered [] = Unit {0}
 AreNumbered (note ∷ notes) = (note.number ≡ length notes) × AreNumbered notes
 
--- the note goes on where the notes of its node before it end, is last exactly if it ends where the node does, and no last one
--- came before it
+-- the note continues where the notes of its node before it end, is last exactly if it ends where the node does, and no
+-- last one came before it
 pub record GoesOn (o : OpeningValue) (note : Note) (notes : List Note) : Type 0 where
   pub begins : note.lo ≡ reached o note.seg note.node notes
   pub rises : note.lo ≤ note.hi

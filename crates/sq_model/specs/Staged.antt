@@ -1,4 +1,5 @@
--- What the running stage tells by itself: the steps since the last Next that went, and who owned a root key as the stage began.
+-- What the running stage alone says: the steps since the last Next that went, and who owned a root key as the stage
+-- began.
 use Rattle.std.specs.Prelude.{◌≡◌, ℕ, Bool, true, false, ◌&&◌, nat_lt, is_none, if◌then◌else◌, [], ◌∷◌, Option}
 use Rattle.sq_ranges.specs.ReconValue.{stage_on}
 use Rattle.sq_ranges.specs.OpeningValue.{OpeningValue}
@@ -36,7 +37,8 @@ place_in o t root = place_from (owner_in o (stage t) root) (notes (since t)) (lo
 abbrev pub runner_in : OpeningValue → Trace → ℕ → Option ℕ
 runner_in o t root = runner_from o (since t) (owner_in o (stage t) root) root
 
--- the running stage alone tells where each root key is and who runs it, and all that its own segments and links are answered by
+-- the running stage alone says where each root key is and who runs it, and all that its own segments and links are
+-- answered by
 pub record TellsAlone (o : OpeningValue) (t : Trace) : Type 0 where
   pub place : (root : ℕ) → place o t root ≡ place_in o t root
   pub runner : (root : ℕ) → runner o t root ≡ runner_in o t root

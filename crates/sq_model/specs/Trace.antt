@@ -11,7 +11,7 @@ use Rattle.sq_model.specs.declared.answer.Answer.TheVariants.{Done, Replied, Res
 abbrev pub Trace : Type 0
 Trace = List (Step × Answer)
 
--- what a trace comes to, step by step: what each step with its answer makes of it, from this start
+-- the value of a trace, step by step: what each step with its answer makes of it, from this start
 abbrev pub by_steps : {A : Type 0} → (Step → Answer → A → A) → A → Trace → A
 by_steps each start [] = start
 by_steps each start ((step, answer) ∷ trace) = each step answer (by_steps each start trace)

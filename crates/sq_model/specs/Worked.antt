@@ -93,7 +93,8 @@ whole_path = begun ++ Claim 0 1 2 ∷ Begin 0 1 2 ∷ carried_to 1 ++ Complete 0
 abbrev pub whole_path_answers : List Answer
 whole_path_answers = begun_answers ++ Done ∷ Done ∷ carried_answers (noted 0 1 4 8) 1 ++ Done ∷ Done ∷ Done ∷ got 9 (pos 10) ∷ []
 
--- the shortest whole path, and then the logs are folded: those of partition 0 of which there are none, and twice those of partition 1
+-- the shortest whole path, and then the logs are folded: those of partition 0, which has none, and twice those of
+-- partition 1
 abbrev pub folded_twice : List Step
 folded_twice = whole_path ++ Fold 0 ∷ Fold 1 ∷ Submit 1 (add_one 10 5) ∷ Submit 1 (get_row 11 6) ∷ Fold 1 ∷ Fold 2 ∷ []
 

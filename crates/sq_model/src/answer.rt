@@ -64,7 +64,7 @@ pub enum Answer {
     Refused(Refusal),
 }
 
-/// Why a step was refused. What each means stands in the table of `sq_explain`, by its number.
+/// Why a step was refused. The table of `sq_explain` says what each means, by its number.
 #[derive(Clone, Copy, Debug, PartialEq, Eq, Error)]
 #[error("{}", meaning(self.number()))]
 pub enum Refusal {

@@ -108,14 +108,15 @@ pub fn moves_in_stages()
     ensures { answers two_stages [] in_stages ≡ in_stages_answers }
 {}
 
-/// Whatever the steps: the steps since the last Next that went tell where each root key is, who runs it, and the statuses,
-/// notes and loads of the running stage, if a root key that moved in a stage before counts as its new owner's.
+/// Whatever the steps: the steps since the last Next that went say where each root key is, who runs it, and the
+/// statuses, notes and loads of the running stage, if a root key that moved in a stage before counts as its new
+/// owner's.
 pub fn tells_by_stage()
     ensures { (o : OpeningValue) (t : Trace) → IsOpening o → IsLegal o t → TellsAlone o t }
 {}
 
-/// Whatever the steps: those since the last Next that went are in order by themselves, and no note of theirs is of a link of
-/// another stage.
+/// Whatever the steps: those since the last Next that went are in order on their own, and no note of theirs is of a
+/// link of another stage.
 pub fn moves_in_order_by_stage()
     ensures order { (o : OpeningValue) (t : Trace) → IsOpening o → IsLegal o t
         → IsOrderly o (since t) }

@@ -41,7 +41,7 @@ pub enum Step {
         src: u64,
         dst: u64,
     },
-    /// The oldest chunk on the link comes to the destination.
+    /// The oldest chunk on the link reaches the destination.
     Pop {
         src: u64,
         dst: u64,
@@ -51,7 +51,7 @@ pub enum Step {
         src: u64,
         dst: u64,
     },
-    /// A node is completed, all of which was loaded.
+    /// A node that was loaded whole is completed.
     Complete {
         seg: u64,
         node: u64,

@@ -96,7 +96,7 @@ step_same seg steps old new step same k =
 kept_same : (old new : List SeatValue) → new ≡ old → (k : ℕ) → SameDone (views_of old k) (views_of new k)
 kept_same old new same k = subst (λ seats. SameDone (views_of old k) (views_of seats k)) (sym same) (record { begun = refl; completed = refl })
 
--- seats of which one may have claimed a leaf
+-- seats, one of which may have claimed a leaf
 pub claimed_same : (outcome : Outcome) (old new : NodeState) → ClaimsFor outcome old new → (k : ℕ) → SameDone (views_of old.seats k) (views_of new.seats k)
 claimed_same (Done reply) old new none k = kept_same old.seats new.seats none.0 k
 claimed_same (Moved to) old new none k = kept_same old.seats new.seats none.0 k

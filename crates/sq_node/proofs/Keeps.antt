@@ -45,7 +45,6 @@ use Rattle.sq_node.specs.Looks.{SeatsLooked, LooksAndCompletes}
 use Rattle.sq_node.specs.Steps.{JobStep, RequestStep, CutStep, SendStep, RecvStep, LoadStep, CompleteStep, ResumeStep, Looks, may_load_now}
 use Rattle.sq_node.proofs.Bridges.{SameDone, only_looked_same, passed_one, view_before, views_after, looked_same, claimed_same}
 
--- what is as it was keeps all
 pub same_keeps : (old new : NodeState) → new ≡ old → KeepsAll old new
 same_keeps old new same o began is h = subst (HoldsUnder o began) (sym same) h
 

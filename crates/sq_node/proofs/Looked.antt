@@ -83,7 +83,7 @@ after_partial v u w n pull st first second other =
       inl (inr (inr (p, seen_then u n (Complete p) w found))),
     )
 
--- what comes of completing a node that was found partial
+-- the result of completing a node that was found partial
 pub completed_or_not : (v u w : View) (n pull : ℕ) (result : Result (Unit {0}) CompleteFault) (b : Bool) → b ≡ is_ok result → Found v n (Partial pull) u
     → MatchResult result (λ _. Won u n (Complete pull) w) (CompleteRefused n pull u w) → MatchBool b (LooksAndCompletes v n w) (LooksOnly v n w)
 completed_or_not v u w n pull result b is first told = subst (λ (x : Bool). MatchBool x (LooksAndCompletes v n w) (LooksOnly v n w)) (sym is) (by_result result told)

@@ -239,7 +239,6 @@ same_pumps old new count pumps same are =
     subst (λ (fabric : FabricValue). AreNewPumps fabric count pumps) (sym same)
     (record { all = are.all; each = λ number pump there. same_pump old new.seats new.receipts number pump (are.each number pump there) })
 
--- one more pump
 pub more_pumps : (old new : FabricValue) (count : ℕ) (pumps : List PumpValue) (pump : PumpValue) → IsAlike old new → AreNewPumps old count pumps → IsNewPump old count pump
     → AreNewPumps new (count + 1) (pumps ++ pump ∷ [])
 more_pumps old new count pumps pump same are made =

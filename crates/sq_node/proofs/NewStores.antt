@@ -1,4 +1,4 @@
--- The families of partitions, each of which was made in a thread of its own.
+-- The families of partitions, made each in a thread of its own.
 use Rattle.std.proofs.Common.{◌≡◌, ℕ, ◌<◌, List, length, map, get_or, Result, Ok, sym, ap, ◌∙◌, subst, arith}
 use Rattle.std.specs.Prelude.{IfOk}
 use Rattle.std.specs.FinMap.{empty}

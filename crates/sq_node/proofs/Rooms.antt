@@ -4,7 +4,6 @@ use Rattle.std.specs.Prelude.{slice_set}
 use Rattle.std.proofs.lemmas.List.{map-append, take_more}
 use Rattle.sq_node.specs.Left.{HaveRoom}
 
--- one more room
 pub more_room : (counts rooms : List ℕ) (count room : ℕ) → HaveRoom counts rooms → count ≤ room → HaveRoom (counts ++ count ∷ []) (rooms ++ room ∷ [])
 more_room [] [] count room have fits = (fits, tt)
 more_room [] (r ∷ rooms) count room have fits = absurd have

@@ -67,7 +67,7 @@ ran_at false here who store txn reply after told left = cc
 pub ran : (here who : ℕ) (store : StoreValue) (txn : TxnValue) (reply : Reply) (after : StoreValue) → Done reply ≡ (served here who store txn).0 → after ≡ (served here who store txn).1 → Ran here who store txn reply after
 ran here who store txn reply after told left = ran_at (who == here) here who store txn reply after told left
 
--- the receipt of one that was submitted is that of the log before it
+-- the receipt of one that was submitted names the log before it
 pub submitted_position : (waits : Bool) (old new : CoreValue) (txn : TxnValue) (reply : Reply) → IsTaken waits old txn (Done reply) new
     → position_before (log_length new.store txn.root) reply ≡ log_length old.store txn.root
 submitted_position true old new txn reply taken = let told : Done reply ≡ Waits taken.at.seg taken.at.leaf = taken.told in cc

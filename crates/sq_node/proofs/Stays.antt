@@ -75,12 +75,11 @@ load_stays fabric old Did new step of =
 load_stays fabric old Nothing new step of = same_node fabric old new step.0 of
 load_stays fabric old Memory new step of = same_node fabric old new step of
 
--- ends of which another stands in the place of one
+-- ends with another in the place of one
 module _ (ends : List (Option EndValue)) (at : ℕ) (end now : EndValue) (there : end_at ends at ≡ Some end) where
   set_there : (k : ℕ) → end_at (slice_set ends at (Some now)) k ≡ put at (Some now) (end_at ends) k
   set_there = put_set ends at (Some now) None (stands_below ends at end there)
 
-  -- the link is the same
   same_link : now.link ≡ end.link → (k : ℕ) → option_map (λ (e : EndValue). e.link) (end_at (slice_set ends at (Some now)) k) ≡ option_map (λ (e : EndValue). e.link) (end_at ends k)
   same_link same k =
       let link_of = option_map (λ (e : EndValue). e.link) in

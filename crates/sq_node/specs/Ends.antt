@@ -6,7 +6,7 @@ use Rattle.sq_link.specs.Values.{LinkValue, PassValue}
 use Rattle.sq_link.specs.Order.{IsEndOf, ComesAfter}
 use Rattle.sq_node.specs.declared.ends.LinkEnd.{LinkEnd}
 
--- an end of a link: where the link stands, and the pass with the chunks that went by it
+-- an end of a link: where the link is, and the pass with the chunks that went by it
 abbrev pub EndValue : Type 0
 EndValue = LinkEnd PassValue
 
@@ -21,7 +21,8 @@ no_link = record {
 abbrev pub link_at : List LinkValue → ℕ → LinkValue
 link_at links i = slice_index_or links i no_link
 
--- where the link stands that has a partition at its near end and another one at its far end; none where there is no such link
+-- where the link is that has a partition at its near end and another one at its far end; none where there is no such
+-- link
 abbrev pub link_between : (LinkValue → ℕ) → (LinkValue → ℕ) → List LinkValue → ℕ → ℕ → Option ℕ
 link_between near far links part other = position (λ link. (near link == part) && (far link == other)) links
 
@@ -34,11 +35,11 @@ pub record IsEnd (links : List LinkValue) (end : EndValue) : Type 0 where
 abbrev pub passed_on : EndValue → ChunkValue → EndValue
 passed_on end chunk = record { link = end.link; pass = record { queue = end.pass.queue; chunks = end.pass.chunks ++ chunk ∷ [] } }
 
--- the end's link was full at one moment, as far as the end can tell
+-- the end's link was full at one moment, as far as the end can know
 abbrev pub WasFull : List LinkValue → EndValue → Type 0
 WasFull links end = Held (link_at links end.link).capacity (IsEndOf end.pass.chunks)
 
--- the end's link was empty at one moment, as far as the end can tell
+-- the end's link was empty at one moment, as far as the end can know
 abbrev pub WasEmpty : EndValue → Type 0
 WasEmpty end = Held 0 (ComesAfter end.pass.chunks)
 

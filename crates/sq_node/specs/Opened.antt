@@ -44,7 +44,7 @@ pub record IsOpenStore (o : OpeningValue) (part : ℕ) (store : StoreValue) : Ty
 abbrev pub first_view : ℕ → View
 first_view given = record (fresh true false) { given = given }
 
--- the first seats of these trees, each of which has given out this many seats
+-- the first seats of these trees, which have each given out this many seats
 pub record AreFirstSeats (given : ℕ) (trees : List TableId) (seats : List SeatValue) : Type 0 where
   pub of : AreSeatsOf trees seats
   pub each : (seg : ℕ) (seat : SeatValue) → slice_get seats seg ≡ Some seat → seat.view ≡ first_view given
@@ -73,17 +73,17 @@ GivesOut count old new =
 abbrev pub HaveCapacity : ℕ → List LinkValue → Type 0
 HaveCapacity capacity links = (i : ℕ) (link : LinkValue) → slice_get links i ≡ Some link → link.capacity ≡ capacity
 
--- new links for a stage of a move, each of which holds this many chunks
+-- new links for a stage of a move, with room for this many chunks each
 pub record AreNewLinks (recon : ReconValue) (stage capacity : ℕ) (links : List LinkValue) : Type 0 where
   pub ends : AreStageLinks recon stage (map ends_of links)
   pub holds : HaveCapacity capacity links
 
--- one end of each link, where its link stands
+-- one end of each link, where its link is
 pub record HasAllEnds (links : List LinkValue) (ends : List (Option EndValue)) : Type 0 where
   pub count : length ends ≡ length links
   pub each : (i : ℕ) → i < length links → end_at ends i ≡ Some (new_end links i)
 
--- the ends of a partition's links stand here, each where its link stands
+-- the ends of a partition's links stand here, each where its link is
 pub record HasEnds (near : LinkValue → ℕ) (links : List LinkValue) (ends : List (Option EndValue)) (part : ℕ) : Type 0 where
   pub count : length ends ≡ length links
   pub each : (i : ℕ) → i < length links → near (link_at links i) ≡ part → end_at ends i ≡ Some (new_end links i)
@@ -165,8 +165,8 @@ pub record IsReopened (o : OpeningValue) (i : ℕ) (stores : List StoreValue) (t
   pub each_node : AreNewNodes o fabric stores nodes
   pub each_pump : AreNewPumps fabric count pumps
 
--- a run opens in its first stage with a node for each partition, of which all holds, and with this many pumps, and all seats
--- are handed out
+-- a run opens in its first stage with a node for each partition, which keeps what nodes keep, and with this many pumps,
+-- and all seats are handed out
 pub record IsOpened (o : OpeningValue) (count : ℕ) (fabric : FabricValue) (nodes : List NodeState) (pumps : List PumpValue) : Type 0 where
   pub shared : IsFabricOf o fabric
   pub begun : HasBegun (first_began o) fabric

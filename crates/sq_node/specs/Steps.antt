@@ -107,7 +107,7 @@ pub record Loads (old : NodeState) (src : ℕ) (new : NodeState) : Type 0 where
   pub sound : IsChunk load.chunk
   pub after : new ≡ record old { core = new.core }
 
--- that of the first partition from which one came that can be loaded
+-- the chunk of the first partition that sent one that can be loaded
 abbrev pub LoadStep : NodeState → Stepped → NodeState → Type 0
 LoadStep old Did new = (src : ℕ) × Loads old src new × ((lower : ℕ) → lower < src → may_load_now old.core lower ≡ false)
 LoadStep old Nothing new = (new ≡ old) × ((src : ℕ) → may_load_now old.core src ≡ false)

@@ -96,7 +96,7 @@ impl Desk {
         }
     }
 
-    /// Posts the jobs in their order, up to the first whose queue is full. That one and those behind it stay.
+    /// Posts the jobs in their order, up to the first whose queue is full. This one and those behind it stay.
     pub(crate) fn send_pending<R: Wait>(&mut self, rt: &R, fabric: &Fabric)
         ensures { self.new.receipts ≡ self.old.receipts }
     {

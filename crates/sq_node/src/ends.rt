@@ -10,7 +10,7 @@ use std::sync::Wait;
 /// An end of a link, with its pass.
 #[derive(Drop)]
 pub struct LinkEnd<P> {
-    /// Where the link stands among those of the run.
+    /// Where the link is among those of the run.
     pub link: usize,
     /// The right to send on it, or to receive from it.
     pub pass: P,
@@ -22,7 +22,7 @@ pub type SendEnd = LinkEnd<SendPass>;
 /// The receiving end of a link.
 pub type RecvEnd = LinkEnd<RecvPass>;
 
-/// What a node does this by with a partition: its end of the link, if there is one.
+/// A node's end of its link with one partition, if there is one.
 #[derive(Drop)]
 pub struct PartEnd<S: Side> {
     end: Option<LinkEnd<LinkPass<S>>>,
@@ -44,14 +44,14 @@ impl<S: Side> Model for PartEnd<S> {
 }
 
 impl<S: Side> PartEnd<S> {
-    /// By this end, or by none.
+    /// A holder of this end, or of none.
     pub(crate) fn new(end: Option<LinkEnd<LinkPass<S>>>) -> PartEnd<S>
         ensures { result ≡ end }
     {
         PartEnd { end }
     }
 
-    /// It, which leaves no end behind.
+    /// Takes the end and leaves none.
     pub(crate) fn take(&mut self) -> PartEnd<S>
         ensures taken { result ≡ self.old }
         ensures left { self.new ≡ None }

@@ -194,7 +194,7 @@ impl Fabric {
         }
     }
 
-    /// Whether as many jobs were answered as were posted. This is a hint: it is told of no moment.
+    /// Whether as many jobs were answered as were posted. This is a hint, at no certain moment.
     pub fn is_answered(&self) -> bool {
         let answered = self.answered.load(Ordering::SeqCst);
         answered == self.posted.load(Ordering::SeqCst) & !CLOSED

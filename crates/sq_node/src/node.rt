@@ -23,8 +23,8 @@ mod links;
 mod trees;
 mod turn;
 
-/// A partition in a thread of its own: the partition by itself, its seat at each tree, its ends of the links, and the
-/// receipts of the jobs that it answered. To a contract it is a `NodeState`.
+/// A partition in a thread of its own: the partition, its seat at each tree, its ends of the links, and the receipts of
+/// the jobs that it answered. To a contract it is a `NodeState`.
 #[derive(Drop)]
 pub struct Node {
     core: PartCore<RunStore>,

@@ -2,7 +2,7 @@
 use sq_schema::{Reply, Root};
 use std::marker::Model;
 
-/// That a transaction was answered. To a contract it is a `ReceiptValue`.
+/// The answer to a transaction. To a contract it is a `ReceiptValue`.
 #[derive(Debug, Drop)]
 pub struct Receipt {
     /// The transaction's id.

@@ -1,6 +1,6 @@
-// What a step of a node comes to.
+// The outcome of a step of a node.
 
-/// What a step of a node comes to.
+/// The outcome of a step of a node.
 #[derive(Clone, Copy, Debug, PartialEq, Eq)]
 pub enum Stepped {
     /// It was made.

@@ -1,4 +1,4 @@
--- What a stage begins with: families that go on, and those of the opening rows.
+-- What a stage begins with: families that continue, and those of the opening rows.
 use Rattle.std.proofs.Common.{◌≡◌, inl, inr, ℕ, Bool, true, false, nat_lt, if◌then◌else◌, ◌++◌, length, Option, Some, None, refl, sym, ap, ◌∙◌, subst, true≢false, append_assoc, arith}
 use Rattle.std.specs.Prelude.{is_some, unwrap_or}
 use Rattle.std.proofs.lemmas.Bool.{cases_Bool}
@@ -16,7 +16,7 @@ use Rattle.sq_node_model.specs.Receipts.{times_named}
 use Rattle.sq_node_model.proofs.Named.{unnamed}
 use Rattle.sq_node_model.proofs.FamiliesAnswered.{not_opened, not_given}
 
--- a family that goes on from one that goes on from another goes on from that
+-- a family that continues one that continues another continues that one
 pub grows_on : (one two three : FamilyValue) → GrowsFrom one two → GrowsFrom two three → GrowsFrom one three
 grows_on one two three a b = record {
   base = b.base ∙ a.base;

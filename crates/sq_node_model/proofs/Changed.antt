@@ -1,4 +1,4 @@
--- A node of which a part is another keeps what holds.
+-- A node with another part keeps what holds.
 use Rattle.std.proofs.Common.{◌≡◌, ℕ, List, sym, subst}
 use Rattle.std.specs.Prelude.{Bool}
 use Rattle.sq_store.specs.StoreValue.{StoreValue}

@@ -1,4 +1,4 @@
--- The load of a partition by itself is a load of its node.
+-- The load of a partition is a load of its node.
 use Rattle.std.proofs.Common.{◌≡◌, ⊎_elim, ℕ, ◌<◌, max, min, true, false, ◌==◌, ◌&&◌, nat_le, nat_lt, List, [], length, slice_get, Option, Some, None, refl, sym, ap, ◌∙◌, subst, true≢false, arith}
 use Rattle.std.proofs.lemmas.List.{get_or_past}
 use Rattle.std.specs.Prelude.{not, All}

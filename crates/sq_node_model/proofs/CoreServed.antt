@@ -1,4 +1,4 @@
--- A transaction that is served at a partition by itself is answered at its node.
+-- A transaction that is served at a partition is answered at its node.
 use Rattle.std.proofs.Common.{◌≡◌, ◌⊎◌, inl, inr, ℕ, Bool, true, false, ◌==◌, ◌&&◌, if◌then◌else◌, not, List, Contains, slice_get, Option, Some, None, refl, sym, ap, ◌∙◌, subst, true≢false, nat_lt, arith}
 use Rattle.std.specs.Prelude.{is_some, option_map, option_and_then}
 use Rattle.std.proofs.lemmas.Bool.{cases_Bool, eqb-true, eq-eqb, ltb-true}
@@ -164,7 +164,7 @@ module _ {began : BeganWith} (o : OpeningValue) (is : IsOpening o) (core : CoreV
   runs_here : (root : ℕ) → route core root ≡ core.part → IsHere root
   runs_here root here = here_by root (segment_of o.recon.segments root) refl (ap (route_from core root) (sym (location_is root)) ∙ here)
 
-  -- what became of a transaction that needn't wait
+  -- the outcome of a transaction that needn't wait
   served_by : (txn : TxnValue) (who : ℕ) (b : Bool) → (who == core.part) ≡ b → (who ≡ core.part → IsHere txn.root) → NodeHolds o began (node_served node txn (served_if core who b txn).0)
   served_by txn who true e here = keeps_answered o is node txn (store_reply core.store txn) (here (eqb-true who core.part e)) refl h
   served_by txn who false e here = h

@@ -69,7 +69,7 @@ module _ (o : OpeningValue) (began : BeganWith) (nodes : List NodeValue) (link :
   parts_are : link.notes ≡ notes_of loaded ++ notes_of link.under_way
   parts_are = cut_notes_are ∙ ap notes_of e.cut ∙ map-append (λ (c : ChunkValue). c.note) loaded link.under_way
 
-  -- as many were loaded as the link's numbers tell
+  -- as many were loaded as the link's numbers say
   pub loaded_is : length (notes_of (loaded_from e.to link.src)) ≡ loaded_count link
   loaded_is =
       let all = ap (λ (notes : List Note). length notes) parts_are ∙ length-append (notes_of loaded) (notes_of link.under_way) in

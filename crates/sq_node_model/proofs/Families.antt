@@ -46,7 +46,7 @@ pub record IsCarriedOn (g : GatheredValue) (root : ℕ) (family : FamilyValue) :
   pub stands : StandsAt g spot root now
   pub grows : GrowsFrom family now
 
--- what receipts told of a family they tell of it when it went on
+-- what receipts say of a family they say of it when it has continued
 pub told_on : (first family : FamilyValue) (receipt : ReceiptValue) → GrowsFrom first family → IsToldBy first receipt → IsToldBy family receipt
 told_on first family receipt grows t =
     let more = grows.log.0 in
@@ -73,7 +73,7 @@ module _ (o : OpeningValue) (began : BeganWith) (is : IsOpening o) (nodes : List
       let way = in_chunk o began nodes g gathers i j root family stands in
       way.cut.ends.from_holds.families.keyed root family (inr (way.chunk, has_cut o began is nodes g gathers way.chunk way.cut, way.carried))
 
-  -- what a chunk brings goes on from what the root key was given, also where that is nothing
+  -- what a chunk brings continues what the root key was given, also where that is nothing
   pub brought_grown : (chunk : ChunkValue) (c : IsCutAt o began nodes g chunk) (root : ℕ) → covers chunk.note root ≡ true → GrowsFrom (given_family began root) (brought chunk root)
   brought_grown chunk c root covered = here (family_in chunk.families root) refl
     where
@@ -88,7 +88,7 @@ module _ (o : OpeningValue) (began : BeganWith) (is : IsOpening o) (nodes : List
                 subst (GrowsFrom (given_family began root)) (not_given began root none ∙ sym (ap (λ found. unwrap_or found (absent root)) e)) (grows_itself (given_family began root))
           ]
 
-  -- each family that stands goes on from what its root key was given
+  -- each family that stands continues what its root key was given
   pub grown_at : (spot : Spot) (root : ℕ) (family : FamilyValue) → StandsAt g spot root family → GrowsFrom (given_family began root) family
   grown_at (Store part) root family stands =
       let here = in_store o began nodes g gathers part root family stands in

@@ -34,7 +34,7 @@ not_given began root none = here (began.families root) refl none
     here (Some family) e none = absurd (true≢false (sym (ap is_some e) ∙ none))
     here None e none = ap (λ found. unwrap_or found (absent root)) e
 
--- a family goes on from itself
+-- a family continues itself
 pub grows_itself : (family : FamilyValue) → GrowsFrom family family
 grows_itself family = record { base = refl; log = ([], sym (append-nil family.log)) }
 
@@ -136,7 +136,7 @@ module _ {began : BeganWith} (o : OpeningValue) (part : ℕ) (cut loaded : Chunk
     came = λ root other family has carried. let found = s.came root other family has carried in stored_some root found.0 found.1;
   }
 
-  -- the family goes on from what the root key was given, also where that is nothing
+  -- the family continues what the root key was given, also where that is nothing
   home_was_grown : IsHome o began.stage part cut txn.root → GrowsFrom (given_family began txn.root) was
   home_was_grown at_home =
       ⊎_elim
@@ -153,7 +153,7 @@ module _ {began : BeganWith} (o : OpeningValue) (part : ℕ) (cut loaded : Chunk
   home_here : owner_in o began.stage txn.root ≡ part → IsHome o began.stage part cut txn.root
   home_here owned = ⊎_elim (λ at_home. at_home) (λ covered. absurd (away txn.root covered owned)) here
 
-  -- the family goes on from what was brought, also where that is nothing
+  -- the family continues what was brought, also where that is nothing
   was_grown : (other : ChunkValue) → loaded other → covers other.note txn.root ≡ true → GrowsFrom (brought other txn.root) was
   was_grown other has covered =
       ⊎_elim

@@ -20,7 +20,7 @@ use Rattle.sq_node_model.proofs.OneMore.{IsOneMore}
 pub rooted_store : {began : BeganWith} (o : OpeningValue) (part : ℕ) (cut loaded : ChunkValue → Type 0) (store : StoreValue) → FamiliesHold o began part cut loaded store → IsRooted store
 rooted_store o part cut loaded store f = record { root = λ key family e. (f.keyed key family (inl e)).same_root }
 
--- what is found where a test holds, or where it doesn't, stands, and the test tells so
+-- the right one is found where a test holds, or where it doesn't, and the test says so
 read_where : {X : Type 0} (test : Bool) (found stands : Option X) (x : X) → found ≡ (if test then stands else None) → found ≡ Some x → (stands ≡ Some x) × (test ≡ true)
 read_where true found stands x is has = (sym is ∙ has, refl)
 read_where false found stands x is has = absurd cc

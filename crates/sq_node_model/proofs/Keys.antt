@@ -31,7 +31,7 @@ pub record IsMovedFrom (o : OpeningValue) (i root src dst : ℕ) : Type 0 where
   pub moves : src ≢ dst
 
 module _ (o : OpeningValue) (is : IsOpening o) where
-  -- a key tells its segment
+  -- a key gives its segment
   pub one_segment : (root g n h m : ℕ) → is_within (extent_of o g n) root ≡ true → is_within (extent_of o h m) root ≡ true → g ≡ h
   one_segment root g n h m one other = let e = sym (under o is root g n one).found ∙ (under o is root h m other).found in cc
 

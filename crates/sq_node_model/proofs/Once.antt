@@ -42,7 +42,7 @@ pub record AreOne (o : OpeningValue) (began : BeganWith) (nodes : List NodeValue
   pub loaded : loaded_from c.ends.to c.link.src ≡ loaded_from d.ends.to d.link.src
 
 module _ (o : OpeningValue) (began : BeganWith) (is : IsOpening o) (nodes : List NodeValue) (g : GatheredValue) (gathers : Gathers o began nodes g) where
-  -- each note of a link is that of a chunk
+  -- each note of a link is the note of a chunk
   pub note_at : (i : ℕ) (link : GatheredLink) (note : Note) → slice_get g.links i ≡ Some link → Contains link.notes note → IsNoted o began nodes g note
   note_at i link note there has =
       let e = ends o began nodes g gathers i link there in

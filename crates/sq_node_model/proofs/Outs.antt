@@ -224,7 +224,7 @@ module _ {began : BeganWith} (o : OpeningValue) (part dst : ℕ) (begun : ℕ �
         upto = w.upto;
       }
 
-  -- the work goes on where the chunk ends
+  -- the work continues where the chunk ends
   next_open : note.hi ≢ work.hi → IsOpenWork o began.stage part begun (notes ++ note ∷ []) dst (work_from work note.hi)
   next_open apart = record {
     segment = was.segment;

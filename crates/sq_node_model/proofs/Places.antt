@@ -33,7 +33,7 @@ module _ (o : OpeningValue) (began : BeganWith) (is : IsOpening o) (nodes : List
       Contains-flat_map (λ (link : GatheredLink). link.notes) g.links c.link chunk.note (Contains-slice_get g.links c.place c.link c.there)
       (Contains-slice_get c.link.notes c.number chunk.note (noted_at o began is nodes g gathers chunk c))
 
-  -- and that of a loaded one among the loaded ones
+  -- and the place of a loaded one is among the loaded ones
   pub loaded_among : (chunk : ChunkValue) (c : IsCutAt o began nodes g chunk) → c.number < length (loaded_from c.ends.to c.link.src) → Contains (loaded_notes g) chunk.note
   loaded_among chunk c before =
       let loaded = loaded_from c.ends.to c.link.src in

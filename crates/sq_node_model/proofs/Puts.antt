@@ -20,7 +20,7 @@ put_same key value f = ap (λ b. if b then value else f key) (eq-eqb key key ref
 pub put_other : {X : Type 0} (key : ℕ) (value : X) (f : ℕ → X) (k : ℕ) → k ≢ key → put key value f k ≡ f k
 put_other key value f k apart = ap (λ b. if b then value else f k) (ne_eqb k key apart)
 
--- a list by key of which one element was set
+-- a list by key with one element set
 pub put_set : {X : Type 0} (xs : List X) (key : ℕ) (value none : X) → key < length xs → (k : ℕ) → slice_index_or (slice_set xs key value) k none ≡ put key value (λ j. slice_index_or xs j none) k
 put_set xs key value none there =
     put_each (λ k x. slice_index_or (slice_set xs key value) k none ≡ x) key value (λ j. slice_index_or xs j none)

@@ -1,4 +1,4 @@
--- The committed receipts of all nodes name each log position of each family once, and tell what was done there.
+-- The committed receipts of all nodes name each log position of each family once, and say what was done there.
 use Rattle.std.proofs.Common.{◌≡◌, inl, inr, ⊎_elim, ℕ, ◌+◌, ◌≤◌, Bool, true, ◌&&◌, nat_le, nat_lt, List, length, slice_get, Contains, Option, Some, None, refl, sym, ap, ap₂, ◌∙◌, subst, arith}
 use Rattle.std.specs.Prelude.{◌≢◌, unwrap_or}
 use Rattle.std.specs.List.{flat_map}
@@ -172,7 +172,7 @@ module _ (o : OpeningValue) (began : BeganWith) (is : IsOpening o) (nodes : List
   pub named : CanBegin o began → NameEach g
   named can spot root family stands position = whole_log root position spot family can stands (theirs_named spot root family stands position)
 
-  -- what a node was told
+  -- what a node wrote
   node_told : (receipt : ReceiptValue) → Contains theirs receipt → is_commit receipt.reply ≡ true → (spot : Spot) × (family : FamilyValue) × StandsAt g spot receipt.root family × IsToldBy family receipt
   node_told receipt has commit =
       let found = flat_map_in (λ (node : NodeValue). node.receipts) nodes receipt has in

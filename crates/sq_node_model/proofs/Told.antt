@@ -1,4 +1,4 @@
--- What receipts tell of a family whose log grows.
+-- What receipts say of a family whose log grows.
 use Rattle.std.proofs.Common.{◌≡◌, ℕ, ◌+◌, ◌≤◌, ◌==◌, ◌&&◌, nat_le, nat_lt, [], ◌∷◌, ◌++◌, length, take, slice_get, sym, ap, ◌∙◌, arith}
 use Rattle.std.proofs.lemmas.Bool.Decides.{nat_tests}
 use Rattle.std.proofs.lemmas.List.{take-append-le}
@@ -23,7 +23,7 @@ told_more family txn receipt t =
       told = t.told ∙ ap (λ log. reply (replay_rows family.base log) t.txn) (sym (take-append-le receipt.position family.log (txn ∷ []) (omega arith)));
     }
 
--- and so is that of the transaction that made the log grow
+-- and so is the receipt of the transaction that made the log grow
 pub told_new : (family : FamilyValue) (txn : TxnValue) (receipt : ReceiptValue) → receipt.id ≡ txn.id → receipt.position ≡ length family.log → receipt.reply ≡ reply (rows_of family) txn → IsToldBy (logged family txn) receipt
 told_new family txn receipt same at is = record {
   txn = txn;

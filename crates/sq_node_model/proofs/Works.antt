@@ -17,7 +17,7 @@ on_node seg n work on = both_equal work.seg seg work.node n on
 pub on_node-from : (seg n : ℕ) (work : WorkValue) → work.seg ≡ seg → work.node ≡ n → is_work_on seg n work ≡ true
 on_node-from seg n work = equal-both work.seg seg work.node n
 
--- the work on other nodes is left as it was, and the work itself goes on at the chunk's end unless that is its own
+-- the work on other nodes is left as it was, and the work itself continues at the chunk's end unless that is its own
 pub record IsLeft (works left : List WorkValue) (work : WorkValue) (end : ℕ) : Type 0 where
   pub only : (other : WorkValue) → Contains left other → (Contains works other × (is_work_on work.seg work.node other ≡ false)) ⊎ ((end ≢ work.hi) × (work_from work end ≡ other))
   pub kept : (other : WorkValue) → Contains works other → is_work_on work.seg work.node other ≡ false → Contains left other

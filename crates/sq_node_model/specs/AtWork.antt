@@ -87,7 +87,7 @@ once_received node src chunk = record node {
 abbrev pub once_completed : NodeAtWork → WonWord → NodeAtWork
 once_completed node word = with_views node (put word.seg word.view node.views)
 
--- the node once this became of a transaction, which left the partition in this state: it has a receipt where it ran
+-- the node after this outcome of a transaction, which left the partition in this state: it has a receipt where it ran
 abbrev pub once_served : NodeAtWork → CoreValue → TxnValue → Outcome → NodeAtWork
 once_served node core txn outcome = record node {
   core = core;

@@ -45,14 +45,14 @@ pub record IsOf (root : ℕ) (family : FamilyValue) : Type 0 where
   pub same_root : family.root ≡ root
   pub own_log : All (λ txn. txn.root ≡ root) family.log
 
--- the family has the base of the other, and a log that goes on from the other's
+-- the family has the base of the other, and a log that continues the other's
 pub record GrowsFrom (first family : FamilyValue) : Type 0 where
   pub base : family.base ≡ first.base
   pub log : BeginsWith first.log family.log
 
--- what a stage may begin with: each family is its root key's and starts from the opening rows; each opening root was given
--- one; and the committed receipts so far name each position of the logs that were given once, and nothing else, and tell
--- what was done there
+-- what a stage may begin with: each family is its root key's and starts from the opening rows; each opening root was
+-- given one; and the committed receipts so far name each position of the logs that were given once, and nothing else,
+-- and say what was done there
 pub record CanBegin (o : OpeningValue) (began : BeganWith) : Type 0 where
   pub keyed : (root : ℕ) (family : FamilyValue) → began.families root ≡ Some family → IsOf root family
   pub base : (root : ℕ) (family : FamilyValue) → began.families root ≡ Some family → family.base ≡ opening_rows o root

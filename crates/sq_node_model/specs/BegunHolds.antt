@@ -10,7 +10,7 @@ use Rattle.sq_exec.specs.GivenUp.{is_given_up}
 use Rattle.sq_model.specs.Place.{extent_of, is_within}
 use Rattle.sq_node_model.specs.Stages.{is_on_link_in}
 
--- the tree node is one of these, each of which has a pull
+-- the tree node is one of these, which have a pull each
 abbrev pub IsNamed : List (ℕ × ℕ) → ℕ → Type 0
 IsNamed entries n = (pull : ℕ) × Contains entries (n, pull)
 

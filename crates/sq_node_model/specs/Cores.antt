@@ -1,4 +1,4 @@
--- A partition by itself, as the part of a node that moves what an opening says.
+-- A partition, as the part of a node that moves what an opening says.
 use Rattle.std.specs.Prelude.{◌≡◌, ℕ, true, ◌==◌, if◌then◌else◌, List, [], length, Some, None}
 use Rattle.std.specs.FinMap.{get}
 use Rattle.sq_store.specs.StoreValue.{StoreValue}

@@ -45,8 +45,8 @@ pub record StoreHolds (o : OpeningValue) (began : BeganWith) (part : ℕ) (cut l
   pub came : (root : ℕ) (chunk : ChunkValue) (family : FamilyValue) → loaded chunk → IsCarried chunk root family
       → (now : FamilyValue) × IsStored store root now
 
--- each family that is kept is its root key's; one that is at home, or was, goes on from what the root key was given; and one
--- that was loaded goes on from what was brought
+-- each family that is kept is its root key's; one that is at home, or was, continues what the root key was given; and
+-- one that was loaded continues what was brought
 pub record FamiliesHold (o : OpeningValue) (began : BeganWith) (part : ℕ) (cut loaded : ChunkValue → Type 0)
     (store : StoreValue) : Type 0 where
   pub keyed : (root : ℕ) (family : FamilyValue) → IsStoredOrCut cut store root family → IsOf root family

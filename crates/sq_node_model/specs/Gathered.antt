@@ -38,8 +38,8 @@ pub record HasEachLink (o : OpeningValue) (i : ℕ) (links : List GatheredLink) 
   pub one_each : (j k : ℕ) (one other : GatheredLink) → slice_get links j ≡ Some one → slice_get links k ≡ Some other
       → one.src ≡ other.src → one.dst ≡ other.dst → j ≡ k
 
--- the link is that of the nodes at its ends: what the source sent is what the destination received and what the queue held,
--- and under way is what is in the inbox, the queue and the outbox
+-- the link belongs to the nodes at its ends: what the source sent is what the destination received and what the queue
+-- held, and under way is what is in the inbox, the queue and the outbox
 pub record IsClosedLink (nodes : List NodeValue) (link : GatheredLink) : Type 0 where
   pub from : NodeValue
   pub from_there : slice_get nodes link.src ≡ Some from

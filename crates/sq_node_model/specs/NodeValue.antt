@@ -1,4 +1,4 @@
--- A node: a partition by itself, with what its thread did on the trees and links that it shares with others.
+-- A node: a partition, with what its thread did on the trees and links that it shares with others.
 use Rattle.std.specs.Prelude.{ℕ, Bool, ◌==◌, if◌then◌else◌, List, Option}
 use Rattle.sq_schema.specs.declared.txn.Reply.{Reply}
 use Rattle.sq_store.specs.StoreValue.{StoreValue}
@@ -33,8 +33,8 @@ pub record NodeValue : Type 0 where
   pub received : ℕ → List ChunkValue
   pub inboxes : ℕ → Option ChunkValue
 
--- a node at work: its partition by itself, the views of its seats by segment, what its ends of links sent and received by
--- the other partition, and its receipts
+-- a node at work: its partition, the views of its seats by segment, what its ends of links sent and received by the
+-- other partition, and its receipts
 pub record NodeAtWork : Type 0 where
   pub core : CoreValue
   pub views : ℕ → View

@@ -1,5 +1,5 @@
--- What holds of all that was gathered, whatever the threads did: each family is where the notes place it, once, and is the
--- replay of its log, which the receipts tell.
+-- What holds of all that was gathered, whatever the threads did: each family is where the notes place it, once, and is
+-- the replay of its log, which the receipts name.
 use Rattle.std.specs.Prelude.{◌≡◌, ℕ, true, nat_lt, length, map, drop, reverse, slice_get, Some, Contains}
 use Rattle.sq_schema.specs.Family.{FamilyValue}
 use Rattle.sq_tree.specs.Node.{is_node}
@@ -75,7 +75,7 @@ NameEach g =
     (spot : Spot) (root : ℕ) (family : FamilyValue) → StandsAt g spot root family → (position : ℕ)
     → times_named root position g.receipts ≡ one_if (nat_lt position (length family.log))
 
--- each committed receipt tells the transaction of its position in a family's log, and the reply that it had to have
+-- each committed receipt names the transaction of its position in a family's log, and the reply that it had to have
 abbrev pub AreTold : GatheredValue → Type 0
 AreTold g =
     (receipt : ReceiptValue) → Contains g.receipts receipt → is_commit receipt.reply ≡ true

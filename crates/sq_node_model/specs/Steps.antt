@@ -67,13 +67,14 @@ node_answered node txn reply =
       receipts = node.receipts ++ receipt_of node.store txn reply ∷ [];
     }
 
--- this became of a transaction that was submitted or resumed: it was answered, or nothing happened to what the node keeps
+-- this is the outcome of a transaction that was submitted or resumed: it was answered, or nothing changed of what the
+-- node keeps
 abbrev pub node_served : NodeValue → TxnValue → Outcome → NodeValue
 node_served node txn (Done reply) = node_answered node txn reply
 node_served node txn (Moved who) = node
 node_served node txn (Waits seg leaf) = node
 
--- the receipts after this became of a transaction at a partition with these families: it has one where it ran
+-- the receipts after this outcome of a transaction at a partition with these families: it has one where it ran
 abbrev pub receipts_after : StoreValue → TxnValue → Outcome → List ReceiptValue → List ReceiptValue
 receipts_after store txn (Done reply) receipts = receipts ++ receipt_of store txn reply ∷ []
 receipts_after store txn (Moved who) receipts = receipts

@@ -13,9 +13,9 @@ ghost use Rattle.sq_node_model.specs.BeganWith.{BeganWith, CanBegin};
 ghost use Rattle.sq_node_model.specs.Gathered.{GatheredLink, GatheredValue, Gathers};
 ghost use Rattle.sq_node_model.specs.Placed.{IsPlaced, GoOn};
 
-/// What is gathered of all nodes is placed: where each node keeps what it holds, and each tree and each link is closed, the
-/// chunks under way are those of the last notes, each family stands once and where the notes place it, each opening root
-/// has one, with the base that it had, and the receipts name each log position once and tell what was done there.
+/// What is gathered of all nodes is placed: where each node keeps what it holds, and each tree and each link is closed,
+/// the chunks under way are those of the last notes, each family stands once and where the notes place it, each opening
+/// root has one, with the base that it had, and the receipts name each log position once and say what was done there.
 pub fn what_is_gathered_is_placed()
     ensures placed { (o : OpeningValue) (began : BeganWith) (nodes : List NodeValue) (g : GatheredValue)
         → IsOpening o → CanBegin o began → Gathers o began nodes g → IsPlaced o g }

@@ -31,8 +31,8 @@ pub fn an_opening_can_begin()
     ensures { (o : OpeningValue) → CanBegin o (first_began o) }
 {}
 
-/// A partition that opens with the families that the root keys it owns were given, and whose thread did nothing yet, is a
-/// node of which all holds.
+/// A partition that opens with the families that the root keys it owns were given, and whose thread did nothing yet, is
+/// a node that keeps all of it.
 pub fn a_new_node_holds()
     ensures { (o : OpeningValue) (began : BeganWith) (part : ℕ) (store : StoreValue) (node : NodeAtWork)
         → part < o.old.parts → CanBegin o began → OpensWith o began part store

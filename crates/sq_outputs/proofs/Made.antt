@@ -35,7 +35,6 @@ removed (Ok x) name text part gone a b c is broken taken = tt
 removed (Err x) name text part gone a b c is broken taken =
     (_, inr (broken.0, gone, broken.1, ap (λ (p : List ℕ). broken.0 ++ Removed p gone ∷ []) is), both a b c _ _ broken.2 taken)
 
--- there is no error
 pub no_error : {T E : Type 0} (r : Result T E) (P : Type 0) → is_err r ≡ false → OnErr r P
 no_error (Ok x) P is = tt
 no_error (Err x) P is = cc

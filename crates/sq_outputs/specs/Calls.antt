@@ -5,7 +5,7 @@ use Rattle.std.specs.Prelude.{◌≡◌, ◌⊎◌, Bool, true, false, ℕ, List
 pub data FileCall : Type 0 where
   -- a text goes into the file of this name, in place of what it holds
   Written : (name text : List ℕ) (done : Bool) → FileCall
-  -- the file of one name takes the place of that of another
+  -- the file of one name takes the place of another name's file
   Renamed : (from to : List ℕ) (done : Bool) → FileCall
   -- the file of this name is gone
   Removed : (name : List ℕ) (done : Bool) → FileCall

@@ -11,7 +11,7 @@ pub struct Output<'a> {
     pub name: &'a str,
     /// Whether it is the file beside the one of this name, which is written first.
     pub is_part: bool,
-    /// Where it stands, in one spelling.
+    /// Where it is, in one spelling.
     pub place: String,
 }
 

@@ -1,10 +1,10 @@
-// Where files stand.
+// Where files are.
 ghost use Rattle.std.specs.Prelude.{[], ◌∷◌, is_ok, Option, List};
 ghost use Rattle.sq_outputs.specs.Calls.{FileCall, Written, Renamed, Removed, Makes};
 
 use std::io;
 
-/// Where files stand, by their names.
+/// Where files are, by their names.
 pub trait Folder {
     // The calls that were made, with whether they succeeded, where that is known.
     ghost calls: { Self → Option (List FileCall) };
@@ -14,7 +14,7 @@ pub trait Folder {
         ensures { Makes (calls self.old) (calls self.new)
             (Written name.now text.now (is_ok result) ∷ []) };
 
-    /// Has the file of one name take the place of that of another.
+    /// Has the file of one name take the place of another name's file.
     fn rename(&mut self, from: &str, to: &str) -> io::Result<()>
         ensures { Makes (calls self.old) (calls self.new)
             (Renamed from.now to.now (is_ok result) ∷ []) };

@@ -10,7 +10,7 @@ use std::io::{ErrorKind, Write};
 #[derive(Drop)]
 pub struct PipeEnd<'a, W: Write> {
     inner: W,
-    // Who wants to know that no one reads it.
+    // Whether no one reads it, for whoever wants to know.
     is_closed: &'a Cell<bool>,
 }
 

@@ -18,7 +18,7 @@ pub struct SystemFolder<'a, T> {
 }
 
 impl<'a, T> SystemFolder<'a, T> {
-    /// By this handle.
+    /// A folder behind this handle.
     pub fn new(rt: &'a T) -> SystemFolder<'a, T> {
         SystemFolder { rt }
     }

@@ -16,7 +16,7 @@ boxed r class n left top height a b lefts tops heights wrote =
     (subst (λ (y : ℕ). OnOk r (Appends a b (placed_text class (left_of n) y height))) tops
     (subst (λ (x : ℕ). OnOk r (Appends a b (placed_text class x top height))) lefts wrote))
 
--- what stands in a box, at the place that was computed
+-- what is in a box, at the place that was computed
 pub said : {T E : Type 0} (r : Result T E) (n left top number : ℕ) (status : Status) (a b : Option (List ℕ)) → left ≡ left_of n → top ≡ top_of n → number ≡ n → OnOk r (Appends a b (words_at (left + 5) (top + 13) number status)) → OnOk r (Appends a b (said_text n status))
 said r n left top number status a b lefts tops is wrote =
     subst (λ (m : ℕ). OnOk r (Appends a b (words_at (left_of n + 5) (top_of n + 13) m status))) is

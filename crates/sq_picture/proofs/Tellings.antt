@@ -1,4 +1,4 @@
--- What tells of a reconfiguration.
+-- Texts of a reconfiguration.
 use Rattle.std.proofs.Common.{◌≡◌, ℕ, List, [], ◌∷◌, ◌++◌, Option, refl}
 use Rattle.std.specs.Prelude.{Some}
 use Rattle.std.proofs.KnownBytes.{Appends-nil}

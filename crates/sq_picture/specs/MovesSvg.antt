@@ -22,13 +22,13 @@ width_of count = 96 + max 3 (min count ACROSS) * 160
 abbrev pub height_of : ℕ → ℕ
 height_of count = 40 + (count + (ACROSS - 1)) / ACROSS * 196
 
--- what stands above the columns
+-- what is above the columns
 abbrev pub heading_of : ℕ → List ℕ
 heading_of count =
     if count == 0 then codes "Nothing moves: each root key keeps its owner."
     else codes "Root keys that move: from the left number to before the right one. Not to scale."
 
--- what stands left of the first column of each line
+-- what is to the left of the first column of each line
 abbrev pub names_of : ℕ → List ℕ
 names_of i =
     if i % ACROSS == 0
@@ -42,7 +42,7 @@ origin_text i =
     concat (codes "<g transform=\"translate(" ∷ decimal (96 + i % ACROSS * 160) ∷ codes "," ∷ decimal (40 + i / ACROSS * 196)
     ∷ codes ")\">\n" ∷ [])
 
--- that, and what stands left of it
+-- that, and what is to the left of it
 abbrev pub place_text : ℕ → List ℕ
 place_text i = origin_text i ++ names_of i
 
@@ -124,7 +124,7 @@ column_text recon numbered = open_column_text recon numbered ++ column_end
 abbrev pub frame_text : ℕ → List ℕ
 frame_text count = start_text (width_of count) (height_of count) (codes "What moves")
 
--- what stands above them
+-- what is above them
 abbrev pub heading_text : ℕ → List ℕ
 heading_text count = words_text (codes "start") 8 24 (heading_of count)
 

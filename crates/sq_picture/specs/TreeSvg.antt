@@ -51,7 +51,7 @@ status_label x y (Complete p) = number_text (codes "end") x y (codes "complete, 
 abbrev pub words_at : ℕ → ℕ → ℕ → Status → List ℕ
 words_at x y n status = number_text (codes "start") x y (codes "") n ++ status_label (x + 134) y status
 
--- what stands in a node's box
+-- what is in a node's box
 abbrev pub said_text : ℕ → Status → List ℕ
 said_text n status = words_at (left_of n + 5) (top_of n + 13) n status
 
@@ -59,7 +59,7 @@ said_text n status = words_at (left_of n + 5) (top_of n + 13) n status
 abbrev pub node_text : (ℕ → Status) → ℕ → List ℕ
 node_text status n = box_text (class_of (is_live status n) (status n)) n ++ (said_text n (status n) ++ codes "</g>\n")
 
--- what stands above the nodes
+-- what is above the nodes
 abbrev pub tree_heading_text : List ℕ
 tree_heading_text =
     words_text (codes "start") 8 24

@@ -1,4 +1,4 @@
-// Ways to tell what moves: as JSON, and as a picture.
+// Ways to write what moves: as JSON, and as a picture.
 ghost use Rattle.sq_picture.specs.Json.{TellsAsJson};
 ghost use Rattle.sq_picture.specs.MovesSvg.{TellsAsSvg};
 

@@ -10,7 +10,7 @@ use sq_ranges::{Range, Recon};
 use std::io;
 use std::io::Write;
 
-// How many columns stand side by side.
+// How many columns are side by side.
 const ACROSS: usize = 6;
 
 // The hue of a partition's colour, in degrees.
@@ -34,14 +34,13 @@ fn width_of(count: usize) -> usize
     96 + count.min(ACROSS).max(3) * 160
 }
 
-// Its height.
 fn height_of(count: usize) -> u128
     ensures { result ≡ height_of count }
 {
     40 + (count as u128 + (ACROSS as u128 - 1)) / ACROSS as u128 * 196
 }
 
-// What stands above the columns.
+// What is above the columns.
 fn heading_of(count: usize) -> &'static str
     ensures { result.now ≡ heading_of count }
 {
@@ -52,7 +51,7 @@ fn heading_of(count: usize) -> &'static str
     }
 }
 
-// What stands left of the first column of each line.
+// What is to the left of the first column of each line.
 fn names_of(i: usize) -> &'static str
     ensures { result.now ≡ names_of i }
 {
@@ -73,14 +72,14 @@ fn write_origin<W: Write>(writer: &mut W, i: usize) -> io::Result<()>
     writeln!(writer, "<g transform=\"translate({x},{y})\">")
 }
 
-// Writes what stands left of a column.
+// Writes what is to the left of a column.
 fn write_names<W: Write>(writer: &mut W, i: usize) -> io::Result<()>
     ensures { OnOk result (Appends (W.contents writer.old) (W.contents writer.new) (names_of i)) }
 {
     writer.write_all(names_of(i).as_bytes())
 }
 
-// Writes where a column begins, and what stands left of it.
+// Writes where a column begins, and what is to the left of it.
 fn write_place<W: Write>(writer: &mut W, i: usize) -> io::Result<()>
     ensures { OnOk result (Appends (W.contents writer.old) (W.contents writer.new) (place_text i)) }
 {
@@ -265,7 +264,7 @@ fn write_frame<W: Write>(writer: &mut W, count: usize) -> io::Result<()>
     write_start(writer, width_of(count), height_of(count), "What moves")
 }
 
-// Writes what stands above so many columns.
+// Writes what is above so many columns.
 fn write_heading<W: Write>(writer: &mut W, count: usize) -> io::Result<()>
     ensures { OnOk result (Appends (W.contents writer.old) (W.contents writer.new) (heading_text count)) }
 {

@@ -128,7 +128,7 @@ fn write_at<W: Write>(writer: &mut W, x: u64, y: u64, number: u64, status: Statu
     write_status(writer, x + 134, y, status)
 }
 
-// Writes what stands in a node's box.
+// Writes what is in a node's box.
 fn write_said<W: Write>(writer: &mut W, node: NodeId, status: Status) -> io::Result<()>
     ensures { OnOk result (Appends (W.contents writer.old) (W.contents writer.new) (said_text node status)) }
 {
@@ -162,7 +162,7 @@ fn write_nodes<W: Write>(writer: &mut W, tree: &PlainTree) -> io::Result<()>
     Ok(())
 }
 
-// Writes what stands above the nodes.
+// Writes what is above the nodes.
 fn write_heading<W: Write>(writer: &mut W) -> io::Result<()>
     ensures { OnOk result (Appends (W.contents writer.old) (W.contents writer.new) tree_heading_text) }
 {

@@ -15,7 +15,7 @@ use Rattle.sq_plan.specs.declared.fault.PlanFault.TheVariants.{PartitionCount, R
 use Rattle.sq_plan.specs.PlanValue.{PlanValue, IsPlan, is_tiling}
 use Rattle.sq_plan.specs.Reading.{check, checked, version_by, parts_limit_by}
 
--- what the checks come to, the last of them being which version it is
+-- the outcome of the checks; the last of them is which version it is
 abbrev pub outcome : Bool → Bool → Bool → Bool → Option Version → ℕ → List PlanRange → Result PlanValue PlanFault
 outcome false few tiling owned version parts ranges = Err PartitionCount
 outcome true false tiling owned version parts ranges = Err TooManyRanges
@@ -65,7 +65,7 @@ passes true true true true (Some version) parts ranges plan is =
     same_Ok : (a b : PlanValue) → (let r : Result PlanValue PlanFault = Ok a in r) ≡ Ok b → a ≡ b
     same_Ok a b same = cc
 
--- the version that is told allows as many partitions as what told it
+-- the version allows as many partitions as the one that it was read from
 limit_by : (stages : Option (List ℕ)) (version : Version) → version_by stages ≡ Some version → parts_limit_by stages ≡ parts_limit version
 limit_by None version is = ap parts_limit (same_Some _ _ is)
 limit_by (Some name) version is = by_name (stages_named name) is
@@ -74,7 +74,7 @@ limit_by (Some name) version is = by_name (stages_named name) is
     by_name None is = absurd cc
     by_name (Some stages) is = ap parts_limit (same_Some _ _ is)
 
--- what passes the checks is a plan of these partitions and ranges, and of the version that is told
+-- what passes the checks is a plan of these partitions and ranges, and of the version
 pub record IsChecked (stages : Option (List ℕ)) (parts : ℕ) (ranges : List PlanRange) (plan : PlanValue) : Type 0 where
   pub is_plan : IsPlan plan
   pub told : version_by stages ≡ Some plan.version

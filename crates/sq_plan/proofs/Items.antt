@@ -13,7 +13,7 @@ use Rattle.sq_plan.specs.PlanValue.{is_tiling}
 use Rattle.sq_plan.specs.PlanFields.{layout}
 use Rattle.sq_plan.specs.Reading.{range_in, range_of_items, ranges_in}
 
--- what the items from here on come to, after those before
+-- the result of the items from here on, after those before
 abbrev pub walk : ℕ → ℕ → Bool → Bool → Items → Option Layout
 walk parts lo ordered owned no_items = Some (record { tiling = ordered && eqb lo ROOT_END; owned = owned })
 walk parts lo ordered owned (item value values) =

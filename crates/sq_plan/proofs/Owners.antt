@@ -106,7 +106,6 @@ find_at_point plan ranges key i d is_plan same high le clause =
     let P : List PlanRange → Type 0 = λ rs. (i < length rs) × (find (λ range. holds range key) rs ≡ Some (get_or rs i d)) in
     subst P same (find_at 0 ranges key i d tiling (omega arith) high le splits)
 
--- the owner of what was found
 pub owner_found : (plan : PlanValue) (key : ℕ) (range : PlanRange) → IsPlan plan → find (λ range. holds range key) plan.ranges ≡ Some range → (range.owner ≡ owner plan key) × (range.owner < plan.parts)
 owner_found plan key range is_plan is = (sym (ap found_owner is), ltb-true _ _ (list_all-find _ _ plan.ranges range is_plan.owners is))
 

@@ -1,4 +1,4 @@
--- The text of a plan is that of its JSON value, and is read as this value.
+-- The text of a plan is the text of its JSON value, and is read as this value.
 use Rattle.std.proofs.Common.{◌≡◌, ℕ, ◌^◌, ◌<◌, ◌≤◌, ltb, true, false, List, [], ◌∷◌, ◌++◌, Option, Some, option_map, option_and_then, decimal, codes, refl, sym, ap, ap₂, ◌∙◌, arith, append_assoc, append-nil, ok_or, Ok}
 use Rattle.std.specs.Fmt.{digits}
 use Rattle.std.specs.List.{list_all}
@@ -38,7 +38,6 @@ use Rattle.sq_plan.proofs.Tiling.{Follows-from_tiling, within}
 
 -- ---- the text of the JSON value
 
--- a range
 range_data-text : (range : PlanRange) → compact_text (range_data range) ≡ range_text range
 range_data-text range = simp append_assoc
 
@@ -56,7 +55,7 @@ ranges_data-text (range ∷ ranges) = ranges_data-text_some range ranges
 abbrev plan_with : Version → ℕ → List PlanRange → PlanValue
 plan_with version parts ranges = record { version = version; parts = parts; ranges = ranges }
 
--- what tells of the version, with the brace behind it
+-- the text of the version, with the brace behind it
 version_data-text : (version : Version) → members_text true (version_data version) ≡ codes "," ++ version_text version ++ codes "}"
 unfolding serde_json_on_literals digits
 version_data-text First = refl
@@ -166,7 +165,6 @@ read-print j value numbers flat reads =
     let back = tokens-print (json_tokens j) (ArePrintable-json_tokens j numbers) ∙ sym (append-nil (json_tokens j)) in
     ap (λ (found : Option (json.Json × List Token)). option_and_then of_json (option_and_then (λ p. json.if_last p.0 p.1) found)) (ap (json.value max_depth) back ∙ value-json_tokens j max_depth [] flat) ∙ reads
 
--- what the text is read as
 plan_text-read : (plan : PlanValue) → IsPlan plan → read (plan_text plan) ≡ Some (plan_data plan)
 plan_text-read plan is_plan =
     let printed = print-outline (plan_data plan) ∙ plan_data-text plan in

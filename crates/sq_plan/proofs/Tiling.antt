@@ -29,7 +29,6 @@ above lo (range ∷ ranges) (suc i) d tiling h =
     let more = above range.hi ranges i d one.rest (omega arith) in
     omega arith
 
--- the ends rise
 pub ends_rise : (lo : ℕ) (ranges : List PlanRange) (i j : ℕ) (d : PlanRange) → is_tiling lo ranges ≡ true → i ≤ j → j < length ranges → (get_or ranges i d).hi ≤ (get_or ranges j d).hi
 ends_rise lo [] i j d tiling le h = absurd (omega arith)
 ends_rise lo (range ∷ ranges) zero zero d tiling le h = omega arith

@@ -31,7 +31,6 @@ stages_named-is name stages is =
           ]
     ]
 
--- and a name names what has it
 pub named-stages_name : (stages : Stages) → stages_named (stages_name stages) ≡ Some stages
 unfolding stages_named
 named-stages_name One = refl
@@ -48,7 +47,7 @@ text_is (object ms) text is = absurd cc
 text_at-is : (name : List ℕ) (value : Data) (text : List ℕ) → text_at name value ≡ Some text → get name value ≡ Some (string text)
 text_at-is name value text is = option_and_then_some as_str (get name value) text is (λ d e f. e ∙ ap Some (text_is d text f))
 
--- the version is spelled that a number and what is said of stages come to
+-- the version is spelled that a number and the plan's word on stages give
 pub record IsSpelled (n : ℕ) (value : Data) (version : Version) : Type 0 where
   pub has_number : n ≡ version_number version
   pub has_stages : SpellsStages value version

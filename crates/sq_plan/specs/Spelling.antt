@@ -34,7 +34,7 @@ pub record Spells (value : Data) (plan : PlanValue) : Type 0 where
   pub ranges : get (codes "ranges") value ≡ Some (array (ranges_data plan.ranges))
   pub stages : SpellsStages value plan.version
 
--- the fields that tell of the version
+-- the fields of the version
 abbrev pub version_data : Version → Members
 version_data First = member (codes "version") (number_data 1) no_members
 version_data (Second stages) = member (codes "stages") (string (stages_name stages)) (member (codes "version") (number_data 2) no_members)

@@ -8,7 +8,7 @@ use thiserror::Error;
 
 /// Why bytes weren't read as a plan. The checks come in this order, and the first that fails is the fault: `NotJson`,
 /// `Shape` for the object and its version, `Version`, `Shape` for the other fields, `PartitionCount`, `TooManyRanges`,
-/// `RangeOrder`, `PartitionNumber`, `BadStages`. What each means stands in the table of `sq_explain`, by its number.
+/// `RangeOrder`, `PartitionNumber`, `BadStages`. The table of `sq_explain` says what each means, by its number.
 #[derive(Clone, Copy, Debug, PartialEq, Eq, Error)]
 #[error("{}", meaning(self.number()))]
 pub enum PlanFault {

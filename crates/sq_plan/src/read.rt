@@ -83,7 +83,7 @@ fn whole_number(value: &Value, name: &str) -> Option<u64>
     value.get(name).and_then(Value::as_u64)
 }
 
-/// What the items of `ranges` come to, each of them three whole numbers.
+/// The result of the items of `ranges`, each of them three whole numbers.
 #[derive(Clone, Copy)]
 struct Layout {
     /// The ranges follow one another from 0 to the end of the root keys, none of them empty.
@@ -92,7 +92,7 @@ struct Layout {
     owned: bool,
 }
 
-// What the items come to; `None` where one isn't three whole numbers.
+// The result of the items; `None` where one isn't three whole numbers.
 fn layout_of(items: &[Value], parts: u64) -> Option<Layout>
     ensures { result ≡ option_map (layout parts) (ranges_in (items_view items.now)) }
 {
@@ -222,7 +222,6 @@ fn heading_of(fields: PlanFields<'_>) -> Result<Heading, PlanFault>
     }
 }
 
-// The ranges of the items.
 fn ranges_of(alloc: Global, items: &[Value]) -> Result<Vec<PlanRange>, AllocError>
     requires { IsSomeAnd (ranges_in (items_view items.now))
         (λ ranges. list_all (λ range. nat_lt range.owner (2 ^ 8)) ranges ≡ true) }

@@ -11,20 +11,20 @@ pub record RepliesValue : Type 0 where
   pub ids : List ℕ
   pub told : List ToldAnswer
 
--- what was told of the job with this id
+-- the answer of the job with this id
 abbrev pub told_of : List ToldAnswer → ℕ → Option ToldAnswer
 told_of told id = find (λ (one : ToldAnswer). one.id == id) told
 
--- the line of it; none where nothing was told
+-- the line of it; none where there is no answer
 abbrev pub reply_lines : List ToldAnswer → ℕ → List ℕ
 reply_lines told id =
     option_map_or (λ (one : ToldAnswer). answer_line one.answer) (told_of told id) []
 
--- of how many jobs nothing was told
+-- how many jobs have no answer
 abbrev pub unanswered_count : RepliesValue → ℕ
 unanswered_count r = count_by (λ id. not (is_some (told_of r.told id))) r.ids
 
--- what is told with a receipt more: of several of one id the first
+-- the answers with one receipt more: of several of one id the first counts
 abbrev pub told_after : List ToldAnswer → ReceiptValue → List ToldAnswer
 told_after told receipt =
     if is_some (told_of told receipt.id) then told

@@ -36,7 +36,7 @@ impl Model for Replies {
 }
 
 impl Replies {
-    /// Of no jobs.
+    /// Replies of no jobs.
     pub fn new(alloc: Global) -> Replies
         ensures { result ≡ record { ids = []; told = [] } }
     {
@@ -54,7 +54,7 @@ impl Replies {
         Ok(())
     }
 
-    /// Takes what receipts tell. Of several with one id the first counts.
+    /// Takes the answers of receipts. Of several with one id the first counts.
     pub fn take(&mut self, receipts: &[Receipt]) -> Result<(), AllocError>
         ensures { OnOk result
             (self.new ≡ record self.old { told = fold told_after self.old.told receipts.now }) }
@@ -65,7 +65,7 @@ impl Replies {
         Ok(())
     }
 
-    // Takes what a receipt tells, unless one with its id was taken.
+    // Takes the answer of a receipt, unless one with its id was taken.
     fn take_one(&mut self, receipt: &Receipt) -> Result<(), AllocError>
         ensures { OnOk result
             (self.new ≡ record self.old { told = told_after self.old.told receipt.now }) }
@@ -84,7 +84,7 @@ impl Replies {
         Ok(())
     }
 
-    // What was told of the job with this id.
+    // The answer of the job with this id.
     fn told(&self, id: u64) -> Option<&ToldAnswer>
         ensures { option_copied result ≡ told_of self.now.told id }
     {

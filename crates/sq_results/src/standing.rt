@@ -67,7 +67,6 @@ fn write_sorted<W: Write>(writer: &mut W, mut families: Vec<&Family>) -> io::Res
     write_families(writer, &families)
 }
 
-// Adds the families of a store.
 fn add_store<'a>(families: &mut Vec<&'a Family>, store: &'a RunStore) -> Result<(), AllocError>
     ensures { OnOk result (lent_values families.new.items
         ≡ lent_values families.old.items ++ families_in store.now) }
@@ -78,7 +77,6 @@ fn add_store<'a>(families: &mut Vec<&'a Family>, store: &'a RunStore) -> Result<
     Ok(())
 }
 
-// Adds the families of chunks.
 fn add_chunks<'a>(families: &mut Vec<&'a Family>, chunks: &'a [Chunk]) -> Result<(), AllocError>
     ensures { OnOk result (lent_values families.new.items
         ≡ lent_values families.old.items ++ carried chunks.now) }
@@ -89,7 +87,6 @@ fn add_chunks<'a>(families: &mut Vec<&'a Family>, chunks: &'a [Chunk]) -> Result
     Ok(())
 }
 
-// Adds the families of a chunk.
 fn add_chunk<'a>(families: &mut Vec<&'a Family>, chunk: &'a Chunk) -> Result<(), AllocError>
     ensures { OnOk result (lent_values families.new.items
         ≡ lent_values families.old.items ++ chunk.now.families) }

@@ -24,14 +24,14 @@ pub struct RowLines<R: Read> {
     place: RowPlace,
 }
 
-/// Where the reading stands.
+/// Where the reading is.
 #[derive(Clone, Copy, Debug, PartialEq, Eq)]
 pub(crate) enum RowPlace {
-    /// In a line of which so many bytes were given, all of them of its front.
+    /// In a line; so many of its bytes were given, all of them of its front.
     Front(usize),
     /// In a line, behind its front.
     Within,
-    /// In the line that is no row's, of which so many bytes were given.
+    /// In the line that is no row's; so many of its bytes were given.
     NoRow(usize),
 }
 

@@ -9,7 +9,7 @@ use Rattle.sq_rows.specs.Values.{RowValue}
 use Rattle.sq_rows.specs.RowList.{RowList}
 use Rattle.sq_rows.specs.Equal.{row_eq, row_key_eq, rows_eq}
 
--- a value of two parts, each of which a test decides
+-- a value of two parts, decided by a test each
 pub both : {A B C : Type 0} (f : A → B → C) (p q : Bool) (a a' : A) (b b' : B) → Decides p (a ≡ a') → Decides q (b ≡ b') → (f a b ≡ f a' b' → (a ≡ a') × (b ≡ b')) → Decides (p && q) (f a b ≡ f a' b')
 both f p q a a' b b' one other parts = Decides-like (p && q) (λ same. let first = same.0 in let second = same.1 in cc) parts (Decides-and p q one other)
 

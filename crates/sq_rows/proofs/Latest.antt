@@ -1,4 +1,4 @@
--- The row of a key after writes is that of the last write of it.
+-- The row of a key after writes is the row of its last write.
 use Rattle.std.proofs.Common.{◌≡◌, ℕ, Bool, true, false, cond, not, ◌&&◌, ◌==◌, List, [], ◌∷◌, ◌++◌, reverse, length, ◌≤◌, Some, None, Option, IfSome, refl, sym, ap, ◌∙◌, arith}
 use Rattle.std.specs.List.{find as find_in, AllPass}
 use Rattle.std.specs.Option.{option_copied}

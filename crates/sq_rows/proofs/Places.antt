@@ -46,7 +46,7 @@ module _ {K X : Type 0} (R : K → K → Ordering) (o : IsTotalOrder R) (es : Li
     some_entry : length es - 1 < length es
     some_entry = slice_get_within es (length es - 1) last stands
 
-    -- what the last entry's key is to the key, that of the entry at the end is to it
+    -- the order of the last entry's key and the key is the order of the key at the end and it
     at_end : (order : Ordering) → R last.0 key ≡ order → (d : K × X) → R (get_or es (length es - 1) d).0 key ≡ order
     at_end order is d = ap (λ (entry : K × X). R entry.0 key) (get_or_from_slice_get es (length es - 1) last d stands) ∙ is
 

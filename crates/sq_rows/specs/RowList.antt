@@ -22,6 +22,6 @@ row_at rows key = find key_cmp key rows
 abbrev pub with_row : RowList → RowKey → RowValue → RowList
 with_row rows key row = put key_cmp key row rows
 
--- the rows without that of a key
+-- the rows without the row of a key
 abbrev pub without_row : RowList → RowKey → RowList
 without_row rows key = where_key key_cmp (λ other. not (eq_by_cmp key_cmp key other)) rows

@@ -23,8 +23,8 @@ use std::slice;
 /// From this many rows on a list moves none of them to make a write.
 const MAX_MOVED: usize = 128;
 
-/// Rows by key in rising order, of which one alone takes no memory of its own: most root keys have one. They lie in a
-/// list up to the first write that would move many of them, and from then on in a map.
+/// Rows by key in rising order; one alone takes no memory of its own: most root keys have one. They lie in a list up to
+/// the first write that would move many of them, and from then on in a map.
 #[derive(Drop)]
 pub(crate) enum EntryList {
     One((RowKey, Row)),
@@ -227,7 +227,7 @@ impl EntryList {
         Ok(())
     }
 
-    // Whether no other row stands in a list than that of this key.
+    // Whether no row stands in a list but this key's.
     fn stands_alone(&self, key: RowKey) -> bool
         ensures { IsTrue result → StandsAlone (entries_of self.now) key }
     {

@@ -75,7 +75,6 @@ fn put_back(rows: &mut BTreeMap<RowKey, Row>, key: RowKey, old: Option<Row>)
     };
 }
 
-// Whether one of these writes is of this key.
 fn is_written(writes: &[RowWrite], key: RowKey) -> bool
     ensures { result ≡ is_some (last_write writes.now key) }
 {

@@ -110,7 +110,7 @@ impl Rows {
         rows.into_first()
     }
 
-    /// Makes these writes in their order, or none where there is no memory. The size is that of the rows afterwards.
+    /// Makes these writes in their order, or none where there is no memory. The size is the one of the rows afterwards.
     pub fn write_all(&mut self, writes: ShortList<RowWrite>, size: u64) -> Result<(), AllocError>
         requires writes { AllPass is_write (short_items writes) }
         requires size { size ≡ rows_size (with_writes self.old (short_items writes)) }

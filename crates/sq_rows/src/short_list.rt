@@ -7,7 +7,7 @@ use std::alloc::{AllocError, Global};
 use std::mem::replace;
 use std::slice;
 
-/// Items in their order, of which one alone takes no memory of its own: most transactions have one operation.
+/// Items in their order; one alone takes no memory of its own: most transactions have one operation.
 #[derive(Clone, Drop)]
 pub enum ShortList<T> {
     One(T),

@@ -80,10 +80,10 @@ impl StageRun {
         })
     }
 
-    /// The stage after the one of which this was gathered, as [`reopen`] opens it.
+    /// The stage after the one that this was gathered of, as [`reopen`] opens it.
     ///
-    /// Where it doesn't have the families and the jobs of as many partitions, where there is no such stage, and where there is no
-    /// memory, what was gathered comes back as it was.
+    /// Where it doesn't have the families and the jobs of as many partitions, where there is no such stage, and where
+    /// there is no memory, what was gathered comes back as it was.
     pub fn next_stage(
         alloc: Global,
         opening: &Opening,

@@ -71,7 +71,7 @@ runs_kept hi (run ∷ runs) are = by_test (has_some run) (runs_kept hi runs are.
         (omega (arith, are.0, more), within_wider run.lo (first_bound hi runs) run.lo (first_bound hi (filter has_some runs)) run.families.items are.1 (omega arith) more, rest)
     by_test false rest = rest
 
--- runs of which those before a place are folded
+-- runs with those before a place folded
 pub record IsFoldedTo (old now : List FamilyRun) (at : ℕ) : Type 0 where
   pub front : families_in_runs (take at now) ≡ folded_families (families_in_runs (take at old))
   pub back : drop at now ≡ drop at old

@@ -33,7 +33,6 @@ between_one store root by =
     let found = family_in-between root (root + 1) store root (rooted_by store by) ∙ ap (λ b. cond b (get store root) None) (between_from root (root + 1) root (omega arith) (omega arith)) in
     alone root (families_between store root (root + 1)) (within-between root (root + 1) store (rooted_by store by)) ∙ ap option_to_list found
 
--- without them it is without that one
 pub without_one : (store : StoreValue) (root : ℕ) → without_between store root (root + 1) ≡ remove store root
 without_one store root =
     same_store (without_between store root (root + 1)) (remove store root) (λ q.

@@ -46,7 +46,6 @@ module _ (old now : List FamilyRun) (lo hi at : ℕ) (are : AreRuns ROOT_END now
     pub next_rises : roots_rise run.families.items ≡ true
     next_rises = ap (λ (r : FamilyRun). roots_rise r.families.items) is ∙ each_rises ROOT_END now are at run within_now
 
-    -- there is room for what it has
     pub room_for : (taken room : ℕ) → AreRuns ROOT_END old → taken + length (families_between (store_of_runs old) lo hi) ≤ room → taken + length (between lo hi (families_in_runs (take at old))) + length (between lo hi run.families.items) ≤ room
     room_for taken room were enough =
         let own = between lo hi run.families.items in

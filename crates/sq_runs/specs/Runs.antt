@@ -28,8 +28,8 @@ abbrev pub first_bound : ℕ → List FamilyRun → ℕ
 first_bound hi [] = hi
 first_bound hi (run ∷ runs) = run.lo
 
--- the families of each run rise from its bound on and below that of the next run, and those of the last run below this
--- number
+-- the families of each run rise from its bound on and below the bound of the next run, and those of the last run below
+-- this number
 abbrev pub AreRuns : ℕ → List FamilyRun → Type 0
 AreRuns hi [] = ⊤
 AreRuns hi (run ∷ runs) =

@@ -58,7 +58,6 @@ pub(crate) fn first_from(runs: &[FamilyRun], key: u64) -> Option<&Family>
     first_of(&runs[next..])
 }
 
-// The first family of runs.
 fn first_of(runs: &[FamilyRun]) -> Option<&Family>
     ensures { option_copied result ≡ slice_get (families_in_runs runs.now) 0 }
 {

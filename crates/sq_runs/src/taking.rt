@@ -65,7 +65,7 @@ fn fit_in(families: &[Family], room: u64) -> (usize, u64)
 }
 
 // Takes the families from one number on and below another out, and puts them after those that are there. There is room
-// for them. A run of which all are taken stays until the store is folded.
+// for them. A run without families stays until the store is folded.
 pub(crate) fn take_between(runs: &mut Vec<FamilyRun>, lo: u64, hi: u64, taken: &mut Vec<Family>)
     requires bounds { lo ≤ hi }
     requires runs { AreRuns ROOT_END runs.old.items }

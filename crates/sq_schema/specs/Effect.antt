@@ -20,7 +20,7 @@ abbrev pub is_i64 : ℤ → Bool
 is_i64 (pos n) = nat_lt n (2 ^ 63)
 is_i64 (negsuc n) = nat_lt n (2 ^ 63)
 
--- what an operation comes to: the rows after it and its answer, or why it aborts
+-- the outcome of an operation: the rows after it and its answer, or why it aborts
 abbrev pub OpOutcome : Type 0
 OpOutcome = Result (RowList × OpAnswer) Cause
 
@@ -48,7 +48,7 @@ abbrev pub check_outcome : RowList → ℤ → Option RowValue → OpOutcome
 check_outcome rows least None = Err Absent
 check_outcome rows least (Some row) = if is_lt (int_cmp row.number least) then Err Small else Ok (rows, Done)
 
--- what this operation comes to
+-- the outcome of this operation
 abbrev pub op_outcome : RowList → Op → OpOutcome
 op_outcome rows (Get key) = Ok (rows, Found (row_at rows key))
 op_outcome rows (Put key row) = put_outcome rows key row
@@ -56,11 +56,11 @@ op_outcome rows (Add key by) = add_outcome rows key by (row_at rows key)
 op_outcome rows (Del key) = del_outcome rows key (row_at rows key)
 op_outcome rows (Check key least) = check_outcome rows least (row_at rows key)
 
--- what operations come to: the rows after them and their answers, or the position and the cause of the first abort
+-- the outcome of operations: the rows after them and their answers, or the position and the cause of the first abort
 abbrev pub OpsOutcome : Type 0
 OpsOutcome = Result (RowList × List OpAnswer) (ℕ × Cause)
 
--- what the rest comes to, with the answer before those of the rest
+-- the outcome of the rest, with the answer before those of the rest
 abbrev pub with_answer : OpAnswer → OpsOutcome → OpsOutcome
 with_answer answer (Ok told) = Ok (told.0, answer ∷ told.1)
 with_answer answer (Err abort) = Err abort
@@ -70,7 +70,7 @@ abbrev pub then_rest : ℕ → (RowList → OpsOutcome) → OpOutcome → OpsOut
 then_rest at rest (Ok done) = with_answer done.1 (rest done.0)
 then_rest at rest (Err cause) = Err (at, cause)
 
--- what these operations come to, of which the first has this position
+-- the outcome of these operations; the first has this position
 abbrev pub ops_outcome : ℕ → List Op → RowList → OpsOutcome
 ops_outcome at [] rows = Ok (rows, [])
 ops_outcome at (op ∷ ops) rows = then_rest at (ops_outcome (at + 1) ops) (op_outcome rows op)
@@ -80,7 +80,7 @@ abbrev pub rows_after : RowList → OpsOutcome → RowList
 rows_after rows (Ok told) = told.0
 rows_after rows (Err abort) = rows
 
--- what a transaction is answered whose operations come to this
+-- the answer to a transaction whose operations have this outcome
 abbrev pub reply_of : OpsOutcome → Reply
 reply_of (Ok told) = Committed told.1
 reply_of (Err abort) = Aborted abort.0 abort.1

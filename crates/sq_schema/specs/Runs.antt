@@ -1,4 +1,4 @@
--- What running operations comes to in the code.
+-- The outcome of running operations in the code.
 use Rattle.std.specs.Prelude.{◌≡◌, ⊤, List, Result, Ok, Err}
 use Rattle.std.specs.List.{AllPass}
 use Rattle.sq_schema.specs.declared.txn.Op.{Op}

@@ -51,8 +51,8 @@ impl Family {
         }
     }
 
-    /// A family of this root key that starts from these rows, of which those of other tables stand only under the
-    /// root row. Where there is no memory for it they come back.
+    /// A family of this root key that starts from these rows; those of other tables stand only under the root row.
+    /// Where there is no memory for it they come back.
     pub fn opened(alloc: Global, root: Root, rows: Rows) -> Result<Family, Rows>
         requires { IsTrue (is_rooted rows) }
         ensures ok { IfOk result (λ family. family ≡ record { root = root; base = rows; log = [] }) }
@@ -107,7 +107,7 @@ impl Family {
         self.root
     }
 
-    /// The rows, of which those of other tables stand only under the root row.
+    /// The rows; those of other tables stand only under the root row.
     pub fn rows(&self) -> &Rows
         ensures rows { result.now ≡ rows_of self.now }
         ensures rooted { IsTrue (is_rooted result.now) }

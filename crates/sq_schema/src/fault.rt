@@ -1,5 +1,5 @@
 // Why something was refused, in the order in which the causes are looked at. The number of a variant is what a user
-// sees of it; what it means stands in the table of `sq_explain`.
+// sees of it; the table of `sq_explain` says what it means.
 ghost use Rattle.std.specs.Prelude.{◌≡◌};
 ghost use Rattle.sq_schema.specs.Fault.{txn_fault_number, apply_fault_number, row_fault_number};
 

@@ -1,4 +1,4 @@
-//! What the definitions come to. The functions do nothing: each states a law, which the checker proves.
+//! What follows from the definitions. The functions do nothing: each states a law, which the checker proves.
 ghost use Rattle.std.specs.Prelude.{◌≡◌, ◌↔◌, ℕ, List, IsTrue, [], ◌∷◌, ◌++◌, pos, Some, None};
 ghost use Rattle.sq_schema.specs.declared.txn.OpAnswer.TheVariants.{Found, Number, Done};
 ghost use Rattle.sq_schema.specs.declared.txn.Cause.TheVariants.{Absent, Small, Range, NoRoot, Children};

@@ -58,7 +58,7 @@ impl LoggedRows {
         self.base = None;
     }
 
-    /// Makes these writes in their order, or none where there is no memory. The size is that of the rows afterwards.
+    /// Makes these writes in their order, or none where there is no memory. The size is the one of the rows afterwards.
     pub(crate) fn write_all(
         &mut self,
         alloc: Global,

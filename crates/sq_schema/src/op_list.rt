@@ -10,8 +10,8 @@ use std::fmt::{self, Debug, Formatter, Write};
 use std::slice;
 use std::sync::ArcSlice;
 
-/// Operations, of which one alone takes no memory of its own: most transactions have one, and logs hold many. Copies of
-/// shared ones are the same in memory.
+/// Operations; one alone takes no memory of its own: most transactions have one, and logs hold many. Copies of shared
+/// ones are the same in memory.
 #[derive(Clone, Drop)]
 pub(crate) enum OpList {
     One(Op),

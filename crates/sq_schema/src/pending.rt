@@ -46,7 +46,7 @@ pub(crate) enum Stop {
     Memory,
 }
 
-/// What running operations comes to.
+/// The outcome of running operations.
 #[derive(Drop)]
 pub(crate) struct RunOutcome {
     /// What their transaction is answered.
@@ -87,7 +87,7 @@ impl<'a> PendingRows<'a> {
     ghost use Rattle.sq_schema.specs.Pending.{pending_rows};
     ghost use Rattle.sq_schema.specs.Runs.{ComesTo};
 
-    // These rows without writes, of which there will be this many at most.
+    // These rows without writes; there will be this many at most.
     fn new(alloc: Global, rows: &'a Rows, most: usize) -> PendingRows<'a>
         ensures rows { result.base ≡ rows.now }
         ensures writes { result.writes ≡ [] }

@@ -146,8 +146,8 @@ impl Table {
         self.rows.put_row(root, key, row)
     }
 
-    /// Gives a root key these rows, in place of those that it has: some rows, of which those of other tables stand under
-    /// the root row. Where there is no memory nothing changes, and the rows come back.
+    /// Gives a root key these rows, in place of those that it has: some rows, with those of other tables under the root
+    /// row. Where there is no memory nothing changes, and the rows come back.
     pub fn set(&mut self, root: Root, rows: Rows) -> Result<(), AllocFailed<Rows>>
         requires { is_opening rows ≡ true }
         ensures ok { OnOk result ((k : ℕ) → rows_in self.new k ≡ with_rows (rows_in self.old) root rows k) }

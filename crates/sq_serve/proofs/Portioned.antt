@@ -25,7 +25,7 @@ on false lines xs ys few same =
     let left : suc lines - count ≡ suc lines - (0 + count) = omega arith in
     same (suc lines) (omega (arith, few)) ∙ ap (λ n. xs ++ portion_bytes n ys) left
 
--- few bytes are in the portion, and it goes on behind them with as many lines less as end in them
+-- few bytes are in the portion, and it continues behind them with as many lines less as end in them
 goes_on : (lines : ℕ) (xs ys : List ℕ) → length xs ≤ lines
     → portion_bytes lines (xs ++ ys) ≡ xs ++ portion_bytes (lines - count_by (λ byte. byte == 10) xs) ys
 unfolding portion_bytes

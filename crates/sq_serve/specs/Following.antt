@@ -10,6 +10,6 @@ abbrev pub following_left : FollowingPlace → Option (List ℕ) → Option (Lis
 following_left (First at_start) first second = ended_text at_start second first
 following_left Second first second = second
 
--- what is left, where that of the readers is known
+-- what is left, where it is known what the readers have left
 abbrev pub following_remaining : {A B : Type 0} → (A → Option (List ℕ)) → (B → Option (List ℕ)) → Following A B → Option (List ℕ)
 following_remaining first second r = following_left r.place (first r.first) (second r.second)

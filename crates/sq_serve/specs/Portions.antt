@@ -16,6 +16,6 @@ portion_of lines known = option_map (portion_bytes lines) known
 abbrev pub unread : {R : Type 0} → (R → Option (List ℕ)) → Portions R → Option (List ℕ)
 unread remaining p = remaining p.reader
 
--- what is left of a portion, where that of the reader is known
+-- what is left of a portion, where it is known what the reader has left
 abbrev pub portion_remaining : {R : Type 0} → (R → Option (List ℕ)) → Portions R → Option (List ℕ)
 portion_remaining remaining p = portion_of p.lines_left (unread remaining p)

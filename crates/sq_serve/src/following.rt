@@ -20,7 +20,7 @@ pub struct Following<A: Read, B: Read> {
     place: FollowingPlace,
 }
 
-/// Where the reading stands.
+/// Where the reading is.
 #[derive(Clone, Copy, Debug, PartialEq, Eq)]
 pub(crate) enum FollowingPlace {
     /// In the first reader, at the start of a line of it or within one.

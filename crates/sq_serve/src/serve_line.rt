@@ -17,11 +17,11 @@ use std::alloc::{AllocError, Global};
 /// What a line behind the header asks of an engine.
 #[derive(Debug, Drop)]
 pub enum ServeLine {
-    /// That a job is posted: a transaction, to the partition with this number.
+    /// A job is posted: a transaction, to the partition with this number.
     Job { part: u64, txn: Txn },
-    /// That rows move to the places of this plan.
+    /// Rows move to the places of this plan.
     Move(Plan),
-    /// That what was answered is audited, and the logs folded.
+    /// What was answered is audited, and the logs folded.
     Fold,
     /// How far a move is.
     Status,

@@ -1,4 +1,4 @@
--- What is told of the opening of an input.
+-- What is written of the opening of an input.
 use Rattle.std.proofs.Common.{◌≡◌, ℕ, List, [], Option, inl, inr, refl, subst}
 use Rattle.std.specs.Prelude.{None, Result, Ok, Err, IfOk}
 use Rattle.std.specs.Io.KnownBytes.{Appends}
@@ -15,13 +15,13 @@ use Rattle.sq_world.specs.declared.ending.Ending.{Ending}
 use Rattle.sq_world.specs.Run.{IsFault, EndsAtFault}
 use Rattle.sq_sizes.specs.Asked.{IsAnswerOf, TellsOpeningOfLines, TellsOrRefusesOf}
 
--- there was no memory to tell it, and nothing of it was written
+-- there was no memory for it, and nothing of it was written
 pub not_told : {E : Type 0} (tells : OpeningValue → List ℕ → Type 0) (r : Result Ending E) (o : OpeningValue) (fault : LocatedFault) (before mid now : Option (List ℕ)) → fault ≡ located Memory None → Appends before mid []
     → IfOk r (EndsAtFault fault mid now) → IfOk r (TellsOrRefusesOf tells o before now)
 not_told tells (Err e) o fault before mid now is nothing wrote = tt
 not_told tells (Ok ending) o fault before mid now is nothing wrote = (wrote.0, both before mid now [] wrote.0 wrote.0 nothing wrote.1 refl, inr (subst (λ f. IsFault f wrote.0 ending) is wrote.2))
 
--- it was told of the opening that the header spells
+-- the text is of the opening that the header spells
 pub answered : {E : Type 0} (tells : OpeningValue → List ℕ → Type 0) (r : Result Ending E) (tables : ℕ) (o : OpeningValue) (begin lines : LinesValue) (before now : Option (List ℕ)) → tables ≡ MAX_TABLES
     → Leaves begin lines (λ all left. Opens tables (Ok o) left (header_of tables all))
     → IfOk r (TellsOrRefusesOf tells o before now) → IfOk r (TellsOpeningOfLines tells MAX_TABLES begin before now)

@@ -27,7 +27,7 @@ captioned r o i range recon size a b c d is sized column caption end =
     (Appends-trans b c d (caption_text own) column_end caption_is ended))
     end
 
--- a picture: what stands above so many columns, these, and its end
+-- a picture: what is above so many columns, these, and its end
 pub pictured : {T E : Type 0} (r : Result T E) (o : OpeningValue) (ranges : List Range) (a b c d : Option (List ℕ)) → ranges ≡ o.recon.ranges → Appends a b (top_text (length ranges))
     → Appends b c (flat_map (sized_column o) (enumerate_from 0 o.recon.ranges)) → OnOk r (Appends c d end_text) → OnOk r (Appends a d (sizes_svg o))
 pictured r o ranges a b c d are top columns end =

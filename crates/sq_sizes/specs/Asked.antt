@@ -1,4 +1,4 @@
--- What is told of an opening.
+-- What is written of an opening.
 use Rattle.std.specs.Prelude.{◌≡◌, ◌⊎◌, ℕ, List, [], Option, None, Ok, Err}
 use Rattle.std.specs.Io.KnownBytes.{Appends}
 use Rattle.sq_ranges.specs.OpeningValue.{OpeningValue}
@@ -15,19 +15,19 @@ use Rattle.sq_world.specs.declared.telling.Told.TheVariants.{Written, NoMemory}
 use Rattle.sq_world.specs.Inputs.{Writing, OfLines, OfReader}
 use Rattle.sq_world.specs.Run.{IsFault}
 
--- a text that tells of an opening goes to the end of what a writer holds; where there was no memory for it, nothing does
+-- a text of an opening goes to the end of what a writer holds; where there was no memory for it, nothing does
 abbrev pub IsToldOf : (OpeningValue → List ℕ → Type 0) → OpeningValue
     → Option (List ℕ) → Option (List ℕ) → Told → Type 0
 IsToldOf tells o before now Written = (out : List ℕ) × Appends before now out × tells o out
 IsToldOf tells o before now NoMemory = Appends before now []
 
--- what tells of an opening is all that is written, or else that memory ran out
+-- a text of an opening is all that is written, or else that memory ran out
 abbrev pub IsToldOrRefusedOf : (OpeningValue → List ℕ → Type 0)
     → OpeningValue → List ℕ → Ending → Type 0
 IsToldOrRefusedOf tells o out ending =
     (tells o out × (ending ≡ Done)) ⊎ IsFault (located Memory None) out ending
 
--- the header spells an opening, and what tells of it is all that is written
+-- the header spells an opening, and a text of it is all that is written
 pub record IsWholeAnswer (tells : OpeningValue → List ℕ → Type 0) (tables : ℕ)
     (given : List PieceValue) (out : List ℕ) (ending : Ending) : Type 0 where
   pub opening : OpeningValue
@@ -44,23 +44,23 @@ pub record IsRefusedAnswer (tables : ℕ) (given : List PieceValue) (out : List 
   pub header : Opens tables (Err fault) left (header_of tables given)
   pub wrote : IsFault fault out ending
 
--- what is told for the pieces of an input, and how that ends
+-- what is written for the pieces of an input, and how that ends
 abbrev pub IsAnswerOf : (OpeningValue → List ℕ → Type 0) → ℕ → List PieceValue
     → List ℕ → Ending → Type 0
 IsAnswerOf tells tables given out ending =
     IsWholeAnswer tells tables given out ending ⊎ IsRefusedAnswer tables given out ending
 
--- what a reader gives is answered by what tells of its opening, and that goes to the end of what a writer holds
+-- a text of its opening answers what a reader gives, and goes to the end of what a writer holds
 abbrev pub TellsOpening : (OpeningValue → List ℕ → Type 0) → ℕ
     → Option (List ℕ) → Option (List ℕ) → Option (List ℕ) → Ending → Type 0
 TellsOpening tells tables = OfReader (IsAnswerOf tells tables)
 
--- the same of what can come of a reader of lines
+-- the same of pieces that a reader of lines may give
 abbrev pub TellsOpeningOfLines : (OpeningValue → List ℕ → Type 0) → ℕ
     → LinesValue → Option (List ℕ) → Option (List ℕ) → Ending → Type 0
 TellsOpeningOfLines tells tables = OfLines (IsAnswerOf tells tables)
 
--- what tells of an opening, or that memory ran out, goes to the end of what a writer holds
+-- a text of an opening, or that memory ran out, goes to the end of what a writer holds
 abbrev pub TellsOrRefusesOf : (OpeningValue → List ℕ → Type 0) → OpeningValue
     → Option (List ℕ) → Option (List ℕ) → Ending → Type 0
 TellsOrRefusesOf tells o = Writing (IsToldOrRefusedOf tells o)

@@ -1,4 +1,4 @@
--- The lines that tell who owns root keys, and where these move.
+-- The lines of the owners of root keys, and of where these move.
 use Rattle.std.specs.Prelude.{◌≡◌, ℕ, Bool, if◌then◌else◌, List, [], ◌∷◌, ◌++◌, Option, Some, None, find, decimal, codes}
 use Rattle.std.specs.List.{flat_map}
 use Rattle.sq_plan.specs.PlanValue.{owner}
@@ -17,7 +17,7 @@ key_range_text recon (Some range) =
     codes " range " ++ decimal range.lo ++ codes " " ++ decimal range.hi
     ++ codes " stage " ++ decimal (stage_in recon range)
 
--- the segment and the leaf that hold a root key, where they are told
+-- the segment and the leaf that hold a root key, where they are asked for
 abbrev pub told_leaf : Bool → ReconValue → ℕ → Option (ℕ × ℕ)
 told_leaf tells_leaf recon key = if tells_leaf then leaf_at recon key else None
 
@@ -32,7 +32,7 @@ key_owners_text o key =
     codes "key " ++ decimal key ++ codes " " ++ decimal (owner o.old key)
     ++ codes " " ++ decimal (owner o.new key)
 
--- the same with the range and the stage, and the segment and the leaf where these are told, if it moves
+-- the same with the range and the stage, and the segment and the leaf where these are asked for, if it moves
 abbrev pub owner_line : Bool → OpeningValue → ℕ → List ℕ
 owner_line tells_leaf o key =
     key_owners_text o key

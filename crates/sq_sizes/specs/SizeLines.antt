@@ -1,4 +1,4 @@
--- The lines that tell how large a move is.
+-- The lines of how large a move is.
 use Rattle.std.specs.Prelude.{◌≡◌, ℕ, List, [], ◌∷◌, ◌++◌, decimal, codes}
 use Rattle.std.specs.List.{flat_map, join_with_byte, enumerate_from, range_with_len}
 use Rattle.sq_text.specs.Words.{Word}
@@ -16,7 +16,7 @@ size_words size =
     codes "families" ∷ decimal size.families ∷ codes "rows" ∷ decimal size.rows
     ∷ codes "bytes" ∷ decimal size.bytes ∷ codes "chunks" ∷ decimal size.chunks ∷ []
 
--- what stands behind the other words of a line
+-- what is behind the other words of a line
 abbrev pub size_ending : Size → List ℕ
 size_ending size = flat_map (λ word. 32 ∷ word) (size_words size) ++ 10 ∷ []
 

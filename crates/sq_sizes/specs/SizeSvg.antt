@@ -1,4 +1,5 @@
--- How large a move is, as a picture: that of what moves, with the size of each reconfiguration range in its column.
+-- How large a move is, as a picture: the picture of what moves, with the size of each reconfiguration range in its
+-- column.
 use Rattle.std.specs.Prelude.{◌≡◌, ℕ, List, [], ◌∷◌, ◌++◌, length, decimal, codes}
 use Rattle.std.specs.List.{concat, flat_map, enumerate_from}
 use Rattle.sq_picture.specs.Svg.{end_text}
@@ -16,7 +17,7 @@ counts_text size =
     ∷ codes " families</text><text class=\"end\" x=\"144\" y=\"181\" font-size=\"10\">" ∷ decimal size.rows
     ∷ codes " rows</text>\n" ∷ [])
 
--- how many bytes these have, and how many chunks they come to
+-- how many bytes these have, and into how many chunks they are cut
 abbrev pub weights_text : Size → List ℕ
 weights_text size =
     concat (codes "<text y=\"193\" font-size=\"10\">" ∷ decimal size.bytes

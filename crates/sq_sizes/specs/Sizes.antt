@@ -44,7 +44,7 @@ abbrev pub is_in_part : ReconValue → MovePart → Range → Bool
 is_in_part recon (RangePart range) segment = has_key range segment.lo
 is_in_part recon (StagePart stage) segment = stage_in recon segment == stage
 
--- the size of a part of a move: that of its segments in sum
+-- the size of a part of a move: the sum over its segments
 abbrev pub part_size : OpeningValue → MovePart → Size
 part_size o part =
     sum_of_sizes (map (segment_size o) (filter (is_in_part o.recon part) o.recon.segments))

@@ -1,4 +1,4 @@
-// What is told of an opening: bytes in, bytes out.
+// What is written of an opening: bytes in, bytes out.
 ghost use Rattle.std.specs.Prelude.{ℕ, List, IfOk};
 ghost use Rattle.sq_ranges.specs.Prelude.{OpeningValue};
 ghost use Rattle.sq_world.specs.Run.{EndsAtFault};
@@ -13,21 +13,21 @@ use std::alloc::Global;
 use std::io;
 use std::io::{Read, Write};
 
-/// A way to tell something of an opening.
+/// A way to write something about an opening.
 pub trait OpeningTelling {
-    /// The texts that tell it.
+    /// Its texts.
     ghost tells: { Self → OpeningValue → List ℕ → Type 0 };
 
-    /// Writes what it tells of an opening, and gives whether there was memory for it. An error is the writer's.
+    /// Writes its text about an opening, and gives whether there was memory for it. An error is the writer's.
     fn tell<W: Write>(&self, alloc: Global, writer: &mut W, opening: &Opening) -> io::Result<Told>
         ensures { IfOk result (IsToldOf (tells self.now) opening.now
             (W.contents writer.old) (W.contents writer.new)) };
 }
 
-/// Reads the header of an input, and writes what `telling` tells of its opening.
+/// Reads the header of an input, and writes the text of `telling` about its opening.
 ///
-/// Where the header has a fault, as [`read_header`] has them, or there is no memory, the fault is all that is written. What
-/// follows the header isn't looked at. An error is a write or a flush that failed.
+/// Where the header has a fault, as [`read_header`] has them, or there is no memory, the fault is all that is written.
+/// What follows the header isn't looked at. An error is a write or a flush that failed.
 pub fn tell_opening<R: Read, W: Write, T: OpeningTelling>(
     alloc: Global,
     reader: &mut R,

@@ -3,7 +3,7 @@ ghost use Rattle.std.specs.Prelude.{◌≡◌, ◌+◌, Some, None};
 ghost use Rattle.sq_sizes.specs.Cutting.{room_behind, chunks_more};
 ghost use Rattle.sq_sizes.specs.Sizes.{in_64_bits};
 
-/// The chunks that families of a node come to, one after another, where it is cut at once.
+/// The chunks of the families of a node, one after another, where it is cut at once.
 #[derive(Clone, Copy)]
 pub(crate) struct Cutting {
     /// The bytes of a chunk.

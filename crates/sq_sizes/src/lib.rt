@@ -1,4 +1,4 @@
-//! What is told of an opening before it runs: how large its move is, and who owns a root key.
+//! What is said of an opening before it runs: how large its move is, and who owns a root key.
 #![tactic(auto)]
 
 mod asked;

@@ -1,4 +1,4 @@
-// Who owns root keys, before a move and after it.
+// The owners of root keys, before a move and after it.
 ghost use Rattle.std.specs.Prelude.{◌≡◌, OnOk};
 ghost use Rattle.std.specs.Io.KnownBytes.{Appends};
 ghost use Rattle.std.specs.List.{flat_map};
@@ -13,13 +13,13 @@ use std::alloc::Global;
 use std::io;
 use std::io::Write;
 
-/// Who owns root keys, a line for each: the owner before the move and the one after it, and where it moves the range, the stage,
-/// and the segment with the leaf.
+/// The owners of root keys, a line for each: the one before the move and the one after it, and where it moves the
+/// range, the stage, and the segment with the leaf.
 #[derive(Drop)]
 pub struct OwnersAsLines<'a> {
     /// The root keys.
     pub keys: &'a [Root],
-    /// Whether the segments and the leaves are told.
+    /// Whether the segments and the leaves are written.
     pub tells_leaves: bool,
 }
 
@@ -108,7 +108,7 @@ fn write_range_with<W: Write>(writer: &mut W, recon: &Recon, root: Root) -> io::
     }
 }
 
-// The segment and the leaf of a root key that moves, where they are told.
+// The segment and the leaf of a root key that moves, where they are asked for.
 fn told_leaf(recon: &Recon, root: Root, tells_leaf: bool) -> Option<(SegId, Leaf)>
     ensures { result ≡ told_leaf tells_leaf recon.now root }
 {

@@ -67,7 +67,7 @@ impl Size {
         }
     }
 
-    /// The size of a part of the move of an opening: that of its segments in sum.
+    /// The size of a part of the move of an opening: the sum over its segments.
     pub fn of_part(opening: &Opening, part: MovePart) -> Size
         ensures { result ≡ size_in_64_bits (part_size opening.now part) }
     {
@@ -95,7 +95,6 @@ impl MovePart {
     }
 }
 
-// The size of no families.
 fn no_families(limit: u64) -> Size
     ensures { result ≡ entries_size limit [] }
 {

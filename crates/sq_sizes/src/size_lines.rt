@@ -32,7 +32,7 @@ impl OpeningTelling for SizesAsLines {
     }
 }
 
-// Writes the end of a line, which tells a size.
+// Writes the end of a line, which has a size.
 fn write_size<W: Write>(writer: &mut W, size: Size) -> io::Result<()>
     ensures { OnOk result (Appends (W.contents writer.old) (W.contents writer.new)
         (size_ending size)) }

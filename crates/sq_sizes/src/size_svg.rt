@@ -89,7 +89,7 @@ fn write_counts<W: Write>(writer: &mut W, size: Size) -> io::Result<()>
     )
 }
 
-// Writes how many bytes these have, and how many chunks they come to.
+// Writes how many bytes these have, and into how many chunks they are cut.
 fn write_weights<W: Write>(writer: &mut W, size: Size) -> io::Result<()>
     ensures { OnOk result (Appends (W.contents writer.old) (W.contents writer.new)
         (weights_text size)) }

@@ -1,4 +1,4 @@
--- Which partitions have told the leader, and what it does then.
+-- Which partitions reported to the leader, and what it does then.
 use Rattle.std.proofs.Common.{◌≡◌, inl, inr, ℕ, ◌+◌, ◌<◌, ◌≤◌, Bool, true, false, List, length, get_or, refl, sym, ap, ◌∙◌, subst, arith, get_or-set_same, get_or-set_other, eq-eqb, eqb-true}
 use Rattle.std.specs.Prelude.{◌&&◌, ◌||◌, ◌==◌, not, nat_le, nat_lt, slice_set, slice_get, Option, Some, None, Result, Ok, Err, if◌then◌else◌, unwrap_or}
 use Rattle.std.specs.Result.{is_ok, result_ok}
@@ -38,7 +38,7 @@ all_prepared parts part prepared past are =
     let many = are.parts_are in
     all_marked-by_part prepared ∙ all_pass (is_marked prepared) 0 (length prepared) (λ k low high. are.each k (omega (arith, many, high, past)))
 
--- the first of them has, once it told it
+-- the first of them is marked, once it said so
 first_alone : (test : Bool) (value found : PreparingValue) (fault : Refused IdleValue PrepareFault) → Ok found ≡ (if test then Err fault else Ok value) → (test ≡ false) × (found ≡ value)
 first_alone true value found fault is = absurd (true≢false (ap is_ok is))
 first_alone false value found fault is = (refl, ap (λ answer. unwrap_or (result_ok answer) value) is)
@@ -57,7 +57,7 @@ first_prepared idle at is =
           ∙ get_or-set_same marks 0 true false (omega (arith, many, some));
     }
 
--- of the numbers below this one those are marked of which this holds, and no others
+-- of the numbers below this one just those are marked that have this property
 pub record AreMarked (many next : ℕ) (holds : ℕ → Bool) (marks : List Bool) : Type 0 where
   pub length_is : length marks ≡ many
   pub each : (k : ℕ) → is_marked marks k ≡ (nat_lt k next && holds k)
@@ -133,7 +133,7 @@ module _ (o : OpeningValue) (stage : ℕ) (whole : List Bool) where
     marks = pass_next o.old.parts (all_told_whole o.recon stage whole) next at.reported so_far.marks (same_has_all next at so_far ∙ may_not);
   }
 
-  -- they all told it
+  -- they all said so
   pub all_heard : (next : ℕ) (at : StageValue) → next ≡ o.old.parts → AreHeard o stage whole next at → HaveReported o stage whole at
   all_heard next at is so_far = record {
     leads = so_far.leads;
@@ -250,7 +250,7 @@ module _ (o : OpeningValue) (stage : ℕ) (whole : List Bool) (at : StageValue) 
       chosen a true is = absurd (true≢false (sym (ap is_ok is)))
       chosen a false is = refl
 
-  -- in another one, where it doesn't go on; and the leader stays as it was
+  -- in another one, where it doesn't continue; and the leader stays as it was
   refused : (found : Refused StageValue NextFault) → Err found ≡ answer_to_next at → (found.leader ≡ at) × (found.fault ≡ NotFinished → have_reported at ≡ false)
   refused found answer = chosen (is_last at) (have_reported at) answer
     where

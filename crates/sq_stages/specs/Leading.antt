@@ -1,4 +1,4 @@
--- The leader of a run in threads: whom it heard in a stage, and that it went on to the next, or ended the move.
+-- The leader of a run in threads: whom it heard in a stage, and that it moved on to the next, or ended the move.
 use Rattle.std.specs.Prelude.{◌≡◌, ℕ, ◌+◌, ◌&&◌, Bool, true, IsTrue, nat_lt, List, length, slice_get, Some, Ok}
 use Rattle.sq_ranges.specs.declared.recon.Range.{Range}
 use Rattle.sq_ranges.specs.ReconValue.{stage_in, stages, moves_into}
@@ -19,7 +19,7 @@ pub record LeadsStage (o : OpeningValue) (stage : ℕ) (at : StageValue) : Type 
   pub recon_is : at.recon ≡ o.recon
   pub stage_is : at.stage ≡ stage
 
--- just those partitions reported of which each segment that moves there in the stage is whole
+-- just those partitions reported whose segments that move there in the stage are all whole
 pub record HaveReported (o : OpeningValue) (stage : ℕ) (whole : List Bool) (at : StageValue) : Type 0 where
   pub leads : LeadsStage o stage at
   pub parts : length at.reported ≡ o.old.parts
@@ -30,7 +30,7 @@ pub record HasHeard (o : OpeningValue) (stage : ℕ) (is_complete : ℕ → Bool
   pub leads : LeadsStage o stage at
   pub heard : (part seg : ℕ) → IsTrue (is_marked at.reported part) → IsTrue (moves_into o.recon stage part seg) → IsTrue (is_complete seg)
 
--- the leader went on to the next stage, for which those reports were enough
+-- the leader moved on to the next stage, for which those reports were enough
 pub record HasGoneOn (o : OpeningValue) (stage : ℕ) (is_complete : ℕ → Bool) (at : StageValue) : Type 0 where
   pub hears : HasHeard o stage is_complete at
   pub next : answer_to_next at ≡ Ok (leading o (stage + 1))
@@ -45,7 +45,8 @@ abbrev pub AreComplete : OpeningValue → ℕ → (ℕ → Bool) → Type 0
 AreComplete o stage is_complete =
     (seg : ℕ) (segment : Range) → slice_get o.recon.segments seg ≡ Some segment → stage_in o.recon segment ≡ stage → is_complete seg ≡ true
 
--- what the leader does after a stage: where each segment of it is complete it goes on, or ends the move after the last one
+-- what the leader does after a stage: where each segment of it is complete it moves on, or ends the move after the last
+-- one
 abbrev pub Leads : OpeningValue → ℕ → (ℕ → Bool) → Led → Type 0
 Leads o stage is_complete (Next moving) =
     (moving ≡ leading o (stage + 1)) × AreComplete o stage is_complete × (at : StageValue) × HasGoneOn o stage is_complete at

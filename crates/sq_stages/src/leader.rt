@@ -13,7 +13,7 @@ use std::alloc::AllocError;
 /// What the leader does after a stage.
 #[derive(Drop)]
 pub enum Led {
-    /// It goes on to the next stage.
+    /// It moves on to the next stage.
     Next(Moving),
     /// It ended the move: the stage was the last.
     Ended,
@@ -51,8 +51,8 @@ fn prepare_all(plan: &Plan, recon: Recon) -> Preparing
     preparing
 }
 
-/// Goes on after the running stage where each segment of it is whole: to the next stage, or to the end of the move after the
-/// last one. `whole` tells it of each segment by its number, and a segment of which it tells nothing isn't whole. Each
+/// Continues after the running stage where each segment of it is whole: to the next stage, or to the end of the move
+/// after the last one. `whole` has an entry for each segment by its number, and a segment without one isn't whole. Each
 /// partition reports first that may.
 pub fn lead_on(moving: Moving, opening: &Opening, whole: &[bool]) -> Led
     requires { moving ≡ leading opening.now moving.stage }

@@ -1,5 +1,5 @@
-//! The leader of a run in threads, led by whoever gathers what each stage left: it starts the move, and after a stage it hears
-//! the reports that the partitions may make, and goes on to the next stage or ends the move.
+//! The leader of a run in threads, led by whoever gathers what each stage left: it starts the move, and after a stage
+//! it hears the reports that the partitions may make, and moves on to the next stage or ends the move.
 #![tactic(auto)]
 
 mod leader;

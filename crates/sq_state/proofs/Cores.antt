@@ -25,7 +25,7 @@ module _ (w : WorldValue) (parts : List PartCoreValue) (are : map core_of parts 
   pub core_kept : (i : ℕ) (part after : PartCoreValue) → part ≡ get_or parts i part → after.core ≡ part.core → map core_of (set parts i after) ≡ w.cores
   core_kept i part after is same = seen_kept core_of parts i part after is same ∙ are
 
--- where all are told something, in a vector of so many
+-- where all are informed of something, in a vector of so many
 pub told_all : (told : CoreValue → CoreValue) (count : ℕ) (old after : List PartCoreValue) {before : List PartCoreValue} {now : List CoreValue} → count ≡ length after → before ≡ old → map core_of after ≡ map told (map core_of before) → map core_of old ≡ now
     → map core_of (take count (after ++ drop (length after) old)) ≡ map told now
 told_all told count old after many is told_is are =

@@ -6,7 +6,6 @@ module _ {A : Type 0} (change : A → A) where
   abbrev pub changed : ℕ → List A → List A
   changed i xs = map change (take i xs) ++ drop i xs
 
-  -- the next one is
   pub changed_next : (i : ℕ) (xs : List A) (none : A) → i < length xs → set (changed i xs) i (change (get_or (changed i xs) i none)) ≡ changed (suc i) xs
   changed_next i [] none lt = absurd (omega arith)
   changed_next zero (x ∷ xs) none lt = refl

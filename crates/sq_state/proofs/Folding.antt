@@ -1,4 +1,4 @@
--- What a fold of a partition's logs comes to.
+-- The result of a fold of a partition's logs.
 use Rattle.std.proofs.Common.{◌≡◌, ℕ, ◌<◌, false, List, map, length, get_or, set, Ok, sym, ap, ◌∙◌, arith}
 use Rattle.std.specs.Prelude.{nat_le, if◌then◌else◌}
 use Rattle.sq_exec.specs.CoreValue.{CoreValue, PartCoreValue, folded_core}

@@ -21,7 +21,7 @@ gives_its_own : {X : Type 0} (wrong : Bool) (refusal : Refusal) (x y : X) → Ok
 gives_its_own true refusal x y is = cc
 gives_its_own false refusal x y is = cc
 
--- where it doesn't, the step goes on
+-- where it doesn't, the step continues
 pub goes_on : (wrong : Bool) (refusal : Refusal) (w : WorldValue) (rest : StepResult) → wrong ≡ false → rest ≡ (if wrong then refuse w refusal else rest)
 goes_on true refusal w rest right = cc
 goes_on false refusal w rest right = refl

@@ -1,4 +1,4 @@
--- What a call of the leader answers is what its step comes to.
+-- The answer of a call of the leader is the result of its step.
 use Rattle.std.proofs.Common.{◌≡◌, ℕ, ◌+◌, Bool, true, false, List, length, map, get_or, Result, Ok, Err, refl, sym, ap, subst, ◌∙◌, arith}
 use Rattle.std.specs.Prelude.{◌<◌, ◌==◌, ◌&&◌, ◌||◌, not, nat_le, nat_lt, slice_get, if◌then◌else◌}
 use Rattle.std.specs.List.{list_any, list_all, range_with_len}
@@ -36,7 +36,7 @@ use Rattle.sq_transition.specs.LeaderResults.{StepResult, refuse, if_partition, 
 use Rattle.sq_state.specs.Results.{report_refused, next_refused}
 use Rattle.sq_state.specs.Sound.{IsSound}
 
--- a call that went found all right and gave the next state; one that was refused didn't, and told why
+-- a call that went found all right and gave the next state; one that was refused didn't, and gave the cause
 passed : {A F : Type 0} (right : Bool) (fault : F) (next given : A) → Ok given ≡ (if right then Ok next else Err fault) → (right ≡ true) × (given ≡ next)
 passed true fault next given is = (refl, cc)
 passed false fault next given is = cc
@@ -112,7 +112,7 @@ module _ (w : WorldValue) where
   report_by l part b is e =
       λ i. if not (is_moving_phase (phase_of (is i))) then refuse w NotMoving else if_partition w part (if e i then (Done, record w { leader = after_report (is i) part }) else refuse w NotFinished)
 
-  -- what is told of each segment is so
+  -- what is said of each segment is so
   module _ (sound : IsSound w) (whole : List Bool) (told : (seg : ℕ) → seg < length w.trees → is_told_whole whole seg ≡ is_segment_whole w seg) where
     all_told : (at : StageValue) (part : ℕ) → w.leader ≡ Moving at → list_all (λ seg. not (is_segment_into w part seg) || is_segment_whole w seg) (segment_range w) ≡ all_told_whole w.recon at.stage whole part
     all_told at part is =

@@ -1,4 +1,4 @@
--- What the steps of the links come to.
+-- The results of the steps of the links.
 use Rattle.std.proofs.Common.{◌≡◌, ℕ, ◌<◌, ◌≤◌, ◌⊎◌, Bool, true, false, true≢false, List, [], ◌∷◌, ◌++◌, map, length, get_or, set, Bor, Option, Some, None, ok_or, Result, Ok, Err, refl, sym, ap, ◌∙◌, subst, inl, inr, arith}
 use Rattle.std.specs.Prelude.{IsTrue, ◌==◌, ◌&&◌, not, nat_le, is_some, is_none, if◌then◌else◌, slice_set, option_map}
 use Rattle.std.specs.Option.{option_copied}
@@ -98,7 +98,7 @@ link_here w src dst link sound running =
       destination = omega (arith, is_sound.destination, leads);
     }
 
--- where there is the link the step goes on
+-- where there is the link the step continues
 at_link : (w : WorldValue) (src dst : ℕ) (link : LinkPlace) (result : ℕ → StepResult) → IsRunning w src dst link → result link.at ≡ if_link w src dst result
 at_link w src dst link result running =
     let here = result_at_link w result (link_index w src dst) in
@@ -106,7 +106,7 @@ at_link w src dst link result running =
     ∙ goes_on (not (stage_on w.recon src dst == running_stage w)) NoSuchLink w here running.runs
     ∙ goes_on (not (is_moving_phase (phase_of w.leader))) NotMoving w (if not (stage_on w.recon src dst == running_stage w) then refuse w NoSuchLink else here) running.moving
 
--- what a reference tells of what it was read from
+-- what a reference shows of what it was read from
 copied_some : (r : Option (Bor ChunkValue)) (o : Option ChunkValue) (b : Bool) → option_copied r ≡ o → is_some r ≡ b → is_some o ≡ b
 copied_some None o b is tells = ap is_some (sym is) ∙ tells
 copied_some (Some x) o b is tells = ap is_some (sym is) ∙ tells

@@ -135,7 +135,7 @@ module _ (o : OpeningValue) (w : WorldValue) (built : IsBuilt o w) where
       (λ (high : o.old.parts ≤ part). ap read (no_core_past part high) ∙ past)
       (cases_lt part o.old.parts)
 
-  -- nothing was begun for a partition at another, and nothing came to one from another
+  -- nothing was begun for a partition at another, and nothing arrived at one from another
   new_out : (src dst : ℕ) → out_at (core_at w src) dst ≡ new_out_link
   new_out src dst = new_read (λ core. out_at core dst) new_out_link (λ _. alike o.old.parts dst new_out_link) refl src
 

@@ -1,4 +1,4 @@
--- What transactions come to that are submitted at a partition, and those that waited at it.
+-- The outcomes of transactions that are submitted at a partition, and of those that waited at it.
 use Rattle.std.proofs.Common.{◌≡◌, ℕ, ◌<◌, ◌||◌, Bool, true, false, List, [], ◌∷◌, ◌++◌, map, get_or, set, Option, Some, None, Ok, Err, Result, refl, sym, ap, ◌∙◌, subst, inl, inr, arith}
 use Rattle.std.specs.Prelude.{IsTrue, ◌==◌, not, nat_le, is_none, if◌then◌else◌, slice_get, position, remove, unwrap_or, option_map, option_and_then}
 use Rattle.std.specs.List.{list_all}
@@ -186,7 +186,6 @@ module _ (w : WorldValue) (parts : List PartCoreValue) (number : ℕ) (part : Pa
       runs_it here.part (route here resumed.txn.root) here.store resumed.txn
       (known.runs is.place resumed.txn is.found (not_coming here is.place resumed.txn is.first is.found) ∙ sym known.number)
 
-  -- it runs
   pub resume_runs : (resumed : Resumed) (new : CoreValue) → IsResumed part.core resumed new → ((reply : Reply) → resumed.outcome ≡ outcome.Done reply → ⊥) → ⊥
   resume_runs resumed new is other =
       let is_here = here_resumed resumed new is in

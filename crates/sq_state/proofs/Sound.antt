@@ -1,4 +1,4 @@
--- A world that its history tells is sound.
+-- A world that its history leads to is sound.
 use Rattle.std.proofs.Common.{subst, ◌≡◌, ℕ, true, false, refl, sym, ap, ◌∙◌, arith, length}
 use Rattle.std.specs.Prelude.{◌<◌, ◌≤◌, ◌==◌, ◌&&◌, ◌++◌, slice_get, Some}
 use Rattle.std.proofs.lemmas.Bool.{eq-eqb, eqb-true, and_parts, and_from}

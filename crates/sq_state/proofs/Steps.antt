@@ -1,4 +1,4 @@
--- What a step comes to, whichever it is.
+-- The result of a step, whichever it is.
 use Rattle.std.proofs.Common.{◌≡◌, Result, Ok, sym, ap, ◌∙◌, subst}
 use Rattle.sq_model.specs.declared.step.Step.{Step}
 use Rattle.sq_model.specs.declared.answer.Answer.{Answer}

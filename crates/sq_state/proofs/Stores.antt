@@ -1,4 +1,4 @@
--- The store of a partition is what its history tells.
+-- The store of a partition is the one of its history.
 use Rattle.std.proofs.Common.{◌≡◌, ℕ, inl, inr, sym, arith, subst}
 use Rattle.std.specs.Prelude.{◌<◌}
 use Rattle.std.specs.Option.{option_map}

@@ -1,4 +1,4 @@
--- What the steps of the split trees come to.
+-- The results of the steps of the split trees.
 use Rattle.std.proofs.Common.{◌≡◌, ℕ, ◌<◌, ◌⊎◌, true, false, List, [], map, length, get_or, set, Option, Some, None, Ok, refl, sym, ap, ◌∙◌, subst, inl, inr, arith}
 use Rattle.std.specs.Prelude.{IsTrue, not, option_map, option_and_then, slice_get, slice_set, unwrap_or}
 use Rattle.std.specs.Option.{option_map_or}
@@ -33,7 +33,6 @@ use Rattle.sq_state.specs.Results.{refuse_if}
 use Rattle.sq_state.proofs.Guards.{IsNamed, passed}
 use Rattle.sq_state.proofs.Cores.{core_of, core_read, core_written, core_kept}
 
--- a tree that is read
 pub tree_read : (w : WorldValue) (seg : ℕ) (tree : List Status) → seg < length w.trees → tree ≡ get_or w.trees seg tree → tree ≡ tree_at w seg
 tree_read w seg tree lt is = is ∙ get_or_default w.trees seg tree [] lt
 
@@ -100,7 +99,7 @@ source_exists w seg from range sound lt is from_is =
     let ends = sound.ends seg range (slice_get_read w.recon.segments (length w.recon.segments) seg range refl lt is) in
     omega (arith, ends.0, from_is, sound.cores)
 
--- where a step may be done on a node it goes on to that
+-- where a step may be done on a node it continues with that
 begins : (w : WorldValue) (number named seg node pull : ℕ) (tree : List Status) (done : Unit {0}) → IsSound w → Ok done ≡ refuse_if (not (is_moving_phase (phase_of w.leader))) NotMoving
     → IsNamed w number named seg node → tree ≡ get_or w.trees seg tree → Done ≡ begin_answered (begin_answer (status_at tree) node pull)
     → (Done, with_begun w seg node pull) ≡ begin_result w number named pull
@@ -113,7 +112,6 @@ begins w number named seg node pull tree done sound moving here is may =
     ∙ here.goes (whole number named)
     ∙ passed (not (is_moving_phase (phase_of w.leader))) NotMoving w (if_segment w number (if_node w named (whole number named))) done moving
 
--- a Begin that is done
 begin_done : (w : WorldValue) (parts : List PartCoreValue) (number named seg node pull from : ℕ) (at : ℕ) (range : Range) (part after : PartCoreValue) (tree other written : List Status) (done : Unit {0}) → map core_of parts ≡ w.cores
     → IsSound w → Ok done ≡ refuse_if (not (is_moving_phase (phase_of w.leader))) NotMoving → IsNamed w number named seg node
     → tree ≡ get_or w.trees seg tree → Done ≡ begin_answered (begin_answer (status_at tree) node pull)
@@ -149,7 +147,6 @@ begin_returns w old parts number named seg node pull from at range part after tr
     (λ sound_w moving_w here_w. inl (begin_done w parts number named seg node pull from at range part after tree other written done are sound_w moving_w here_w is may range_is from_is part_is after_is at_is other_is written_is))
     sound moving here
 
--- a Begin for which there is no memory
 pub begin_lacks_memory : (w old : WorldValue) (parts : List PartCoreValue) (number named seg node pull from : ℕ) (part after : PartCoreValue) (tree : List Status) (done : Unit {0}) → w ≡ old → map core_of parts ≡ w.cores
     → IsSound old → Ok done ≡ refuse_if (not (is_moving_phase (phase_of old.leader))) NotMoving → IsNamed old number named seg node
     → tree ≡ get_or w.trees seg tree → Done ≡ begin_answered (begin_answer (status_at tree) node pull) → part ≡ get_or parts from part → after.core ≡ part.core
@@ -173,7 +170,8 @@ source_knows w old parts seg from range part after same are sound exists range_i
     subst (λ (r : ReconValue). seg < length r.segments) (sym recon) exists_w)
     sound exists
 
--- what a step on a node of a segment comes to: an answer by the statuses of the tree, and where that is done a new status of the node
+-- the result of a step on a node of a segment: an answer by the statuses of the tree, and where that is done a new
+-- status of the node
 module _ (w : WorldValue) (answered : (ℕ → Status) → ℕ → ℕ → Answer) (new : Status) where
   abbrev whole_step : ℕ → ℕ → StepResult
   whole_step seg node = if_done (answered (status_in w seg) seg node) w (with_node w seg node new)

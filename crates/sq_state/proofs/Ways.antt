@@ -1,4 +1,4 @@
--- What is under way on a link is what its history tells.
+-- What is under way on a link is what its history says.
 use Rattle.std.proofs.Common.{◌≡◌, ℕ, zero, suc, false, List, [], ◌∷◌, refl, sym, ap, ◌∙◌, subst, true≢false, map}
 use Rattle.std.specs.Prelude.{◌==◌, ◌&&◌, drop, reverse, slice_get, Option, Some, None, is_some}
 use Rattle.std.specs.Option.{option_map}

@@ -9,7 +9,7 @@ use Rattle.sq_ranges.specs.ReconValue.{AreLinks}
 use Rattle.sq_transition.specs.WorldValue.{QueueValue}
 use Rattle.sq_state.specs.Queue.{opened_queue}
 
--- for each segment a tree, of which each node is free
+-- for each segment a tree, with all nodes free
 pub record AreNewTrees (segments : List Range) (trees : List (List Status)) : Type 0 where
   pub count : length trees ≡ length segments
   pub each : (seg node : ℕ) → seg < length trees → status_at (slice_index_or trees seg []) node ≡ Free

@@ -1,4 +1,4 @@
--- What is read of a world, and what its history tells of that.
+-- What is read of a world, and what its history says of that.
 use Rattle.std.specs.Prelude.{◌≡◌, ℕ, ◌<◌, ◌≤◌, nat_lt, ◌&&◌, if◌then◌else◌, List, [], length, drop, reverse, slice_get, Option, Some, None}
 use Rattle.std.specs.Option.{option_map}
 use Rattle.std.specs.FinMap.{get}

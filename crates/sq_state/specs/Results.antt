@@ -1,4 +1,4 @@
--- What a step came to.
+-- The result of a step.
 use Rattle.std.specs.Prelude.{ℕ, Bool, ◌==◌, not, if◌then◌else◌, length, option_map, Option, Some, None, Result, Ok, Err}
 use Rattle.std.specs.Option.{ok_or}
 use Rattle.sq_ranges.specs.ReconValue.{stage_on}

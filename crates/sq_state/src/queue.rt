@@ -51,7 +51,7 @@ impl Queue {
         self.src
     }
 
-    /// The partition that the chunks come to.
+    /// The destination of the chunks.
     pub(crate) fn dst(&self) -> PartId
         ensures { result ≡ self.now.dst }
     {

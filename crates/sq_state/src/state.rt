@@ -28,8 +28,8 @@ mod step;
 mod submit;
 mod trees;
 
-/// A world: the plans, what moves between them and the leader; the partitions, each by itself; for each
-/// segment its split tree; and the queues between the partitions. To a contract it is a `WorldValue`.
+/// A world: the plans, what moves between them and the leader; the partitions; for each segment its split tree; and the
+/// queues between the partitions. To a contract it is a `WorldValue`.
 #[derive(Drop)]
 pub struct State {
     alloc: Global,

@@ -43,7 +43,7 @@ impl Model for World {
 /// Why a world doesn't open, and what it was to open with.
 #[derive(Debug, Drop)]
 pub enum NotOpened {
-    /// The opening has a fault, or there is no memory for it: that is told, and the plans and the rows come back.
+    /// The opening has a fault, or there is no memory for it: this is the answer, and the plans and the rows come back.
     Refused(RefusedOpening),
     /// There is no memory for a world of this opening.
     Memory(Opening),
@@ -108,7 +108,7 @@ impl World {
     ghost use Rattle.sq_state.specs.Readers.{store_at, chunk_at, status_there, IsStoreAfter, IsChunkAfter, status_after};
     ghost use Rattle.sq_state.specs.Dump.{dump};
 
-    /// How far the leader is, which is as the history tells.
+    /// How far the leader is, as its history says.
     pub fn phase(&self) -> Phase
         ensures phase { result ≡ phase_of self.now.leader }
         ensures by_history { (o : OpeningValue) (t : Trace) → Holds o t self.now → result ≡ phase_after t }
@@ -116,7 +116,7 @@ impl World {
         self.state.phase()
     }
 
-    /// The stage that runs, which is as the history tells: 0 before the start, and the last once the move has ended.
+    /// The stage that runs, as its history says: 0 before the start, and the last once the move has ended.
     pub fn stage(&self) -> u64
         ensures stage { result ≡ running_stage self.now }
         ensures by_history { (o : OpeningValue) (t : Trace) → Holds o t self.now → result ≡ stage_after t }
@@ -134,7 +134,7 @@ impl World {
     }
 
     /// The chunk of this number, from 0, of those from one partition to another that were cut and aren't loaded, the
-    /// oldest first, as the history tells, with exactly the families that its note covers; `None` where there is none.
+    /// oldest first, as the history says, with exactly the families that its note covers; `None` where there is none.
     pub fn under_way(&self, src: u64, dst: u64, i: u64) -> Option<&Chunk>
         ensures chunk { option_copied result ≡ chunk_at self.now src dst i }
         ensures by_history { (o : OpeningValue) (t : Trace) → IsOpening o → IsLegal o t → Holds o t self.now
@@ -143,7 +143,7 @@ impl World {
         self.state.under_way(src, dst, i)
     }
 
-    /// The status of a node, which is as the history tells; `None` where there is no such segment or node.
+    /// The status of a node, as the history says; `None` where there is no such segment or node.
     pub fn status(&self, seg: u64, node: u64) -> Option<Status>
         ensures status { result ≡ status_there self.now seg node }
         ensures by_history { (o : OpeningValue) (t : Trace) → Holds o t self.now → result ≡ status_after o t seg node }

@@ -93,7 +93,7 @@ alone statuses views tree id v at first live all =
           (only.0, omega (arith, mine));
     }
 
--- the words tell the statuses
+-- the words give the statuses
 pub same_statuses : (xs ys : List Status) → map word_of xs ≡ map word_of ys → xs ≡ ys
 same_statuses [] [] e = refl
 same_statuses [] (y ∷ ys) e = cc
@@ -110,7 +110,7 @@ read_at [] i x d at = absurd (some-ne-none x (sym at))
 read_at (y ∷ ys) zero x d at = some-injective y x at
 read_at (y ∷ ys) (suc i) x d at = read_at ys i x d at
 
--- each word of a tree is that of a status with a pull of 32 bits
+-- each word of a tree is the word of a status with a pull of 32 bits
 pub word_fits : (words : List ℕ) (views : List View) → Kept words views → (i word : ℕ) → get_elem? words i ≡ some word → (st : Status) × (pull_of st < 2 ^ 32) × (word ≡ word_of st)
 word_fits words views kept i word at =
     let statuses = kept.0 in (
@@ -127,7 +127,7 @@ same_words words views kept read long each =
     fill_by_all (λ k. get_or words k 0) words 63 0 count (λ k h. refl)
     ∙ sym (fill_by_all (λ k. get_or words k 0) (map word_of read) 63 0 (length-map read word_of ∙ long) (λ k h. get_or-map word_of read k Free ∙ each k h))
 
--- what closing a table tells: the statuses that were read are those of a tree, and the seat's view is one of its views
+-- closing a table shows that the statuses that were read are those of a tree, and the seat's view is one of its views
 pub closes : (id : ℕ) (v : View) (words : List ℕ) (slots : List (Unit {0})) (statuses : List Status) → Final (Seen Table id v) words slots → words ≡ map word_of statuses
     → (views : List View) × IsTreeOf statuses views × (get_elem? views id ≡ some v)
 closes id v words slots statuses last e =

@@ -1,4 +1,4 @@
--- What a load and an exchange of a node's word owe to the table: that the rule holds again, and what they tell.
+-- What a load and an exchange of a node's word owe to the table: that the rule holds again, and what they show.
 use Rattle.std.proofs.Common.{◌≡◌, ℕ, zero, suc, ◌+◌, ◌<◌, false, List, [], ◌∷◌, length, map, set, slice_index, refl, sym, ap, ◌∙◌, subst, inl, inr, eqb, arith}
 use mathlib.Core.Option.{some, none, some-ne-none}
 use lib.ListN.{get_elem?}

@@ -1,4 +1,4 @@
--- What a load and an exchange of a node's word come to at that node.
+-- The outcome of a load and an exchange of a node's word at that node.
 use Rattle.std.proofs.Common.{◌≡◌, ◌≢◌, ℕ, ◌+◌, ◌⊎◌, refl, sym, ap, ◌∙◌, subst, ⊎_elim}
 use mathlib.Core.Option.{none}
 use Rattle.atomic_table.specs.Table.{Me, step}

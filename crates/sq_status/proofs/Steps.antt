@@ -79,7 +79,6 @@ joined_kept statuses views tree id v w live role seat u at' spent =
     (λ (there : (seat ≢ id) × (get_elem? views seat ≡ some u)). tree.joined seat u there.1 spent)
     (at_set views id seat w u at')
 
--- a look
 pub look_kept : (statuses : List Status) (views : List View) → IsTreeOf statuses views → (id : ℕ) (v : View) → get_elem? views id ≡ some v → v.spent ≡ false → (n : ℕ)
     → IsTreeOf statuses (set views id (saw v n (status_at statuses n)))
 look_kept statuses views tree id v at live n =

@@ -1,4 +1,4 @@
--- What each call tells of its seat's view, before and after: what it won, and what each of its refusals shows.
+-- What each call says of its seat's view, before and after: what it won, and what each of its refusals shows.
 use Rattle.std.specs.Prelude.{◌≡◌, ◌≢◌, ℕ, ◌<◌, ◌==◌, false, IsTrue, MatchBool}
 use Rattle.sq_tree.specs.declared.status.Status.{Status}
 use Rattle.sq_tree.specs.declared.status.Status.TheVariants.{Free, Split, Claimed, Partial}

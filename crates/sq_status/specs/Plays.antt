@@ -1,4 +1,4 @@
--- What a step on a node's word tells its seat.
+-- What a step on a node's word shows its seat.
 use Rattle.std.specs.Prelude.{◌≡◌, ◌≢◌, ℕ, ◌+◌, ◌^◌, ◌<◌, ◌⊎◌, List}
 use mathlib.Core.Option.{some}
 use lib.ListN.{get_elem?}

@@ -90,8 +90,8 @@ impl StatusTree {
             .join_seat::<Handing>(&mut seat.seat, other);
     }
 
-    /// The statuses of all nodes, that of node 1 first. Where each seat that was given was also taken, they
-    /// are those that the first seat's lists name.
+    /// The statuses of all nodes, from node 1 on. Where each seat that was given was also taken, they are those that
+    /// the first seat's lists name.
     pub fn close(self, seat: TreeSeat) -> [Status; NODES]
         requires tree { seat.tree ≡ self }
         ensures rule { (id : ℕ) × (views : List View) × IsTreeOf result views × (get_elem? views id ≡ some seat.view) }

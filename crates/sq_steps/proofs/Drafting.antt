@@ -50,7 +50,7 @@ as_history_has o t step given is not_refused =
     refusal_refused : is_refusal (Refused Memory) ≡ false → ⊥
     refusal_refused e = cc
 
--- a step that was made, and isn't refused, goes on
+-- a step that was made, and isn't refused, continues
 pub goes_on : (old new : Draft) (step : MoveStep) (made : Step) (given : Answer) → made ≡ step_of_move step → NumbersFit step → is_refusal given ≡ false
     → ((o : OpeningValue) (t : Trace) → IsOpening o → IsLegal o t → Holds o t old.world → KeepsHeadline o ((made, given) ∷ t) new.world)
     → new.text.items ≡ old.text.items ++ move_line step → DraftGoesOn old new
@@ -74,7 +74,7 @@ goes_on old new step made given is fit not_refused headline wrote = λ o draft.
 pub stays : (draft : Draft) → DraftGoesOn draft draft
 stays draft = λ o is. is
 
--- it goes on twice
+-- it continues twice
 pub twice : (first second third : Draft) → DraftGoesOn first second → DraftGoesOn second third → DraftGoesOn first third
 twice first second third one other = λ o is. other o (one o is)
 

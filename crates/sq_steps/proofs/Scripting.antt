@@ -23,7 +23,7 @@ use Rattle.sq_steps.specs.Drafts.{DraftGoesOn}
 use Rattle.sq_steps.specs.Scripts.{fault_of, IsScriptOf, WritesScriptFrom, WritesScriptOf}
 use Rattle.sq_steps.proofs.Drafting.{begins}
 
--- a draft that went on from no step, and in whose world the move has ended, is a script
+-- a draft that came from no step, and in whose world the move has ended, is a script
 pub whole : (o : OpeningValue) (first last : Draft) (world : WorldValue) (now : Phase) → IsOpening o → Holds o [] world → first.world ≡ world → first.text.items ≡ [] → DraftGoesOn first last
     → ((h : OpeningValue) (t : Trace) → Holds h t last.world → now ≡ phase t) → now ≡ Ended → IsScriptOf o last.text.items
 whole o first last world now opening holds same empty goes by_history ended =
@@ -37,7 +37,7 @@ whole o first last world now opening holds same empty goes by_history ended =
       ended = sym (by_history o _ is.leads.holds) ∙ ended;
     }
 
--- a fault that is told in place of a script
+-- a fault that is written in place of a script
 pub no_script : {E : Type 0} (o : OpeningValue) (r : Result Ending E) (why : NoScript) (located : LocatedFault) (before now : Option (List ℕ)) → located ≡ fault_of why → IfOk r (EndsAtFault located before now) → IfOk r (WritesScriptFrom o before now)
 no_script o (Err e) why located before now same wrote = tt
 no_script o (Ok ending) why located before now same wrote = (wrote.0, wrote.1, inr (why, subst (λ (f : LocatedFault). IsFault f wrote.0 ending) same wrote.2))

@@ -17,6 +17,6 @@ pub record IsDraftOf (o : OpeningValue) (draft : Draft) : Type 0 where
   pub none_refused : NoneRefused o steps
   pub leads : LeadsTo o (after o [] (map step_of_move steps)) draft.world
 
--- a draft of whatever opening goes on
+-- a draft of whatever opening continues
 abbrev pub DraftGoesOn : Draft → Draft → Type 0
 DraftGoesOn old new = (o : OpeningValue) → IsDraftOf o old → IsDraftOf o new

@@ -42,7 +42,7 @@ pub record IsScriptOf (o : OpeningValue) (text : List ℕ) : Type 0 where
   pub none_refused : NoneRefused o steps
   pub ended : phase (after o [] (map step_of_move steps)) ≡ Ended
 
--- the fault that is told in place of a script
+-- the fault that is written in place of a script
 abbrev pub fault_of : NoScript → LocatedFault
 fault_of no_script.Memory = located Memory None
 fault_of no_script.TooLong = located TooLong None
@@ -67,7 +67,7 @@ IsForInput tables given out ending = IsForHeader tables given out ending ⊎ IsR
 abbrev pub WritesScriptFrom : OpeningValue → Option (List ℕ) → Option (List ℕ) → Ending → Type 0
 WritesScriptFrom o = Writing (IsScriptFrom o)
 
--- the same for what can come of a reader of lines
+-- the same for pieces that a reader of lines may give
 abbrev pub WritesScriptOf : ℕ → LinesValue → Option (List ℕ) → Option (List ℕ) → Ending → Type 0
 WritesScriptOf tables = OfLines (IsForInput tables)
 

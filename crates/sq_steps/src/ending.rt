@@ -15,7 +15,7 @@ pub(crate) enum NoScript {
 }
 
 impl NoScript {
-    /// The fault that is told.
+    /// Its fault.
     pub(crate) fn fault(self) -> LocatedFault
         ensures { result ≡ fault_of self }
     {

@@ -28,11 +28,11 @@ pub enum MoveStep {
     Cut { src: u64, dst: u64 },
     /// The chunk that was cut goes onto its link.
     Push { src: u64, dst: u64 },
-    /// The oldest chunk on the link comes to the destination.
+    /// The oldest chunk on the link reaches the destination.
     Pop { src: u64, dst: u64 },
     /// The destination loads the chunk that came.
     Load { src: u64, dst: u64 },
-    /// A segment is completed, all of which was loaded.
+    /// A segment that was loaded whole is completed.
     Complete(u64),
     /// A partition reports that all that moves to it is complete.
     Report(u64),

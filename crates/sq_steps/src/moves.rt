@@ -45,7 +45,7 @@ impl Moves {
         })
     }
 
-    /// Whether a segment comes to this partition in this stage.
+    /// Whether a segment moves to this partition in this stage.
     pub(crate) fn has_destination(&self, stage: u64, part: u64) -> bool {
         self.segments
             .iter()

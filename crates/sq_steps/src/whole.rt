@@ -58,7 +58,6 @@ fn begin_stage(draft: &mut Draft, stage: u64) -> Result<(), NoScript>
     Ok(())
 }
 
-// Moves each segment of a stage.
 fn move_segments(draft: &mut Draft, moves: &Moves, stage: u64) -> Result<(), NoScript>
     ensures { OnOk result (DraftGoesOn draft.old draft.new) }
 {
@@ -98,7 +97,6 @@ fn report_from(draft: &mut Draft, moves: &Moves, stage: u64, part: u64) -> Resul
     Ok(())
 }
 
-// Moves a segment.
 fn move_segment(draft: &mut Draft, moving: MovingSegment) -> Result<(), NoScript>
     ensures { OnOk result (DraftGoesOn draft.old draft.new) }
 {

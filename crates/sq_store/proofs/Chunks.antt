@@ -50,7 +50,6 @@ still_none (suc n) room = refl
 abbrev pub left_of : Bool → ℕ → ℕ → Option ℕ
 left_of is_first room size = cond (is_first || nat_le size room) (Some (room - size)) None
 
--- whether it is the first
 test_first : (n : ℕ) (is_first : Bool) → is_first ≡ (suc n == 0) → is_first ≡ false
 test_first n is_first is = is ∙ ne_eqb (suc n) 0 (λ same. absurd (omega (arith, same)))
 

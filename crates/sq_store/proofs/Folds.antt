@@ -120,7 +120,6 @@ folded_none store root = sym (ap (λ b. if b then fold_of (get store root) else 
 abbrev pub folded_to : ℕ → List FamilyValue → List FamilyValue
 folded_to count families = map folded (take count families) ++ drop count families
 
--- the next one is folded
 pub folded_to_next : (i : ℕ) (families : List FamilyValue) (none : FamilyValue) → i < length families → set (folded_to i families) i (folded (get_or (folded_to i families) i none)) ≡ folded_to (suc i) families
 folded_to_next i [] none lt = absurd (omega arith)
 folded_to_next zero (family ∷ families) none lt = refl

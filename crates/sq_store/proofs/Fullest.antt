@@ -1,4 +1,4 @@
--- That a cut takes as many families as fit, but at least one.
+-- A cut takes as many families as fit, but at least one.
 use Rattle.std.proofs.Common.{◌≡◌, ⊎_elim, inl, inr, ℕ, zero, suc, true, false, List, [], ◌∷◌, length, get_or, take, drop, refl, sym, ap, subst, ◌∙◌, arith, length-take}
 use Rattle.std.specs.Prelude.{◌+◌, ◌-◌, ◌<◌, ◌≤◌, ◌⊎◌, nat_le, cond, slice_range, Some, All}
 use Rattle.std.specs.Option.{option_map_or}

@@ -11,7 +11,7 @@ use sq_schema::{Family, Root};
 use std::alloc::Global;
 
 /// Runs commands in order, and answers each as a finite map by root key does. A command for which memory runs out says
-/// so in its answer and changes nothing; families whose root keys aren't all different, or of which one stands, are
+/// so in its answer and changes nothing; families whose root keys aren't all different, or one of which stands, are
 /// handed back without a call of the store. Where there is no memory for the answers the commands come back, and none
 /// has run.
 pub fn run_store<S: FamilyStore>(
@@ -47,7 +47,7 @@ fn answer<S: FamilyStore>(store: &mut S, command: StoreCommand) -> StoreAnswer
     }
 }
 
-// Whether no two of the families have the same root key. Those that left a store together are sorted, which tells it at
+// Whether no two of the families have the same root key. Those that left a store together are sorted, which shows it at
 // once; of others each is looked for behind itself.
 fn differ(families: &[Family]) -> bool
     ensures { result ≡ roots_differ families.now }

@@ -60,8 +60,8 @@ pub trait FamilyStore {
         ensures within { IfOk result (λ cut. IsTrue (are_within extent.lo cut.end cut.families.items)) }
         ensures keyed { IfOk result (λ cut. AreKeyed cut.families.items) };
 
-    /// Puts families in, in any order, whose root keys differ and none of which stands. Where there is no memory for
-    /// them all they come back, and the store stays as it was.
+    /// Puts families in, in any order, whose root keys differ, and which don't stand there. Where there is no memory
+    /// for them all they come back, and the store stays as it was.
     fn give(&mut self, families: Vec<Family>) -> Result<(), Vec<Family>>
         requires differ { IsTrue (roots_differ families.items) }
         requires absent { IsTrue (has_none_of (contents self.old) families.items) }

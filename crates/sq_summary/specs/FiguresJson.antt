@@ -29,7 +29,7 @@ spread_data (Some spread) =
     (member (codes "p99") (figure_data spread.p99) no_members)))
 spread_data None = null
 
--- what became of jobs at a partition
+-- how jobs ended at a partition
 abbrev pub part_data : PartFigures → Data
 part_data part =
     object (member (codes "aborted") (figure_data part.aborted) (member (codes "answers") (spread_data part.answers)

@@ -1,4 +1,4 @@
--- What became of jobs at a partition.
+-- How jobs ended at a partition.
 use Rattle.std.specs.Prelude.{◌≡◌, ℕ, ◌==◌, ◌&&◌, List, length, map, filter}
 use Rattle.sq_chart.specs.declared.moment.TimedAnswer.{TimedAnswer}
 use Rattle.sq_summary.specs.declared.part_figures.PartFigures.{PartFigures}

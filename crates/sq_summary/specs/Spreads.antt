@@ -3,7 +3,7 @@ use Rattle.std.specs.Prelude.{◌≡◌, ℕ, ◌+◌, ◌-◌, ◌*◌, ◌/◌
 use Rattle.std.specs.List.Sorted.{IsPermutation, IsNonDecreasingBy}
 use Rattle.sq_summary.specs.declared.spread.Spread.{Spread}
 
--- of sorted times the first of which so many in 100, or more, are no longer
+-- the first of sorted times that is no shorter than so many in 100 of them, or more
 abbrev pub ranked : List ℕ → ℕ → ℕ
 ranked times percent = slice_index_or times ((length times * percent + 99) / 100 - 1) 0
 

@@ -3,7 +3,7 @@ use Rattle.std.specs.Prelude.{ℕ, List, [], ◌∷◌, ◌++◌, codes}
 use Rattle.sq_chart.specs.Csv.{milliseconds}
 use Rattle.sq_summary.specs.declared.times.Times.{Times}
 
--- a time in milliseconds, behind what it is that of
+-- a time in milliseconds, behind its name
 abbrev pub time_text : List ℕ → ℕ → List ℕ
 time_text front micros = front ++ milliseconds micros
 

@@ -30,7 +30,7 @@ pub struct RunFigures {
     pub is_whole: bool,
     /// What moved along each link, stage by stage.
     pub links: Vec<LinkFigures>,
-    /// What became of jobs at each partition.
+    /// How jobs ended at each partition.
     pub parts: Vec<PartFigures>,
     /// How long the parts of the run took.
     pub times: Times,

@@ -1,8 +1,8 @@
-// In which form figures are told.
+// The form in which figures are written.
 ghost use Rattle.std.specs.Prelude.{◌≡◌, ◌↔◌, IsTrue, codes, nat_eq};
 ghost use Rattle.std.specs.List.{ends_with};
 
-/// Whether figures are told as JSON or as text.
+/// Whether figures are written as JSON or as text.
 #[derive(Clone, Copy, Debug, PartialEq, Eq)]
 pub enum FiguresForm {
     /// One JSON value: [`figures_json`](crate::figures_json).
@@ -12,7 +12,7 @@ pub enum FiguresForm {
 }
 
 impl FiguresForm {
-    /// That of a file of this name: JSON where it ends in `.json`, and else text.
+    /// The form of a file of this name: JSON where it ends in `.json`, and else text.
     pub fn of_file(name: &str) -> FiguresForm
         ensures { (result ≡ FiguresForm.Json) ↔ IsTrue (ends_with nat_eq name.now (codes ".json")) }
     {

@@ -67,7 +67,7 @@ fn link_value(alloc: Global, link: LinkFigures) -> Result<Value, AllocError>
     })
 }
 
-// What became of jobs at each partition.
+// How jobs ended at each partition.
 fn parts_value(alloc: Global, parts: &[PartFigures]) -> Result<Value, AllocError>
     ensures { IfOk result (λ value. view value ≡ array (items_of (map part_data parts.now))) }
 {
@@ -78,7 +78,7 @@ fn parts_value(alloc: Global, parts: &[PartFigures]) -> Result<Value, AllocError
     Ok(Value::Array(values))
 }
 
-// What became of jobs at a partition.
+// How jobs ended at a partition.
 fn part_value(alloc: Global, part: PartFigures) -> Result<Value, AllocError>
     ensures { IfOk result (λ value. view value ≡ part_data part) }
 {

@@ -1,5 +1,5 @@
-//! The figures of a live run: what moved along each link, what became of jobs at each partition and how long they took, and how
-//! long the run took; as text and as JSON.
+//! The figures of a live run: what moved along each link, how jobs ended at each partition and how long they took, and
+//! how long the run took; as text and as JSON.
 #![tactic(auto)]
 
 mod figures;

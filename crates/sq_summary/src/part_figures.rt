@@ -1,4 +1,4 @@
-// What became of jobs at a partition.
+// How jobs ended at a partition.
 ghost use Rattle.std.specs.Prelude.{◌≡◌, IfOk};
 ghost use Rattle.sq_summary.specs.PartsFigured.{times_at, waited_times_at, ArePartFigures};
 
@@ -6,7 +6,7 @@ use crate::spread::{Spread, spread_of};
 use sq_chart::TimedAnswer;
 use std::alloc::{AllocError, Global};
 
-/// What became of jobs at a partition.
+/// How jobs ended at a partition.
 #[derive(Clone, Copy, Debug, PartialEq, Eq)]
 pub struct PartFigures {
     /// The partition's number.

@@ -27,7 +27,7 @@ pub fn write_times<W: Write>(writer: &mut W, times: Times) -> io::Result<()>
     writer.write_all(b"\n")
 }
 
-// Writes a time in milliseconds, behind what it is that of.
+// Writes a time in milliseconds, behind its name.
 fn write_time<W: Write>(writer: &mut W, front: &str, micros: u64) -> io::Result<()>
     ensures { OnOk result (Appends (W.contents writer.old) (W.contents writer.new) (time_text front.now micros)) }
 {

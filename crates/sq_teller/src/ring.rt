@@ -35,7 +35,6 @@ impl Teller for RingTeller {
     }
 }
 
-// A copy of a receipt.
 fn copy_of(receipt: &Receipt) -> Result<Receipt, AllocError>
     ensures { IfOk result (λ copy. copy ≡ receipt.now) }
 {

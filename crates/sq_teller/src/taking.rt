@@ -25,8 +25,8 @@ pub fn take_come(
     take_known(consumer, taken)
 }
 
-/// Takes each receipt that is still on its way, once its teller tells no more: all that was sent is taken then. Where there
-/// is no memory, they stay in the ring.
+/// Takes each receipt that is still on its way, once its teller sends no more: all that was sent is taken then. Where
+/// there is no memory, they stay in the ring.
 pub fn take_rest(
     teller: &mut RingTeller,
     consumer: &mut Consumer<Receipt>,

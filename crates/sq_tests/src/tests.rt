@@ -1,4 +1,4 @@
-// What is called of the libraries, and what comes of it.
+// What is called of the libraries, and the results.
 mod example;
 mod exec;
 mod fixtures;

@@ -61,7 +61,6 @@ line_from first second text xs =
     ∙ ap (λ (t : List ℕ). first ++ (32 ∷ (t ++ (10 ∷ [])))) same
     ∙ ap (λ (t : List ℕ). first ++ (32 ∷ t)) (append_assoc second others (10 ∷ [])))
 
--- the line of a commit
 pub commit_line : (id : ℕ) (answers : List OpAnswer) (text : List ℕ) → text ≡ codes "commit" ++ (32 ∷ decimal id) → text ++ (flat_map (λ answer. 32 ∷ op_answer_text answer) answers ++ (10 ∷ [])) ≡ line (commit_words id answers)
 commit_line id answers text e = rw e (line_from (codes "commit") (decimal id) op_answer_text answers)
 

@@ -121,7 +121,7 @@ row_fails tables table at (piece ∷ pieces) f begins e = rw (begins, e) refl
 same_table : (table : RowTable) (given : GivenValue) (now : TableValue) → ((root : ℕ) → rows_in now root ≡ with_one table given root) → with_one table given ≡ rows_in now
 same_table table given now taken = λ j root. sym (taken root) j
 
--- a fault of an opening is told, unless it is want of memory
+-- a fault of an opening is written, unless it is want of memory
 fault_told : (first : Option OpeningFault) (f : OpeningFault) → MayRefuse first first f → (of_opening f).fault ≢ fault.Memory → first ≡ Some f
 fault_told first opening.Memory may apart = absurd (apart refl)
 fault_told first (opening.Recon f) may apart = may
@@ -208,7 +208,7 @@ module _ (tables : ℕ) (table taken : RowTable) (at : ℕ) (first now mid new :
 
 -- ---- whole headers
 
--- a header whose fault this is, or of which nothing is told
+-- a header with this fault, or without an opening
 pub refused : {Y : Type 0} (f : InputFault) (line : InputLine) (left : List PieceValue) (wanted : Result (FirstLines × List PieceValue) LocatedFault) (read : Result Y InputFault) → (f ≢ fault.Memory → read ≡ Err f) → (at_line line read ≡ Err (located f (Some line)) → wanted ≡ Err (located f (Some line)))
     → IsReadBefore {X = FirstLines} {Y = FirstLines} (λ first. first) (Err (located f (Some line))) left wanted
 refused f line left wanted read is follows = λ apart. follows (ap (at_line line) (is apart))
@@ -280,7 +280,6 @@ no_early_line opening.Capacity = omega arith
 no_early_line (opening.Row at f) = omega arith
 no_early_line (opening.Place at f) = omega arith
 
--- the header is read so
 abbrev pub HeaderRead : ℕ → Result OpeningValue LocatedFault → LinesValue → LinesValue → Type 0
 HeaderRead tables r old new = Leaves old new (λ all left. Opens tables r left (header_of tables all))
 

@@ -62,7 +62,7 @@ row_shrinks words x e =
     let first = word_shrinks _ words a.0 a.1 in
     made_shrinks (λ (t : List ℕ). record { number = a.0.0; note = t }) (note_field a.0.1) (length words) x (λ y f. omega (arith, first, word_shrinks _ a.0.1 y f)) a.2
 
--- so does an operation, which goes on behind its key
+-- so does an operation, which continues behind its key
 goes_on : (name : OpName) (key : RowKey) (n : ℕ) (words : List Word) (x : Op × List Word) → length words < n → op_at_key name key words ≡ Some x → length x.1 < n
 goes_on Get key n words x less e = omega (arith, less, ap (λ (p : Op × List Word). length p.1) (some_is (op.Get key, words) x e))
 goes_on Del key n words x less e = omega (arith, less, ap (λ (p : Op × List Word). length p.1) (some_is (op.Del key, words) x e))

@@ -47,7 +47,7 @@ line_as read pieces = do
   value ← read line.0
   Ok (value, line.1)
 
--- what stands behind this front, with which the bytes begin
+-- what is behind this front, with which the bytes begin
 abbrev pub behind : List ℕ → List ℕ → Result (List ℕ) InputFault
 behind front bytes = if starts_with nat_eq bytes front then Ok (drop (length front) bytes) else Err BadHeader
 

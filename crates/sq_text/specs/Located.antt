@@ -8,7 +8,7 @@ use Rattle.sq_text.specs.declared.located.InputLine.{InputLine}
 use Rattle.sq_text.specs.declared.located.InputLine.TheVariants.{Old, New, Config, Row, Later}
 use Rattle.sq_text.specs.declared.located.LocatedFault.{LocatedFault}
 
--- the number of a line, of which the first is 1: the old plan, the new plan, the sizes, row by row, and what comes behind them
+-- the number of a line, from 1: the old plan, the new plan, the sizes, row by row, and what comes behind them
 abbrev pub line_number : InputLine → ℕ
 line_number Old = 1
 line_number New = 2
@@ -25,13 +25,13 @@ abbrev pub at_line : {A : Type 0} → InputLine → Result A InputFault → Resu
 at_line line (Ok x) = Ok x
 at_line line (Err fault) = Err (located fault (Some line))
 
--- the line that a fault of the opening belongs to: that of its row, or else that of the sizes
+-- the line that a fault of the opening belongs to: the line of its row, or else of the sizes
 abbrev pub opening_line : OpeningFault → InputLine
 opening_line (opening.Row at fault) = Row at
 opening_line (opening.Place at fault) = Row at
 opening_line fault = Config
 
--- why there is no opening, told as a fault of the input
+-- why there is no opening, as a fault of the input
 abbrev pub of_opening : OpeningFault → LocatedFault
 of_opening opening.Memory = located Memory None
 of_opening fault = located (Opening fault) (Some (opening_line fault))

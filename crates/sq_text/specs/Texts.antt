@@ -168,7 +168,7 @@ move_words range = decimal range.lo ∷ decimal range.hi ∷ decimal range.src �
 abbrev pub range_line : MovingRange → List ℕ
 range_line range = line (codes "range" ∷ move_words range)
 
--- the stage of a segment, which is told where there is more than one
+-- the stage of a segment, where there is more than one
 abbrev pub told_stage : ReconValue → MovingRange → Option ℕ
 told_stage recon segment = if nat_lt 1 (stages recon) then Some (stage_in recon segment) else None
 
@@ -176,7 +176,7 @@ abbrev pub stage_words : Option ℕ → List Word
 stage_words None = []
 stage_words (Some stage) = codes "stage" ∷ decimal stage ∷ []
 
--- a segment of this number, with its stage where that is told
+-- a segment of this number, with its stage where there is more than one
 abbrev pub segment_line : ℕ → MovingRange → Option ℕ → List ℕ
 segment_line seg segment stage = line (codes "segment" ∷ decimal seg ∷ move_words segment ++ stage_words stage)
 

@@ -19,7 +19,7 @@ abbrev pub words_left : Option (List ℕ) → List Word
 words_left None = []
 words_left (Some rest) = words_of rest
 
--- the next step goes on with what this one found
+-- the next step takes what this one found
 infixl 10 ◌>>=◌
 abbrev pub ◌>>=◌ : {A B : Type 0} → Option A → (A → Option B) → Option B
 (Some x) >>= f = f x

@@ -11,7 +11,6 @@ use sq_schema::{Row, RowKey};
 use std::alloc::Global;
 
 impl<'a> Words<'a> {
-    // A number.
     pub(crate) fn number(&mut self) -> Result<u64, Malformed>
         ensures { IsParsed (λ n. (n, self.new)) result (number_field self.old) }
     {

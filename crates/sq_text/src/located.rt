@@ -19,7 +19,7 @@ pub enum InputLine {
     New,
     /// The third one, with the sizes.
     Config,
-    /// The line with this number, from 0, of those behind the sizes, each of which begins as an opening row does.
+    /// The line with this number, from 0, of those behind the sizes that begin as opening rows do.
     Row(usize),
     /// A line behind the header, by its number in the input, whose first line has the number 1.
     Later(u32),

@@ -1,4 +1,4 @@
-// The lines that tell what moves.
+// The lines of what moves.
 ghost use Rattle.std.specs.Prelude.{◌≡◌, nat_lt, OnOk};
 ghost use Rattle.std.specs.List.{flat_map};
 ghost use Rattle.std.specs.Io.KnownBytes.{Appends};
@@ -18,7 +18,7 @@ fn write_range<W: Write>(writer: &mut W, range: Range) -> io::Result<()>
     writeln!(writer, "range {lo} {hi} {src} {dst}")
 }
 
-// Writes the line of a segment, with its stage where that is told.
+// Writes the line of a segment, with its stage where there is more than one.
 fn write_segment<W: Write>(
     writer: &mut W,
     seg: usize,
@@ -45,7 +45,7 @@ fn write_ranges<W: Write>(writer: &mut W, ranges: &[Range]) -> io::Result<()>
     Ok(())
 }
 
-// The stage of a segment, which is told where there is more than one.
+// The stage of a segment, where there is more than one.
 fn told_stage(recon: &Recon, several: bool, segment: Range) -> Option<u64>
     requires { several ≡ nat_lt 1 (stages recon.now) }
     ensures { result ≡ told_stage recon.now segment }

@@ -7,7 +7,7 @@ use std::io;
 use std::io::Write;
 use thiserror::Error;
 
-/// A write failed. How much went out isn't told.
+/// A write failed. It isn't known how much went out.
 #[derive(Clone, Copy, Debug, PartialEq, Eq, Error)]
 #[error("{}", meaning(self.number()))]
 pub struct WriteFault;

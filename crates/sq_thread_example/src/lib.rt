@@ -59,8 +59,8 @@ pub fn run_jobs<R: Threads + Wait + Sync>(
     }
 }
 
-// Posts each job to its partition. One that has none, or that its queue has no room for, isn't answered, which the audit tells
-// then.
+// Posts each job to its partition. One that has none, or that its queue has no room for, isn't answered, which the
+// audit finds then.
 fn post_all<R: Wait>(rt: &R, fabric: &Fabric, jobs: &[Job]) -> Result<(), AllocError> {
     for job in jobs {
         drop(fabric.post(rt, job.part, job.txn.clone()?));

@@ -1,4 +1,4 @@
--- What becomes of a run: all nodes and all pumps are its nodes and its pumps still.
+-- How a run changes: all nodes and all pumps are its nodes and its pumps still.
 use Rattle.std.proofs.Common.{◌≡◌, ℕ, ◌+◌, ◌<◌, List, length, get_or, Some, refl, sym, ap, ◌∙◌, subst, ⊎_elim}
 use Rattle.std.specs.Prelude.{◌≢◌, slice_get, slice_set, All}
 use Rattle.std.proofs.lemmas.List.{length-set}

@@ -1,4 +1,4 @@
-// Runs that are made by hand or by their workers, and what comes of them.
+// Runs that are made by hand or by their workers, and the results.
 mod audit;
 mod closing;
 mod driver;

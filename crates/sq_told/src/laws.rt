@@ -6,9 +6,9 @@ ghost use Rattle.sq_node_model.specs.Prelude.{ReceiptValue};
 ghost use Rattle.sq_told.specs.Interleaving.{Interleaves};
 ghost use Rattle.sq_told.specs.Lines.{each_longer};
 
-/// Who takes receipts from any of the partitions, as they come there, takes an interleaving of what each partition gave: it
-/// begins so with none (`begins`), and stays so with some more of any partition behind it (`goes_on`), and with some more of
-/// each, one partition after another (`all_go_on`).
+/// Taking receipts from any of the partitions, as they come there, gives an interleaving of what each partition gave:
+/// it begins so with none (`begins`), and stays so with some more of any partition behind it (`goes_on`), and with some
+/// more of each, one partition after another (`all_go_on`).
 pub fn receipts_as_they_come_interleave()
     ensures begins { (parts : ℕ) → Interleaves {X = ReceiptValue} (replicate parts []) [] }
     ensures goes_on { (taken : List (List ReceiptValue)) (whole more of_part : List ReceiptValue)

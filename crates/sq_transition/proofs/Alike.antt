@@ -1,4 +1,4 @@
--- What a history tells of chunks.
+-- What a history says of chunks.
 use Rattle.std.proofs.Common.{⊎_elim, ◌≡◌, ◌≢◌, ℕ, ◌+◌, ◌<◌, ◌≤◌, true, if◌then◌else◌, List, [], ◌∷◌, Some, None, refl, sym, ap, ◌∙◌, arith}
 use Rattle.std.proofs.lemmas.Bool.{cases_eq, cases_lt, eq-eqb, ne_eqb}
 use Rattle.sq_schema.specs.Family.{FamilyValue}
@@ -59,7 +59,7 @@ same_families lo hi from upto (one ∷ ones) (other ∷ others) rising also same
     (cases_eq one.root root) in
     λ k. first k ∷ same_families (one.root + 1) hi (other.root + 1) upto ones others a.rest b.rest rest k
 
--- a chunk is the one that the history tells of its note
+-- a chunk is the one that the history has for its note
 pub chunk_is : (o : OpeningValue) (t : Trace) (one other : ChunkValue) → ChunkHolds o t one → ChunkHolds o t other → one.note ≡ other.note → one ≡ other
 chunk_is o t one other holds also same =
     let families = same_families one.note.lo one.note.hi other.note.lo other.note.hi one.families other.families holds.rising also.rising

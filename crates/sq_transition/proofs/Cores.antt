@@ -33,7 +33,7 @@ core_set o t after w part core h below mine others =
           (λ _. mine) (λ p apart within. others p apart within (h.each p within));
     }
 
--- a link of which the partition that was set has no end that changed
+-- the end of a link at another partition than the one that was set doesn't change
 pub link_stays : (w : WorldValue) (part : ℕ) (core : CoreValue) (j : ℕ) → part < length w.cores
     → ((queue_at w j).src ≡ part → out_at core (queue_at w j).dst ≡ out_at (core_at w part) (queue_at w j).dst)
     → ((queue_at w j).dst ≡ part → inbox_at core (queue_at w j).src ≡ inbox_at (core_at w part) (queue_at w j).src)
@@ -95,7 +95,7 @@ moves_kept o t after part core h same = record {
   whole = λ seg node into. h.whole seg node into ∙ sym (same.whole seg node into);
 }
 
--- a partition of which two histories say the same
+-- a partition is the same where two histories say the same of it
 pub core_kept : (o : OpeningValue) (t after : Trace) (part : ℕ) (core : CoreValue) → CoreHolds o t part core → SaySameOf o t after part → CoreHolds o after part core
 core_kept o t after part core h same = record {
   set = set_kept o t after part core h.set same.started same.stage;

@@ -182,7 +182,6 @@ module _ (o : OpeningValue) (t : Trace) (src dst count : ℕ) (note : Note)
   others_cut : (p : ℕ) (core : CoreValue) → src ≢ p → CoreHolds o t p core → CoreHolds o (cut_more t src dst note count) p core
   others_cut p core apart h = record { set = h.set; store = λ root. h.store root ∙ left_there p root apart; waiting = h.waiting; moves = h.moves }
 
-  -- the chunk that was cut
   cut_chunk : (core : CoreValue) → CoreHolds o t src core → ChunkHolds o t (record { note = note; families = families_between core.store note.lo note.hi })
   cut_chunk core h = record {
     families = λ root. family_in-between note.lo note.hi core.store root (rooted o t src core h) ∙ here root (covers note root) refl;
@@ -417,7 +416,7 @@ cut_holds o t w src dst i at count item h from none facts there =
     (λ _ c. c)
     (λ s d apart. uncut_link o t src dst count note s d refl refl apart (goes_other (slice_get o.recon.segments item.seg) src dst s d (open_parts o t src dst item is_open_item).0 apart)))
 
--- what a cut comes to, by its note
+-- the result of a cut, by its note
 abbrev cut_told : WorldValue → ℕ → ℕ → ℕ → Note → StepResult
 cut_told w src dst at note =
     (WasCut note (length (families_between (core_at w src).store note.lo note.hi)), with_core w src (core_after_cut (core_at w src) dst at note))

@@ -38,7 +38,7 @@ begin_facts o t is legal = record {
 pub step_facts : (o : OpeningValue) (t : Trace) → IsOpening o → IsLegal o t → StepFacts o t
 step_facts o t is legal = record { begins = begin_facts o t is legal; runs = running_facts o is t legal; loads = load_facts o t is legal; cuts = cut_facts o t is legal; folds = fold_facts o is t legal }
 
--- each step leads from a world that its history tells to one that its history tells, and the history stays legal and orderly
+-- each step leads from a world of its history to one of the longer history, which stays legal and orderly
 pub headline : (o : OpeningValue) (t : Trace) (old new : WorldValue) (step : Step) (given : Answer) → IsOpening o → IsLegal o t → Holds o t old → IsTransition old step given new → KeepsHeadline o ((step, given) ∷ t) new
 headline o t old new step given is legal holds transition =
     let went = transition_keeps o t old new step given (step_facts o t is legal) holds transition in

@@ -54,14 +54,14 @@ prepare_keeps o t w part h =
     let cores = cores_kept o t ((Prepare part, Done) ∷ t) w h.partitions (λ p _. record { started = sym idle; stage = refl; shares = λ root. refl; waits = refl; moves = same_moves o t p }) in
     (refl, partitions_changed (leader_changed h now) cores)))
 
--- what can't tell whether a partition was told something
+-- what doesn't depend on whether a partition was informed of something
 seen_told : {X : Type 0} (told : CoreValue → CoreValue) (seen : CoreValue → X) → ((core : CoreValue) → seen (told core) ≡ seen core) → (cores : List CoreValue) (p : ℕ)
     → seen (slice_index_or (map told cores) p no_core) ≡ seen (slice_index_or cores p no_core)
 seen_told told seen same [] p = refl
 seen_told told seen same (core ∷ cores) zero = same core
 seen_told told seen same (core ∷ cores) (suc p) = seen_told told seen same cores p
 
--- all partitions are told something by the leader
+-- the leader informs all partitions of something
 module _ (w : WorldValue) (leader : Leader) (told : CoreValue → CoreValue) where
   abbrev all_told : WorldValue
   all_told = record w { leader = leader; cores = map told w.cores }
@@ -92,7 +92,7 @@ module _ (w : WorldValue) (leader : Leader) (told : CoreValue → CoreValue) whe
           let inbox = seen_told told (λ core. inbox_at core q.src) (inbox_same q.src) w.cores q.dst in
           λ i. record { src = q.src; dst = q.dst; out = out i; queue = q.chunks; inbox = inbox i }
 
--- a partition, once it was told of the start
+-- a partition, once it heard of the start
 core_started : (o : OpeningValue) (t : Trace) (p : ℕ) (core : CoreValue) → CoreHolds o t p core → CoreHolds o ((Start, Done) ∷ t) p (started_core core)
 core_started o t p core was =
     assumption (set_again o t ((Start, Done) ∷ t) p core true core.stage core.outs core.inboxes core.given_up core.loaded was.set refl was.set.stage refl refl refl refl, was)
@@ -172,7 +172,7 @@ moving_started Preparing e = e
 moving_started Moving e = refl
 moving_started Ended e = refl
 
--- a partition, once it was told of the stage
+-- a partition, once it heard of the stage
 core_entered : (o : OpeningValue) (t : Trace) (n : ℕ) → is_started t ≡ is_started ((Next, Done) ∷ t) → n ≡ stage t → (p : ℕ) (core : CoreValue) → CoreHolds o t p core → CoreHolds o ((Next, Done) ∷ t) p (entered_core (n + 1) core)
 core_entered o t n started now p core was =
     assumption (set_again o t ((Next, Done) ∷ t) p core core.started (n + 1) core.outs core.inboxes core.given_up core.loaded was.set (was.set.started ∙ started) (ap (λ i. i + 1) now) refl refl refl refl, was)

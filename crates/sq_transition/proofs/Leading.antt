@@ -1,4 +1,4 @@
--- The leader after a step: how far it is, and what the partitions told it.
+-- The leader after a step: how far it is, and what the partitions said to it.
 use Rattle.std.proofs.Common.{◌≡◌, ℕ, ◌+◌, ◌<◌, Bool, true, false, List, length, refl, sym, ap, ◌∙◌, arith, true≢false}
 use Rattle.std.specs.Prelude.{◌==◌, ◌||◌, if◌then◌else◌}
 use Rattle.std.proofs.lemmas.List.{length-set, length-replicate}

@@ -40,7 +40,7 @@ on_its_way o t l h i chunk at =
     (Contains-slice_get (drop (load_count t l.src l.dst) l.out.notes) i chunk.note
     (ap (λ list. slice_get list i) (sym h.way) ∙ slice_get-map (λ (c : ChunkValue). c.note) (under_way l) i ∙ ap (option_map (λ (c : ChunkValue). c.note)) at))
 
--- a segment that goes to a partition comes to it
+-- a segment that goes to a partition reaches it
 goes_comes : (o : OpeningValue) (seg src dst : ℕ) → SegmentGoes o seg src dst → comes_into o dst seg
 goes_comes o seg src dst goes = (goes.segment, goes.there, goes.destination)
 

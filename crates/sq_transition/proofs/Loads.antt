@@ -40,7 +40,7 @@ use Rattle.sq_transition.proofs.LinkEnds.{inbox_held, loaded_held, inbox_of, inb
 use Rattle.sq_transition.proofs.PushPop.{counted_at}
 use Rattle.sq_transition.proofs.Parts.{share_none}
 
--- what is known of the chunk that a link has to load next: its note goes on where the loaded ones end
+-- what is known of the chunk that a link has to load next: its note continues where the loaded ones end
 pub record NextFacts (o : OpeningValue) (t : Trace) (src dst : ℕ) (note : Note) : Type 0 where
   pub comes_from : note.src ≡ src
   pub goes_to : note.dst ≡ dst
@@ -142,7 +142,7 @@ loads_here o t src dst count core chunk h facts c =
       };
     }
 
--- a segment comes to one partition alone
+-- a segment moves to one partition alone
 comes_once : (o : OpeningValue) (part other seg : ℕ) → comes_into o part seg → comes_into o other seg → part ≡ other
 comes_once o part other seg one two = sym one.2 ∙ ap (λ (range : Range). range.dst) (same_Some one.0 two.0 (sym one.1 ∙ two.1)) ∙ two.2
 

@@ -1,4 +1,4 @@
--- Where a root key's rows are, as its partition tells it and by the history.
+-- Where a root key's rows are, by its partition and by the history.
 use Rattle.std.proofs.Common.{subst, ◌≡◌, ℕ, Bool, true, false, refl, sym, ap, ◌∙◌, true≢false}
 use Rattle.std.specs.Prelude.{◌<◌, ◌≢◌, ◌==◌, ◌&&◌, nat_lt, if◌then◌else◌, not, slice_get, Option, Some, None, option_map, option_and_then, unwrap_or}
 use Rattle.std.specs.Option.{option_map_or}
@@ -29,7 +29,7 @@ use Rattle.sq_transition.proofs.Nodes.{statuses_same}
 abbrev pub node_over : OpeningValue → Trace → ℕ → Range → ℕ → ℕ
 node_over o t seg range root = covering (status_of t seg) (leaf_of o.recon.width range root)
 
--- what the history tells of a root key in a segment
+-- what the history says of a root key in a segment
 pub record InSegment (o : OpeningValue) (t : Trace) (root seg : ℕ) (range : Range) : Type 0 where
   pub comes_from : source o root ≡ range.src
   pub goes_to : destination o root ≡ range.dst
@@ -39,7 +39,7 @@ pub record InSegment (o : OpeningValue) (t : Trace) (root seg : ℕ) (range : Ra
   pub given_up : is_begun_over o t root ≡ is_leaf_begun t seg (leaf_of o.recon.width range root)
   pub loaded : is_covered (loads t) root ≡ is_key_loaded t seg root
 
--- what the history tells of a root key in no segment
+-- what the history says of a root key in no segment
 pub record InNone (o : OpeningValue) (t : Trace) (root : ℕ) : Type 0 where
   pub moving : moves o root ≡ false
   pub begun : is_begun_over o t root ≡ false
@@ -76,7 +76,7 @@ located_in core recon root seg range same found there =
 located_nowhere : (core : CoreValue) (recon : ReconValue) (root : ℕ) → core.recon ≡ recon → segment_of recon.segments root ≡ None → location core root ≡ None
 located_nowhere core recon root same none = (λ k. located core root (same k) (leaf_at (same k) root)) ∙ ap (located core root recon) (leaf_none recon root none)
 
--- a location is what the history tells, as far as its partition can know it
+-- a location is the one of the history, as far as its partition can know it
 pub record IsAtLocation (o : OpeningValue) (t : Trace) (part root : ℕ) (at : Location) : Type 0 where
   pub comes_from : source o root ≡ at.src
   pub goes_to : destination o root ≡ at.dst
@@ -103,7 +103,7 @@ location_by o t part root core (Some seg) facts h e =
       loaded = λ here. h.moves.loaded seg root (at.0, at.1, here) ∙ sym is.loaded;
     })
 
--- the location of a root key is what the history tells
+-- the location of a root key is the one of the history
 pub location_holds : (o : OpeningValue) (t : Trace) (part root : ℕ) (core : CoreValue) → RoutingFacts o t → CoreHolds o t part core → LocationHolds o t part root (location core root)
 location_holds o t part root core facts h = location_by o t part root core (segment_of o.recon.segments root) facts h refl
 

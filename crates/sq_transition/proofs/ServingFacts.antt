@@ -1,4 +1,5 @@
--- On a legal history a partition can tell of a root key what routing it takes, and running a transaction rests on firm ground.
+-- On a legal history a partition knows of a root key what routing it takes, and running a transaction rests on firm
+-- ground.
 use Rattle.std.proofs.Common.{subst, ◌≡◌, ℕ, true, sym, ap, ◌∙◌, eq-eqb}
 use Rattle.std.specs.Prelude.{◌==◌, ◌&&◌, drop, reverse, slice_get, Some, None, is_some}
 use Rattle.std.specs.List.{list_any}

@@ -1,4 +1,4 @@
--- A list of which one element was set.
+-- A list with one element set.
 use Rattle.std.proofs.Common.{⊎_elim, subst, ◌≡◌, ℕ, Bool, true, false, List, sym, length}
 use Rattle.std.specs.Prelude.{◌<◌, ◌≢◌, ◌==◌, if◌then◌else◌, slice_set, slice_index_or}
 use Rattle.std.proofs.lemmas.List.{get_or-set_same, get_or-set_other}

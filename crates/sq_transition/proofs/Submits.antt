@@ -47,7 +47,7 @@ routed_is : (o : OpeningValue) (t : Trace) (part : ℕ) (txn : TxnValue) (who : 
 routed_is o t part txn None = refl
 routed_is o t part txn (Some who) = refl
 
--- what becomes of a transaction that runs here
+-- the result of a transaction that runs here
 abbrev ran_result : WorldValue → ℕ → TxnValue → StepResult
 ran_result w part txn =
     let core = core_at w part in
@@ -58,7 +58,7 @@ ran_result w part txn =
 abbrev moved_result : WorldValue → ℕ → TxnValue → StepResult
 moved_result w part txn = (Moved txn.id (sent_to w txn.root (route (core_at w part) txn.root)), with_core w part (core_at w part))
 
--- what became of it, as its outcome at the partition
+-- the result of it, as its outcome at the partition
 abbrev served_result : WorldValue → ℕ → TxnValue → Bool → StepResult
 served_result w part txn here =
     let core = core_at w part in
@@ -71,7 +71,7 @@ served_cases : (w : WorldValue) (part : ℕ) (txn : TxnValue) (here : Bool)
 served_cases w part txn true = refl
 served_cases w part txn false = refl
 
--- what a refusal, or none, comes to
+-- the result of a refusal, or of none
 abbrev after_refusal : WorldValue → StepResult → Option SubmitFault → StepResult
 after_refusal w went None = went
 after_refusal w went (Some fault) = refuse w (submit_refused fault)
@@ -88,7 +88,7 @@ taken_after : (w : WorldValue) (part : ℕ) (txn : TxnValue) (refusal : Option S
 taken_after w part txn None = refl
 taken_after w part txn (Some fault) = refl
 
--- what becomes of a submitted transaction, case by case
+-- the result of a submitted transaction, case by case
 taken_cases : (w : WorldValue) (part : ℕ) (txn : TxnValue)
     → taken w part txn (submit_refusal (core_at w part) txn)
     ≡ (if must_wait (core_at w part) txn.root then wait_result w part txn

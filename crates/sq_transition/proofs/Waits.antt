@@ -45,7 +45,7 @@ waiting_holds o t w part txn seg leaf h there =
           (λ j _ i chunk _ c. c);
     }
 
--- what becomes of a transaction that has to wait
+-- the result of a transaction that has to wait
 abbrev pub wait_result : WorldValue → ℕ → TxnValue → StepResult
 wait_result w part txn =
     if nat_le MAX_WAITING (length (core_at w part).waiting) then refuse w WaitFull

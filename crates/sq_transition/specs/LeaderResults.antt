@@ -34,7 +34,7 @@ prepare_result w part =
     else (Done, record w { leader = after_prepare w.leader part })
     )
 
--- a partition to which the start of the move was told
+-- a partition that heard of the start of the move
 abbrev pub started_core : CoreValue → CoreValue
 started_core core = record core { started = true }
 

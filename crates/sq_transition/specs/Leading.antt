@@ -1,4 +1,4 @@
--- The leader of a world: how far it is, what the partitions told it, and what a step makes of it.
+-- The leader of a world: how far it is, what the partitions said to it, and what a step makes of it.
 use Rattle.std.specs.Prelude.{ℕ, Bool, true, false, length}
 use Rattle.sq_ranges.specs.ReconValue.{ReconValue}
 use Rattle.sq_leader.specs.declared.leader.Leader.{Leader}

@@ -32,13 +32,13 @@ is_root_given_up w root = option_map_or (λ at. is_begun (status_in w at.0 (cove
 abbrev pub sent_to : WorldValue → ℕ → ℕ → ℕ
 sent_to w root who = if is_root_given_up w root then owner w.new root else who
 
--- the answer to a submitted transaction of which this became
+-- the answer to a submitted transaction with this outcome
 abbrev pub submitted : WorldValue → TxnValue → Outcome → Answer
 submitted w txn (outcome.Done reply) = Replied txn.id reply
 submitted w txn (outcome.Moved who) = Moved txn.id (sent_to w txn.root who)
 submitted w txn (outcome.Waits seg leaf) = Waits txn.id seg leaf
 
--- a transaction is served at a partition: what becomes of it, and the partition after it
+-- a transaction is served at a partition: its outcome, and the partition after it
 abbrev pub served_core : CoreValue → TxnValue → Outcome × CoreValue
 served_core core txn =
     let served_here = served core.part (route core txn.root) core.store txn in

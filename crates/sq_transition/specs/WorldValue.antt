@@ -21,8 +21,8 @@ pub record QueueValue : Type 0 where
   pub dst : ℕ
   pub chunks : List ChunkValue
 
--- a world: the plans, what moves between them and the sizes; the leader; the partitions, each by itself; for each segment the
--- statuses of its nodes from node 1 on; and the queues between the partitions
+-- a world: the plans, what moves between them and the sizes; the leader; the partitions; for each segment the statuses
+-- of its nodes from node 1 on; and the queues between the partitions
 pub record WorldValue : Type 0 where
   pub tables : ℕ
   pub old : PlanValue
@@ -94,7 +94,7 @@ running_stage w = stage_of w.leader
 abbrev pub running_range : WorldValue → ℕ → Option Range
 running_range w seg = of_stage w.recon (running_stage w) (range_of w seg)
 
--- the partition that a segment leaves, and the one that it comes to
+-- the partition that a segment leaves, and the one that it moves to
 abbrev pub source_of : WorldValue → ℕ → ℕ
 source_of w seg = option_map_or (λ range. range.src) (range_of w seg) 0
 

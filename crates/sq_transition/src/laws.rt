@@ -8,16 +8,15 @@ ghost use Rattle.sq_model.specs.Trace.{Trace};
 ghost use Rattle.sq_transition.specs.EachStep.{EachStepKeepsHeadline};
 ghost use Rattle.sq_transition.specs.Holds.{ChunkHolds, CoreHolds};
 
-/// Each step leads from a world that its history tells to one that its history tells: where the steps so far were answered
-/// legally and the world is the one that they lead to, the next step is answered legally too, all moves stay orderly, and
-/// the world after it is again the one that the steps lead to.
+/// Each step leads from a world of its history to one of the longer history: where the steps so far were answered
+/// legally and the world is the one that they lead to, the next step is answered legally too, all moves stay orderly,
+/// and the world after it is again the one that the steps lead to.
 pub fn each_step_keeps_the_headline()
     ensures { EachStepKeepsHeadline }
 {}
 
-/// What one history tells of a chunk and of a partition is all that they hold: two chunks that it tells and that have one
-/// note are one chunk, and two partitions that it tells of one number have the same families and the same transactions
-/// that wait.
+/// What one history says of a chunk and of a partition is all that they hold: two chunks of it that have one note are
+/// one chunk, and two partitions of it of one number have the same families and the same transactions that wait.
 pub fn a_history_tells_what_each_holds()
     ensures chunks { (o : OpeningValue) (t : Trace) (one other : ChunkValue) → ChunkHolds o t one → ChunkHolds o t other
         → one.note ≡ other.note → one ≡ other }

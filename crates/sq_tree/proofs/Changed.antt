@@ -1,4 +1,4 @@
--- Statuses that are looked up by node, of which one is another.
+-- Statuses that are looked up by node, with one changed.
 use Rattle.std.specs.Prelude.{ℕ, ◌==◌, if◌then◌else◌}
 use Rattle.sq_tree.specs.declared.status.Status.{Status}
 

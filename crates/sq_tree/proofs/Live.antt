@@ -31,7 +31,7 @@ far_enough status (suc steps) (suc more) n node few few' =
           ∙ sym (cond-false (is_live status n) n (live_within more status (parent n)) dead)
     ]
 
--- the nearest live node above a node that isn't live is that of its parent
+-- the nearest live node above a node that isn't live is the one above its parent
 pub live_within-parent : (status : ℕ → Status) (n : ℕ) → IsTrue (is_node n) → is_live status n ≡ false → live_within 5 status n ≡ live_within 5 status (parent n)
 live_within-parent status n node dead =
     let at = node_bounds n node in
@@ -40,6 +40,6 @@ live_within-parent status n node dead =
     cond-false (is_live status n) n (live_within 4 status (parent n)) dead
     ∙ far_enough status 4 5 (parent n) (node_within (parent n) (omega arith) (omega arith)) (omega arith) (omega arith)
 
--- that of a live node is the node
+-- the nearest live node above a live node is the node
 pub live_within-live : (status : ℕ → Status) (n : ℕ) → is_live status n ≡ true → live_within 5 status n ≡ n
 live_within-live status n live = cond-true (is_live status n) n (live_within 4 status (parent n)) live

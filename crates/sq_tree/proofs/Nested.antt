@@ -29,7 +29,6 @@ lies n m = if is_under n m then (n == m) || (nat_lt 1 m && is_under n (parent m)
 every_pair : all_below (λ n. all_below (λ m. lies (suc n) (suc m)) 63) 63 ≡ true
 every_pair = refl
 
--- the bounds of a node, and the node at bounds
 pub node_bounds : (n : ℕ) → IsTrue (is_node n) → (1 ≤ n) × (n ≤ 63)
 node_bounds n node = (grind (arith, nat_tests), grind (arith, nat_tests))
 
@@ -100,7 +99,6 @@ pub above_within : (n leaf : ℕ) → first_leaf n ≤ leaf → leaf < first_lea
 above_within n leaf low high =
     and_from (nat_le (first_leaf n) leaf) (nat_lt leaf (first_leaf n + span n)) (le-leb (first_leaf n) leaf low) (lt-ltb leaf (first_leaf n + span n) high)
 
--- so no leaf is one of both
 pub no_leaf_of_both : (n m leaf : ℕ) → IsTrue (is_node n) → IsTrue (is_node m) → is_under n m ≡ false → is_under m n ≡ false → IsTrue (is_above n leaf) → IsTrue (is_above m leaf) → ⊥
 no_leaf_of_both n m leaf node other not_under not_above above above' =
     disagree (first_leaf n) (first_leaf m) (span n) (span m) leaf (above_bounds n leaf above) (above_bounds m leaf above') (apart n m node other not_under not_above)

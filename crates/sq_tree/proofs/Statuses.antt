@@ -1,4 +1,4 @@
--- What tests of a status tell.
+-- What tests of a status show.
 use Rattle.std.proofs.Common.{◌≡◌, ◌↔◌, Bool, true, false, IsTrue, refl}
 use Rattle.std.proofs.lemmas.Bool.{false_from_ne_true}
 use Rattle.sq_tree.specs.declared.status.Status.{Status}
@@ -27,7 +27,7 @@ split_touched (Claimed p) e = refl
 split_touched (Partial p) e = refl
 split_touched (Complete p) e = refl
 
--- an answer that tells whether a status is split is the test
+-- an answer that says whether a status is split is the test
 pub answer_is_split : (answer : Bool) (st : Status) → (IsTrue answer ↔ (st ≡ Split)) → answer ≡ is_split st
 answer_is_split answer Free tells = false_from_ne_true answer (λ e. let other = tells.0 e in absurd cc)
 answer_is_split answer Split tells = tells.1 refl

@@ -81,7 +81,7 @@ both reads.Complete reads.Complete = reads.Complete
 both reads.NotStarted reads.NotStarted = reads.NotStarted
 both _ _ = reads.Partial
 
--- what a live node with this status reads as, where `below` tells what its halves read as
+-- what a live node with this status reads as, where `below` has what its halves read as
 abbrev pub reading_of : (ℕ → Reading) → ℕ → Status → Reading
 reading_of below n Free = reads.NotStarted
 reading_of below n (Claimed p) = reads.NotStarted

@@ -53,7 +53,7 @@ impl ClaimFault {
 /// Why a node wasn't begun.
 #[derive(Clone, Copy, Debug, PartialEq, Eq)]
 pub enum BeginFault {
-    /// It isn't claimed. This is what was found.
+    /// It isn't claimed, but has this status.
     NotClaimed(Status),
     /// Another pull claimed it.
     WrongPull,
@@ -74,7 +74,7 @@ impl BeginFault {
 /// Why a node wasn't completed.
 #[derive(Clone, Copy, Debug, PartialEq, Eq)]
 pub enum CompleteFault {
-    /// It isn't partial. This is what was found.
+    /// It isn't partial, but has this status.
     NotPartial(Status),
     /// Another pull began it.
     WrongPull,

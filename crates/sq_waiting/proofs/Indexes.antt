@@ -99,7 +99,7 @@ module _ (txns : BTreeMap ℕ TxnValue) (by_root : BTreeSet (ℕ × ℕ)) (due :
   indexed_some root number None at stands = absurd (true≢false (sym stands ∙ is.by_root root number ∙ ap (λ read. option_map_or (λ (t : TxnValue). t.root == root) read false) at))
   indexed_some root number (Some txn) at stands = (txn, at, eqb-true txn.root root (sym (indexed number txn at root) ∙ stands))
 
-  -- what stands in the index is a transaction
+  -- what is in the index is a transaction
   pub stands_for : (root number : ℕ) → has_entry by_root root number ≡ true → (txn : TxnValue) × (tree.get nat_cmp txns number ≡ Some txn) × (txn.root ≡ root)
   stands_for root number stands = indexed_some root number (tree.get nat_cmp txns number) refl stands
 
@@ -128,7 +128,7 @@ module _ (txns : BTreeMap ℕ TxnValue) (by_root : BTreeSet (ℕ × ℕ)) (due :
         let parts = and_parts (nat_le from q) (is_marked q) passes in
         true≢false (sym parts.1 ∙ none q txn at (leb-true from q parts.0)))))
 
-    -- the least due number from a number on is that of the first
+    -- the least due number from a number on is the number of the first
     first_marked : (number : ℕ) (txn : TxnValue) → from ≤ number → is_marked number ≡ true → ((q : ℕ) (other : TxnValue) → tree.get nat_cmp txns q ≡ Some other → from ≤ q → is_marked q ≡ true → number ≤ q)
         → tree.get nat_cmp txns number ≡ Some txn → find (is_due_from from) seen ≡ Some (arrival_of is_marked (number, txn))
     first_marked number txn upto here least at =
@@ -137,7 +137,6 @@ module _ (txns : BTreeMap ℕ TxnValue) (by_root : BTreeSet (ℕ × ℕ)) (due :
         let parts = and_parts (nat_le from q) (is_marked q) passes in
         least q other found (leb-true from q parts.0) parts.1))
 
-    -- none waits
     pub none_waits : ((q : ℕ) → from ≤ q → tree.get nat_cmp txns q ≡ None) → find (is_due_from from) seen ≡ None
     none_waits none = none_marked (λ q txn at upto. let both : None ≡ Some txn = sym (none q upto) ∙ at in absurd (cc))
 

@@ -38,7 +38,7 @@ impl Model for Waiting {
 }
 
 impl Waiting {
-    /// None, of which the first gets this arrival number.
+    /// None; the first gets this arrival number.
     pub fn new(alloc: Global, next: u64) -> Waiting
         ensures { result ≡ record { arrivals = []; next = next } }
     {

@@ -1,4 +1,4 @@
--- The dump that a history tells.
+-- The dump of a history.
 use Rattle.std.proofs.Common.{◌≡◌, ℕ, zero, suc, ◌+◌, ◌<◌, List, [], ◌∷◌, ◌++◌, map, drop, slice_get, Option, Some, None, refl, sym, ap, ap₂, ◌∙◌, arith}
 use Rattle.std.specs.Prelude.{reverse, is_some}
 use Rattle.std.specs.List.{flat_map, range_with_len}
@@ -28,7 +28,7 @@ each_alike f g from (suc count) same =
 abbrev note_of : ChunkValue → Note
 note_of chunk = chunk.note
 
--- chunks that a history tells are those of their notes
+-- chunks of a history are those of their notes
 chunks_alike : (o : OpeningValue) (t : Trace) (ones others : List ChunkValue) → map note_of ones ≡ map note_of others
     → ((i : ℕ) (chunk : ChunkValue) → slice_get ones i ≡ Some chunk → ChunkHolds o t chunk)
     → ((i : ℕ) (chunk : ChunkValue) → slice_get others i ≡ Some chunk → ChunkHolds o t chunk) → ones ≡ others
@@ -50,7 +50,7 @@ notes_are : (o : OpeningValue) (t : Trace) (link_now : WholeLink) → LinkHolds 
 notes_are o t link_now holds =
     holds.way ∙ ap (drop (load_count t link_now.src link_now.dst)) (sym (reverse-reverse link_now.out.notes) ∙ ap reverse holds.notes)
 
--- so the chunks under way there are alike in all worlds that the history tells
+-- so the chunks under way there are alike in all worlds that the history leads to
 links_alike : (o : OpeningValue) (t : Trace) (one other : WorldValue) (src dst : ℕ) → Holds o t one → Holds o t other → (i j : Option ℕ) → link_index one src dst ≡ i → link_index other src dst ≡ j
     → is_some i ≡ is_some j → link_lines one i ≡ link_lines other j
 links_alike o t one other src dst h k None None at also both = refl
@@ -65,11 +65,11 @@ links_alike o t one other src dst h k (Some i) (Some j) at also both =
     let there = notes_are o t (link_value other j) b ∙ (λ s. notes_under_way t (back.starts s) (back.ends s)) in
     ap (flat_map way_lines) (chunks_alike o t (under_way (link_value one i)) (under_way (link_value other j)) (here ∙ sym there) a.chunks b.chunks)
 
--- the partitions of a world that a history tells are those of the opening
+-- the partitions of a world that a history leads to are those of the opening
 parts_are : (o : OpeningValue) (t : Trace) (w : WorldValue) → Holds o t w → w.old.parts ≡ o.old.parts
 parts_are o t w h = ap (λ (plan : PlanValue). plan.parts) h.plans.old
 
--- two worlds that a history tells are dumped alike
+-- two worlds that a history leads to are dumped alike
 pub dumped_alike : (o : OpeningValue) (t : Trace) (one other : WorldValue) → Holds o t one → Holds o t other → dump one ≡ dump other
 dumped_alike o t one other h k =
     let count : one.old.parts ≡ o.old.parts = parts_are o t one h in

@@ -16,13 +16,13 @@ use Rattle.sq_world.specs.declared.ending.Ending.{Ending}
 use Rattle.sq_world.specs.Run.{IsFault, EndsAtFault}
 use Rattle.sq_world.specs.Listing.{IsListing, TellsLines, TellsOrRefuses}
 
--- there was no memory to tell what moves, and nothing of it was written
+-- there was no memory to write what moves, and nothing of it was written
 pub not_told : {E : Type 0} (tells : ReconValue → List ℕ → Type 0) (r : Result Ending E) (recon : ReconValue) (fault : LocatedFault) (before mid now : Option (List ℕ)) → fault ≡ located Memory None → Appends before mid []
     → IfOk r (EndsAtFault fault mid now) → IfOk r (TellsOrRefuses tells recon before now)
 not_told tells (Err e) recon fault before mid now is nothing wrote = tt
 not_told tells (Ok ending) recon fault before mid now is nothing wrote = (wrote.0, both before mid now [] wrote.0 wrote.0 nothing wrote.1 refl, inr (subst (λ f. IsFault f wrote.0 ending) is wrote.2))
 
--- what moves was told
+-- what moves was written
 pub listed : {E : Type 0} (tells : ReconValue → List ℕ → Type 0) (r : Result Ending E) (tables : ℕ) (o : OpeningValue) (recon : ReconValue) (begin lines : LinesValue) (before now : Option (List ℕ)) → tables ≡ MAX_TABLES → recon ≡ o.recon
     → Leaves begin lines (λ all left. Opens tables (Ok o) left (plans_of all))
     → IfOk r (TellsOrRefuses tells recon before now) → IfOk r (TellsLines tells MAX_TABLES begin before now)

@@ -10,7 +10,7 @@ use Rattle.sq_world.specs.declared.ending.Ending.{Ending}
 abbrev pub Writing : (List ℕ → Ending → Type 0) → Option (List ℕ) → Option (List ℕ) → Ending → Type 0
 Writing says before now ending = (out : List ℕ) × Appends before now out × says out ending
 
--- what can come of a reader of lines is answered by a text, and of both and the ending this holds
+-- pieces that a reader of lines may give are answered by a text, and of both and the ending this holds
 abbrev pub OfLines : (List PieceValue → List ℕ → Ending → Type 0) → LinesValue → Option (List ℕ) → Option (List ℕ) → Ending → Type 0
 OfLines says lines before now ending =
     (given : List PieceValue) × CanCome lines given × (out : List ℕ) × Appends before now out × says given out ending

@@ -1,4 +1,4 @@
--- What moves between two plans, as it is told.
+-- What moves between two plans, as it is written.
 use Rattle.std.specs.Prelude.{◌≡◌, ◌⊎◌, ℕ, List, [], Option, None, Ok, Err}
 use Rattle.std.specs.Io.KnownBytes.{Appends}
 use Rattle.sq_ranges.specs.OpeningValue.{OpeningValue}
@@ -17,16 +17,16 @@ use Rattle.sq_world.specs.declared.telling.Told.TheVariants.{Written, NoMemory}
 use Rattle.sq_world.specs.Inputs.{Writing, OfLines, OfReader}
 use Rattle.sq_world.specs.Run.{IsFault}
 
--- a text that tells of a reconfiguration goes to the end of what a writer holds; where there was no memory for it, nothing does
+-- a text of a reconfiguration goes to the end of what a writer holds; where there was no memory for it, nothing does
 abbrev pub IsTold : (ReconValue → List ℕ → Type 0) → ReconValue → Option (List ℕ) → Option (List ℕ) → Told → Type 0
 IsTold tells recon before now Written = (out : List ℕ) × Appends before now out × tells recon out
 IsTold tells recon before now NoMemory = Appends before now []
 
--- what tells of a reconfiguration is all that is written, or else that memory ran out
+-- a text of a reconfiguration is all that is written, or else that memory ran out
 abbrev pub IsToldOrRefused : (ReconValue → List ℕ → Type 0) → ReconValue → List ℕ → Ending → Type 0
 IsToldOrRefused tells recon out ending = (tells recon out × (ending ≡ Done)) ⊎ IsFault (located Memory None) out ending
 
--- the first three lines spell plans and sizes, and what tells of their reconfiguration is all that is written
+-- the first three lines spell plans and sizes, and a text of their reconfiguration is all that is written
 pub record IsWholeListing (tells : ReconValue → List ℕ → Type 0) (tables : ℕ) (given : List PieceValue) (out : List ℕ)
     (ending : Ending) : Type 0 where
   pub opening : OpeningValue
@@ -42,19 +42,19 @@ pub record IsRefusedListing (tables : ℕ) (given : List PieceValue) (out : List
   pub plans : Opens tables (Err fault) left (plans_of given)
   pub wrote : IsFault fault out ending
 
--- what is told for the pieces of an input, and how that ends
+-- what is written for the pieces of an input, and how that ends
 abbrev pub IsListing : (ReconValue → List ℕ → Type 0) → ℕ → List PieceValue → List ℕ → Ending → Type 0
 IsListing tells tables given out ending = IsWholeListing tells tables given out ending ⊎ IsRefusedListing tables given out ending
 
--- what a reader gives is answered by what tells of its reconfiguration, and that goes to the end of what a writer holds
+-- a text of its reconfiguration answers what a reader gives, and goes to the end of what a writer holds
 abbrev pub Tells : (ReconValue → List ℕ → Type 0) → ℕ → Option (List ℕ) → Option (List ℕ) → Option (List ℕ) → Ending → Type 0
 Tells tells tables = OfReader (IsListing tells tables)
 
--- the same of what can come of a reader of lines
+-- the same of pieces that a reader of lines may give
 abbrev pub TellsLines : (ReconValue → List ℕ → Type 0) → ℕ → LinesValue → Option (List ℕ) → Option (List ℕ) → Ending → Type 0
 TellsLines tells tables = OfLines (IsListing tells tables)
 
--- what tells of a reconfiguration, or that memory ran out, goes to the end of what a writer holds
+-- a text of a reconfiguration, or that memory ran out, goes to the end of what a writer holds
 abbrev pub TellsOrRefuses : (ReconValue → List ℕ → Type 0) → ReconValue → Option (List ℕ) → Option (List ℕ) → Ending → Type 0
 TellsOrRefuses tells recon = Writing (IsToldOrRefused tells recon)
 

@@ -83,12 +83,12 @@ pub record IsDumped (o : OpeningValue) (t : Trace) (out : List ℕ) : Type 0 whe
   pub holds : Holds o t world
   pub says : out ≡ dump world
 
--- the number of a fault is all that is written, and the ending tells the line that it belongs to
+-- the number of a fault is all that is written, and the ending has the line that it belongs to
 pub record IsFault (located : LocatedFault) (out : List ℕ) (ending : Ending) : Type 0 where
   pub says : out ≡ fault_line (input_fault_number located.fault)
   pub ends : ending ≡ Fault located
 
--- a run goes on behind a line, unless a refusal ends it there
+-- a run continues behind a line, unless a refusal ends it there
 abbrev pub GoesOnBehind : Option ℕ → ℕ → OpeningValue → Trace → List ℕ → Ending → Type 0 → Type 0
 GoesOnBehind None line o t out ending On = On
 GoesOnBehind (Some number) line o t out ending On = IsDumped o t out × (ending ≡ ending_at (Some number) line)
@@ -132,7 +132,7 @@ IsRun manner tables given out ending = IsRunFrom manner tables given out ending 
 abbrev pub Runs : ScriptManner → ℕ → Option (List ℕ) → Option (List ℕ) → Option (List ℕ) → Ending → Type 0
 Runs manner tables = OfReader (IsRun manner tables)
 
--- the same of what can come of a reader of lines
+-- the same of pieces that a reader of lines may give
 abbrev pub RunsLines : ScriptManner → ℕ → LinesValue → Option (List ℕ) → Option (List ℕ) → Ending → Type 0
 RunsLines manner tables = OfLines (IsRun manner tables)
 

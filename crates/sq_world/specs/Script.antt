@@ -51,7 +51,7 @@ abbrev pub RunsScript : ScriptManner → ℕ → WorldValue → LinesValue → O
 RunsScript manner tables world lines before now ending =
     (o : OpeningValue) (t : Trace) → LeadsTo o t world → o.tables ≡ tables → IsWritten manner o t lines before now ending
 
--- the lines of a reader give an opening up to those that are left, and the world is that of the opening
+-- the lines of a reader give an opening up to those that are left, and the world is the one of the opening
 abbrev pub OpensWorld : ℕ → LinesValue → LinesValue → WorldValue → Type 0
 OpensWorld tables old new world =
     (o : OpeningValue) × LeadsTo o [] world × Leaves old new (λ all left. Opens tables (Ok o) left (header_of tables all))

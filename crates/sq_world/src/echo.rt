@@ -9,7 +9,7 @@ use sq_model::Answer;
 use sq_text::{WriteFault, write_answer, write_refused};
 use std::io::Write;
 
-// What stands between a line and its answer.
+// What is between a line and its answer.
 const ARROW: &[u8] = b" -> ";
 
 /// Writes what a line is answered, behind the line where it echoes. Gives the number of a refusal. An error is a write that

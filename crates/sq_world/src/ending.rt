@@ -1,9 +1,9 @@
-// How runs go on, and how they end.
+// How runs continue, and how they end.
 ghost use Rattle.std.specs.Prelude.{◌≡◌};
 
 use sq_text::LocatedFault;
 
-/// How a run goes on.
+/// How a run continues.
 #[derive(Clone, Copy, Debug, PartialEq, Eq)]
 pub struct ScriptManner {
     /// Whether each line of the script stands before its answer.

@@ -16,11 +16,10 @@ use std::io::{Read, Write};
 /// Reads the first three lines of an input, two plans and the sizes, and writes what moves between the plans.
 ///
 /// For each reconfiguration range, in key order, it writes a line `range LO HI SRC DST`, and then for each segment a
-/// line `segment SEG LO HI SRC DST`: the root keys from LO up to HI, which are not HI itself, the partition that they
-/// leave and the one that they come to. Where there is more than one stage, the line ends with the segment's, as
-/// ` stage I`. Where the lines have a fault, as [`read_plans`] has them, or there is no memory,
-/// the fault is all that is written. What follows these lines isn't looked at. An error is a write or a flush that
-/// failed.
+/// line `segment SEG LO HI SRC DST`: the root keys from LO up to HI, HI not among them, the partition that they leave
+/// and the one that they come to. Where there is more than one stage, the line ends with the segment's, as ` stage I`.
+/// Where the lines have a fault, as [`read_plans`] has them, or there is no memory, the fault is all that is written.
+/// What follows these lines isn't looked at. An error is a write or a flush that failed.
 pub fn ranges<R: Read, W: Write>(
     alloc: Global,
     reader: &mut R,
@@ -31,7 +30,7 @@ pub fn ranges<R: Read, W: Write>(
     list(alloc, reader, writer, &Lines)
 }
 
-/// The same as [`ranges`], but what is written of what moves is what `telling` tells of it.
+/// The same as [`ranges`], but what moves is written by `telling`.
 pub fn list<R: Read, W: Write, T: Telling>(
     alloc: Global,
     reader: &mut R,

@@ -115,7 +115,7 @@ impl<S: FamilyStore> PartCore<S> {
         }
     }
 
-    // The partition that transactions on a root key go to, as far as this one can tell.
+    // The partition that transactions on a root key go to, as far as this one can know.
     fn route(&self, root: Root, found: &Option<Location>) -> PartId
         ensures { result ≡ route_from self.now.core root found.now }
     {
@@ -203,7 +203,7 @@ impl<S: FamilyStore> PartCore<S> {
     }
 }
 
-// Why none can go of which this is why the others can't, and why one can't.
+// The graver of two reasons not to resume: a full log outweighs absent rows.
 fn graver(fault: ResumeFault, other: ResumeFault) -> ResumeFault
     ensures { result ≡ graver fault other }
 {

@@ -229,7 +229,7 @@ fn stage_links(
         .collect(alloc)
 }
 
-// Links between these partitions, each of which holds this many chunks, with their ends.
+// Links between these partitions, with room for this many chunks each, and with their ends.
 fn open_links(
     alloc: Global,
     between: &[Link],

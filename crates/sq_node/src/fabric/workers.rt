@@ -18,7 +18,7 @@ use sq_runs::RunStore;
 use sq_status::{StatusTree, TreeSeat};
 use std::alloc::{AllocError, Global};
 
-// The ends of links that aren't handed out, each where its link stands.
+// The ends of links that aren't handed out, each where its link is.
 #[derive(Drop)]
 pub(super) struct LooseEnds {
     pub(super) sends: Vec<Sender>,
@@ -26,7 +26,6 @@ pub(super) struct LooseEnds {
 }
 
 impl Fabric {
-    // A seat at each tree.
     fn share_seats(&mut self, alloc: Global) -> Result<Vec<TreeSeat>, AllocError>
         ensures same { self.new ≡ record self.old { seats = self.new.seats } }
         ensures own { IfOk result (λ own. AreNewSeats self.old.trees own.items) }
@@ -177,7 +176,6 @@ pub(super) fn open_pumps(
     Ok(pumps)
 }
 
-// The pump of a number.
 fn open_pump(alloc: Global, fabric: &mut Fabric, number: u32) -> Result<Pump, AllocError>
     requires { number < MAX_PUMPS }
     ensures same { fabric.new ≡ record fabric.old { seats = fabric.new.seats } }
@@ -229,7 +227,7 @@ fn take_end<S: Side>(
     }
 }
 
-// Where the link stands that has a partition on this side and another one on the other.
+// Where the link is that has a partition on this side and another one on the other.
 fn link_between<S: Side>(links: &[SharedLink], part: PartId, other: PartId) -> Option<usize>
     ensures { result ≡ link_between S.near S.far links.now part other }
 {

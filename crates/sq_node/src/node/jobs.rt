@@ -85,7 +85,7 @@ impl Node {
     }
 }
 
-// What a step comes to whose transaction wasn't taken.
+// The outcome of a step whose transaction wasn't taken.
 fn refusal(fault: SubmitFault) -> Stepped
     ensures { (result ≡ Stepped.Nothing) ⊎ (result ≡ Stepped.Memory) }
 {

@@ -85,8 +85,8 @@ impl Node {
         }
     }
 
-    // Whether no transaction waits here and each job that was posted is answered. Before the last stage this isn't asked: what
-    // is left goes on in the next one.
+    // Whether no transaction waits here and each job that was posted is answered. Before the last stage this isn't
+    // asked: what is left continues in the next one.
     fn has_answered(&self, fabric: &Fabric) -> bool
         ensures { IsTrue result → stages fabric.now.recon ≤ fabric.now.stage + 1 → self.now.core.waiting ≡ [] }
     {
@@ -162,7 +162,7 @@ fn is_of(fabric: &Fabric, segment: &Range, part: PartId) -> bool
         && fabric.recon().stage_on(segment.src, segment.dst) == fabric.stage()
 }
 
-// Whether the whole of a segment reads complete. Where it does, its flag tells so from then on.
+// Whether the whole of a segment reads complete. Where it does, its flag says so from then on.
 pub(super) fn see_complete_at(
     trees: &[StatusTree],
     seats: &mut Vec<TreeSeat>,

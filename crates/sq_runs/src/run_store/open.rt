@@ -12,7 +12,7 @@ use sq_store::OwnedEntries;
 use std::alloc::{AllocError, Global};
 
 impl RunStore {
-    /// A store of the families of the root keys that a partition owns, each of which starts from a copy of its rows.
+    /// A store of the families of the root keys that a partition owns, each from a copy of its rows.
     pub fn opened(
         alloc: Global,
         plan: &Plan,

@@ -50,7 +50,7 @@ impl State {
         }
     }
 
-    /// Starts the move, once every partition has prepared, and tells each partition.
+    /// Starts the move, once every partition has prepared, and informs each partition.
     pub(crate) fn start(&mut self) -> Result<Answer, Refusal>
         requires { IsSound self.old }
         ensures { (answer_of result, self.new) ≡ start_result self.old }
@@ -88,7 +88,7 @@ impl State {
         }
     }
 
-    /// Runs the next stage, once every partition into which a segment of this one moves has reported, and tells each
+    /// Runs the next stage, once every partition into which a segment of this one moves has reported, and informs each
     /// partition.
     pub(crate) fn next(&mut self) -> Result<Answer, Refusal>
         requires { IsSound self.old }

@@ -42,7 +42,7 @@ impl State {
         Ok(Answer::Done)
     }
 
-    /// The oldest chunk on a link comes to its destination.
+    /// The oldest chunk on a link reaches its destination.
     pub(crate) fn pop(&mut self, src: u64, dst: u64) -> Result<Answer, Refusal>
         requires { IsSound self.old }
         ensures { (answer_of result, self.new) ≡ pop_result self.old src dst }

@@ -67,7 +67,7 @@ fn fresh_state(alloc: Global, opening: &Opening) -> Result<Fresh, AllocError>
     })
 }
 
-// The trees of segments, of which each node is free.
+// The trees of segments, with all nodes free.
 fn trees(alloc: Global, segments: &[Range]) -> Result<Vec<PlainTree>, AllocError>
     ensures { IfOk result (λ trees. AreNewTrees segments.now trees.items) }
 {

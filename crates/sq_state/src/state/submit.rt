@@ -42,7 +42,7 @@ impl State {
         }
     }
 
-    // The answer to a submitted transaction of which this became.
+    // Turns a partition's outcome into the step's answer.
     fn submitted(&self, txn: &Txn, outcome: Outcome) -> Answer
         requires { length self.now.trees ≡ length self.now.recon.segments }
         ensures { result ≡ submitted self.now txn.now outcome }

@@ -97,7 +97,6 @@ impl State {
     }
 }
 
-// Splits a node.
 fn split_node(tree: &mut PlainTree, node: NodeId) -> Result<(), Refusal>
     ensures answer { done_or result ≡ split_answered (split_answer (status_at tree.old) node) }
     ensures after { tree.new ≡ (if is_ok result then with_status tree.old node Status.Split else tree.old) }
@@ -105,7 +104,6 @@ fn split_node(tree: &mut PlainTree, node: NodeId) -> Result<(), Refusal>
     tree.split(node).map_err(split_refusal)
 }
 
-// Claims a node for a pull.
 fn claim_node(tree: &mut PlainTree, node: NodeId, pull: u32) -> Result<(), Refusal>
     ensures answer { done_or result ≡ claim_answered (claim_answer (status_at tree.old) node pull) }
     ensures after { tree.new ≡ (if is_ok result then with_status tree.old node (Status.Claimed pull) else tree.old) }

@@ -22,7 +22,7 @@ impl StatusTree {
         Status::from_word(word)
     }
 
-    // Brings a node from one status to the next, or tells which status it found there.
+    // Brings a node from one status to the next, or answers with the status that it found there.
     pub(super) fn advance(
         &self,
         seat: &mut TreeSeat,

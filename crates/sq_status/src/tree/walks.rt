@@ -10,7 +10,7 @@ ghost use Rattle.sq_status.specs.Seat.{IsSameSeat};
 use super::{StatusTree, TreeSeat};
 use sq_tree::{Leaf, NodeId, Status};
 
-/// What became of a claim of a leaf.
+/// The outcome of a claim of a leaf.
 #[derive(Clone, Copy, Debug, PartialEq, Eq)]
 pub enum LeafClaim {
     /// The leaf's node is claimed. This is the node.

@@ -12,8 +12,8 @@ use sq_schema::{Family, Table};
 use std::alloc::{AllocError, Global};
 
 impl SlabStore {
-    /// A store of the families of the root keys that a partition owns, each of which starts from a copy of its rows. Its
-    /// index is made of all their root keys at once, which leaves no room in its nodes unused.
+    /// A store of the families of the root keys that a partition owns, each from a copy of its rows. Its index is made
+    /// of all their root keys at once, which leaves no room in its nodes unused.
     pub fn opened(
         alloc: Global,
         plan: &Plan,

@@ -1,4 +1,4 @@
-// The caller of the library that docs/library.md shows.
+// The caller of the library that docs/guide/library.md shows.
 use sq_example::move_one_root;
 
 #[test]

@@ -1,4 +1,4 @@
-// Inputs in parts of which a read fails, and lines that are told once more.
+// Inputs in parts with a read that fails, and lines that are recalled.
 use super::readers::Drip;
 use sq_inputs::{Inserting, Recalled, Recalling};
 use std::alloc::Global;
@@ -7,7 +7,7 @@ use std::io;
 use std::io::Read;
 use std::test::Fail;
 
-// What comes before a read fails, in the main part or else in the rows, and whether the next one fails too.
+// The bytes before a failed read, in the main part or else in the rows, and whether the next one fails too.
 fn read_failing(alloc: Global, fails_in_main: bool) -> (Vec<u8>, bool) {
     let main = Drip {
         rest: b"config\nsta",
@@ -34,7 +34,7 @@ fn a_read_that_fails_is_told(rt: HostRuntime) {
     }
 }
 
-// How many bytes come by one read after another, and what is told of lines then.
+// How many bytes come by one read after another, and what is recalled of lines then.
 const READS: [(usize, &[(usize, Recalled<'static>)]); 3] = [
     (
         6,
@@ -59,7 +59,7 @@ const READS: [(usize, &[(usize, Recalled<'static>)]); 3] = [
     ),
 ];
 
-// Whether this is told of these lines.
+// Whether this is recalled of these lines.
 fn are_told<R: Read>(reader: &Recalling<R>, lines: &[(usize, Recalled<'_>)]) -> bool {
     lines
         .iter()
@@ -81,7 +81,7 @@ fn the_lines_of_the_last_read_are_told(rt: HostRuntime) -> Result<(), Fail> {
     Ok(())
 }
 
-// How many bytes are told of a line without end after so many reads of 4,096 bytes, if it is told.
+// How many bytes of a line without end are recalled after so many reads of 4,096 bytes, if it is.
 fn told_length(alloc: Global, reads: u32) -> Result<Option<usize>, Fail> {
     let mut reader = Recalling::new(alloc, io::repeat(b'x'));
     let mut bytes = [0; 4096];
@@ -94,7 +94,7 @@ fn told_length(alloc: Global, reads: u32) -> Result<Option<usize>, Fail> {
     })
 }
 
-// A line is told no more once it is longer than there is room for.
+// A line isn't recalled once it is longer than there is room for.
 #[test]
 fn a_line_without_end_is_lost(rt: HostRuntime) -> Result<(), Fail> {
     assert!(rt; told_length(rt.alloc(), 32)? == Some(131_072));

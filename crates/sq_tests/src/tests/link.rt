@@ -122,7 +122,7 @@ fn receive_all<R: Wait>(
     (pass, into)
 }
 
-// What became of one chunk more than a link holds, of which as many are received as there is room for.
+// The outcome of one chunk more than a link holds; as many are received as there is room for.
 #[derive(Drop)]
 struct Carried {
     // The chunk that found no place.

@@ -93,7 +93,7 @@ impl Setting {
         })
     }
 
-    // What a reactive pull for a leaf of segment 0 comes to.
+    // The outcome of a reactive pull for a leaf of segment 0.
     fn reactive<R: Wait>(&mut self, rt: &R, leaf: u64) -> Result<Answer, Fail> {
         let shared = Shared {
             recon: &self.recon,
@@ -112,7 +112,7 @@ impl Setting {
         })
     }
 
-    // What a turn of the pump comes to.
+    // The outcome of a turn of the pump.
     fn turn<R: Wait>(&mut self, rt: &R) -> Result<Answer, Fail> {
         let shared = Shared {
             recon: &self.recon,

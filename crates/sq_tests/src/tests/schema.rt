@@ -8,7 +8,6 @@ fn key(table: u8, sub: u32) -> RowKey {
     RowKey { table, sub }
 }
 
-// The transactions of these lines.
 fn transactions(alloc: Global, lines: &[&str]) -> Result<Vec<Txn>, Fail> {
     let mut txns = Vec::new(alloc);
     for line in lines {

@@ -46,7 +46,7 @@ fn claims_the_rest(tree: &StatusTree, seat: &mut TreeSeat) -> bool
     true
 }
 
-// What comes of it, where node 9 was completed then.
+// The statuses, with node 9 completed then.
 fn claimed_statuses() -> [Status; NODES] {
     let mut statuses = [Status::Free; NODES];
     for index in [0, 1, 3, 7, 15] {

@@ -38,7 +38,6 @@ fn taken(alloc: Global, store: &mut VecStore) -> Result<Vec<Family>, Fail> {
     }
 }
 
-// Whether families are given.
 fn is_given(alloc: Global, store: &mut VecStore, families: Vec<Family>) -> Result<bool, Fail> {
     let mut commands = Vec::new(alloc);
     commands.push(StoreCommand::Give(families))?;

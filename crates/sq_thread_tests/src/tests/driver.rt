@@ -94,7 +94,7 @@ fn a_pump_takes_its_turns(rt: HostRuntime) -> Result<(), Fail> {
     Ok(())
 }
 
-// Of the one segment it claims each of the 32 leaves. Then it finds nothing to claim there, and is done.
+// It claims each of the 32 leaves of the one segment. Then it finds nothing to claim there, and is done.
 #[test]
 fn a_pump_is_done_at_last(rt: HostRuntime) -> Result<(), Fail> {
     let alloc = rt.alloc();
@@ -111,8 +111,8 @@ fn a_pump_is_done_at_last(rt: HostRuntime) -> Result<(), Fail> {
     Ok(())
 }
 
-// A partition with eight jobs cuts a chunk of one family, which counts as five operations. So it goes on with jobs of one
-// operation, which count as three, until they come to fifteen: five jobs more than the one that a turn takes.
+// A partition with eight jobs cuts a chunk of one family, which counts as five operations. So it continues with jobs of
+// one operation, which count as three, until they come to fifteen: five jobs more than the one that a turn takes.
 #[test]
 fn a_chunk_is_made_up_for_with_jobs(rt: HostRuntime) -> Result<(), Fail> {
     let alloc = rt.alloc();
@@ -134,7 +134,7 @@ new {"version":1,"partitions":2,"ranges":[[0,8,0],[8,4294967296,1]]}
 config 1 64 1
 "#;
 
-// A node goes on while a job of the other one isn't answered, and jobs are taken meanwhile. Once it is idle none is.
+// A node continues while a job of the other one isn't answered, and jobs are taken meanwhile. Once it is idle none is.
 #[test]
 fn a_run_with_an_idle_node_takes_no_jobs(rt: HostRuntime) -> Result<(), Fail> {
     let alloc = rt.alloc();

@@ -1,4 +1,4 @@
-// Gates that tell what they are asked and told, that end a worker, and that keep one until others run beside it.
+// Gates that record what they are asked and hear, that end a worker, and that keep one until others run beside it.
 use sq_driver::{Gate, NodeStep, WorkerEvent, WorkerId};
 use sq_live::Watch;
 use std::alloc::Global;
@@ -27,7 +27,7 @@ const RECEIPT: u64 = 10;
 
 const SEGMENT: u64 = 11;
 
-/// The number of the first pump among the workers. That of a partition's node is the partition's.
+/// The number of the first pump among the workers. The number of a partition's node is the partition's.
 pub const FIRST_PUMP: u64 = 1_000;
 
 // The number of a worker.
@@ -47,8 +47,8 @@ pub enum RecorderEnd {
     Answered,
 }
 
-/// Tells what one worker asks and tells: a hexadecimal digit for each step, each receipt and each segment, the latest last. It
-/// may end the worker.
+/// Records what one worker asks and reports: a hexadecimal digit for each step, each receipt and each segment, the
+/// latest last. It may end the worker.
 #[derive(Drop)]
 pub struct Recorder {
     who: AtomicU64,
@@ -68,7 +68,7 @@ impl Recorder {
         }
     }
 
-    /// Which worker asked last, and what was asked and told.
+    /// Which worker asked last, and what was asked and said.
     pub fn told(&self) -> (u64, u64) {
         (
             self.who.load(Ordering::SeqCst),
@@ -120,7 +120,7 @@ pub struct Meeting {
 const LOOKS: u32 = 20_000_000;
 
 impl Meeting {
-    /// Of this many nodes and pumps.
+    /// Gates of this many nodes and pumps.
     pub fn new(alloc: Global, nodes: u8, pumps: u8) -> Result<Meeting, Fail> {
         let nodes = u64::from(nodes);
         let mut came = Vec::new(alloc);
@@ -239,7 +239,7 @@ impl Gate for Enough {
 
 impl Watch for Enough {}
 
-/// Counts what it is told of a live run: the jobs and the segments at its beginning, and those that are done.
+/// Counts what it hears of a live run: the jobs and the segments at its beginning, and those that are done.
 #[derive(Drop)]
 pub struct Counter {
     jobs: AtomicU64,
@@ -252,7 +252,7 @@ pub struct Counter {
 }
 
 impl Counter {
-    /// Of a run that hasn't begun.
+    /// The counts of a run that hasn't begun.
     pub fn new() -> Counter {
         Counter {
             jobs: AtomicU64::new(0),
@@ -321,7 +321,7 @@ impl Watch for Counter {
     }
 }
 
-/// Lets a node that is idle go on, and ends it once it has rested so many times in a row.
+/// Lets a node that is idle continue, and ends it once it has rested so many times in a row.
 #[derive(Drop)]
 pub struct Lasting {
     turns: u64,

@@ -11,7 +11,7 @@ use std::sync::Wait;
 use std::test::Fail;
 use std::thread::Threads;
 
-// Two partitions, of which the first gives the root keys from 50 to 99 to the second, and a job at each.
+// Two partitions; the first gives the root keys from 50 to 99 to the second, and each has a job.
 const HALVES: &str = r#"old {"version":1,"partitions":2,"ranges":[[0,100,0],[100,4294967296,1]]}
 new {"version":1,"partitions":2,"ranges":[[0,50,0],[50,4294967296,1]]}
 config 2 64 1
@@ -21,13 +21,13 @@ txn 0 1 2 get 0 0
 txn 1 2 200 get 0 0
 "#;
 
-// Sixteen partitions, of which the first gives 16 root keys to the second.
+// Sixteen partitions; the first gives 16 root keys to the second.
 const SIXTEEN: &str = r#"old {"version":1,"partitions":16,"ranges":[[0,4294967296,0]]}
 new {"version":1,"partitions":16,"ranges":[[0,16,1],[16,4294967296,0]]}
 config 1 64 1
 "#;
 
-// Two partitions, of which the first gives 100 root keys, four segments, to the second, and jobs at both. Those at the second
+// Two partitions; the first gives 100 root keys, four segments, to the second, and jobs at both. Those at the second
 // pull what they wait for, so that trees are split.
 const HUNDRED: &str = r#"old {"version":1,"partitions":2,"ranges":[[0,4294967296,0]]}
 new {"version":1,"partitions":2,"ranges":[[0,100,1],[100,4294967296,0]]}
@@ -42,8 +42,8 @@ txn 0 4 70 get 0 0
 txn 0 5 200 put 0 0 1 -
 "#;
 
-// Three partitions, of which the first gives four root keys to the second, four to the third in a second stage, and four
-// more to the second in the first stage; and a job of a root key that stays.
+// Three partitions; the first gives four root keys to the second, four to the third in a second stage, and four more to
+// the second in the first stage; and a job of a root key that stays.
 const STAGES: &str = r#"old {"version":1,"partitions":3,"ranges":[[0,4294967296,0]]}
 new {"version":2,"partitions":3,"ranges":[[0,4,0],[4,8,1],[8,12,2],[12,16,1],[16,4294967296,0]],"stages":"auto"}
 config 1 64 1
@@ -120,8 +120,8 @@ fn each_of_two_partitions_waits_for_the_other(rt: HostRuntime) -> Result<(), Fai
     Ok(())
 }
 
-// It is told how much there is to do before the first step, and then of each job that is answered and each segment that is
-// complete, once.
+// The watch hears how much there is to do before the first step, and then of each job that is answered and each segment
+// that is complete, once.
 #[test]
 fn a_watch_is_told_of_all_that_is_done(rt: HostRuntime) -> Result<(), Fail> {
     let alloc = rt.alloc();

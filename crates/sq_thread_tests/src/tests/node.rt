@@ -73,7 +73,7 @@ fn a_pull_of_one_leaf(rt: HostRuntime) -> Result<(), Fail> {
     Ok(())
 }
 
-// That a pump won a node of the first segment.
+// The pump won a node of the first segment.
 fn won(node: u64) -> Result<PumpTurn, Fail> {
     let seg = SegId::new(0).ok_or("no segment")?;
     Ok(PumpTurn::Won(seg, NodeId::new(node).ok_or("no node")?))
@@ -218,7 +218,7 @@ fn a_request_that_finds_a_full_queue_is_kept(rt: HostRuntime) -> Result<(), Fail
     Ok(())
 }
 
-// Three partitions, each of which gives four root keys to another one.
+// Three partitions; each gives four root keys to another one.
 const ROUND: &str = r#"old {"version":1,"partitions":3,"ranges":[[0,4,0],[4,8,1],[8,4294967296,2]]}
 new {"version":1,"partitions":3,"ranges":[[0,4,1],[4,8,2],[8,12,0],[12,4294967296,2]]}
 config 1 64 1

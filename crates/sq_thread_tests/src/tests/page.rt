@@ -87,7 +87,7 @@ fn a_page_has_what_receipts_name(rt: HostRuntime) -> Result<(), Fail> {
     Ok(())
 }
 
-// What is changed of a page: whether the receipt of the abort is taken out, and which id that of the commit has.
+// What is changed of a page: whether the receipt of the abort is taken out, and which id the receipt of the commit has.
 #[derive(Clone, Copy, Debug)]
 struct Change {
     abort_out: bool,

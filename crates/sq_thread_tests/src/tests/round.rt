@@ -1,4 +1,4 @@
-// Four partitions, each of which gives its five root keys to the next one, with all workers at once.
+// Four partitions; each gives its five root keys to the next one, with all workers at once.
 use super::run::TestRun;
 use sq_driver::OpenGate;
 use sq_runs::RunStore;

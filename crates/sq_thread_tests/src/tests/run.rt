@@ -157,7 +157,7 @@ impl TestRun {
         Ok(())
     }
 
-    /// What each step of the node of a partition comes to, in their order.
+    /// The outcomes of the steps of a partition's node, in their order.
     pub fn steps<R: Wait>(&mut self, rt: &R, part: usize) -> Result<[Stepped; 8], Fail> {
         if part >= self.nodes.len() {
             return Err("no such partition")?;

@@ -1,4 +1,4 @@
-// Stages that go on with what the one before left.
+// Stages that continue with what the one before left.
 ghost use Rattle.std.specs.Prelude.{◌≤◌, IfOk, All};
 ghost use Rattle.sq_pull.specs.declared.numbers.TheConstants.{MAX_PUMPS};
 ghost use Rattle.sq_node.specs.NodeState.{IsNodeOf};
@@ -29,7 +29,7 @@ fn no_families(alloc: Global) -> Result<Vec<RunStore>, Fail> {
     Ok(vec![in alloc; RunStore::new(alloc), RunStore::new(alloc)]?)
 }
 
-// A stage that goes on with these, with this many pumps.
+// A stage that continues with these, with this many pumps.
 fn resumed(alloc: Global, pumps: u32) -> Result<(Fabric, Vec<Node>, Vec<Pump>), Fail>
     requires { pumps ≤ MAX_PUMPS }
     ensures nodes { IfOk result (λ stage. All (IsNodeOf stage.0) stage.1.items) }
@@ -65,7 +65,7 @@ fn jobs_that_were_left_are_answered(rt: HostRuntime) -> Result<(), Fail> {
     Ok(())
 }
 
-// Three partitions, of which the first gives four root keys to the second, and four to the third in a second stage.
+// Three partitions; the first gives four root keys to the second, and four to the third in a second stage.
 const STAGED: &str = r#"old {"version":1,"partitions":3,"ranges":[[0,4294967296,0]]}
 new {"version":2,"partitions":3,"ranges":[[0,4,1],[4,8,2],[8,4294967296,0]],"stages":"auto"}
 config 1 64 1

@@ -1,4 +1,4 @@
-// The caller of an engine that docs/library.md shows.
+// The caller of an engine that docs/guide/library.md shows.
 use super::run::read_opening;
 use sq_audit::Verdict;
 use sq_engine::Closed;

@@ -1,6 +1,6 @@
 use Rattle.sq_driver.specs.Told.{DrivenAndTold}
 use Rattle.sq_driver.proofs.nodes.serve_on.Given as goal
 
--- the node was driven so far, and what it wrote was told
+-- the node was driven so far, and its teller heard what it wrote
 abbrev pub invariant-loop-job : goal.invariant-loop-job
 invariant-loop-job g l = DrivenAndTold g.T.Teller.Tells l.fabric l.fn.node l.fn.teller l.node l.teller

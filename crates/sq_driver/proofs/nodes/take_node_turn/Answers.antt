@@ -11,7 +11,7 @@ tried g c =
     telling_further g.T.Teller.Tells c.args.fabric.now c.args.node.now c.args.teller.now c.loop-step.node c.loop-step.teller
     c.try_step.new.node c.try_step.new.teller c.loop-step.invariant c.try_step.ensures
 
--- the node was driven until it had gone on with jobs
+-- the node was driven until it had continued with jobs
 served : (g : Over) (c : After-serve_on g) → DrivenAndTold g.T.Teller.Tells c.args.fabric.now c.args.node.now c.args.teller.now c.serve_on.new.node c.serve_on.new.teller
 served g c =
     telling_further g.T.Teller.Tells c.args.fabric.now c.args.node.now c.args.teller.now c.loop-step.node c.loop-step.teller

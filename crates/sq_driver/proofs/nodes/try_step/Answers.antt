@@ -5,7 +5,7 @@ use Rattle.sq_driver.proofs.nodes.try_step.Goals as goal
 use Rattle.sq_driver.proofs.nodes.try_step.Given.{Over}
 use Rattle.sq_driver.proofs.nodes.try_step.Goals.{After-step_and_tell}
 
--- the node made the step, and what it wrote was told
+-- the node made the step, and its teller heard what it wrote
 made : (g : Over) (c : After-step_and_tell g) → DrivenAndTold g.T.Teller.Tells c.args.fabric.now c.args.node.now c.args.teller.now c.step_and_tell.new.node c.step_and_tell.new.teller
 made g c =
     telling_step g.T.Teller.Tells c.args.fabric.now c.args.step c.args.node.now c.args.teller.now c.step_and_tell.result

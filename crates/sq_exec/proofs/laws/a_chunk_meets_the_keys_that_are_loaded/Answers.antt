@@ -7,7 +7,7 @@ use Rattle.sq_exec.specs.declared.run.Run.{Run}
 use Rattle.sq_exec.specs.Runs.{run_has, meets, is_loaded, is_met}
 use Rattle.sq_exec.proofs.laws.a_chunk_meets_the_keys_that_are_loaded.Goals as goal
 
--- a run that a chunk meets has the first key from which both go on
+-- a run that a chunk meets has the first key from which both continue
 in_both : (run : Run) (note : Note) → meets note run ≡ true → (covers note (max run.lo note.lo) ≡ true) × (run_has run (max run.lo note.lo) ≡ true)
 in_both run note is =
     let low : max run.lo note.lo < min run.hi note.hi = ltb-true (max run.lo note.lo) (min run.hi note.hi) is in (

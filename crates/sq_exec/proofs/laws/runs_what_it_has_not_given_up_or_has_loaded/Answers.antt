@@ -6,7 +6,7 @@ use Rattle.sq_exec.specs.CoreValue.{CoreValue}
 use Rattle.sq_exec.specs.Location.{location, route, route_from}
 use Rattle.sq_exec.proofs.laws.runs_what_it_has_not_given_up_or_has_loaded.Goals as goal
 
--- by the three tests of a route, of which the first says whether the partition is the source
+-- by the three tests of a route; the first says whether the partition is the source
 by_tests : (src dst part : ℕ) (is_src given_up is_dst loaded : Bool) → (is_src ≡ true → src ≡ part) → (is_src ≡ false → src ≢ part) → (is_dst ≡ true → dst ≡ part) → src ≢ dst
     → (if is_src then (if given_up then dst else src) else if is_dst && loaded then dst else src) ≡ part → ((src ≡ part) × (given_up ≡ false)) ⊎ ((dst ≡ part) × (loaded ≡ true))
 by_tests src dst part true true is_dst loaded same other to apart goes = absurd (apart (same refl ∙ sym goes))

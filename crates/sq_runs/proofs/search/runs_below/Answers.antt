@@ -5,7 +5,7 @@ use Rattle.sq_schema.specs.declared.root.TheConstants.{ROOT_END}
 use Rattle.sq_runs.proofs.InRuns.{placed}
 use Rattle.sq_runs.proofs.search.runs_below.Goals as goal
 
--- the closure tells whether a run's bound is below
+-- the closure says whether a run's bound is below
 pub returns : goal.returns
 returns c =
     let point = c.partition_point.ensures in

@@ -5,7 +5,7 @@ use Rattle.sq_schema.specs.Pending.{pending_rows}
 use Rattle.sq_schema.proofs.Runs.{with_answers}
 use Rattle.sq_schema.proofs.pending.run.Given as goal
 
--- what is left to run, with the answers so far, comes to what the whole does
+-- what is left to run, with the answers so far, gives what the whole does
 abbrev pub invariant-loop-at : goal.invariant-loop-at
 invariant-loop-at l = record {
   base : l.pending.base ≡ l.fn.rows;

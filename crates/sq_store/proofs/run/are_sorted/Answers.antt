@@ -7,7 +7,7 @@ use Rattle.sq_schema.specs.Family.{FamilyValue}
 use Rattle.sq_store.proofs.Order.{rising_adjacent}
 use Rattle.sq_store.proofs.run.are_sorted.Goals as goal
 
--- the closure tells whether a root key is below the next one
+-- the closure says whether a root key is below the next one
 pub returns : goal.returns
 returns c =
     let families = c.args.families.now in

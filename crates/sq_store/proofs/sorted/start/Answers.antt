@@ -4,7 +4,7 @@ use Rattle.std.proofs.lemmas.Fn.{always_returns_same}
 use Rattle.sq_store.proofs.Places.{started}
 use Rattle.sq_store.proofs.sorted.start.Goals as goal
 
--- the closure tells whether a family's root key is below
+-- the closure says whether a family's root key is below
 pub returns : goal.returns
 returns c =
     let point = c.partition_point.ensures in

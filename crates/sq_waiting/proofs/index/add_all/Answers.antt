@@ -9,7 +9,6 @@ use Rattle.std.proofs.lemmas.Bool.{true≢false}
 use Rattle.sq_waiting.specs.Index.{is_among}
 use Rattle.sq_waiting.proofs.index.add_all.Goals as goal
 
--- what is among the first is among all
 among_first : (at : ℕ) (numbers : List ℕ) (n : ℕ) → is_among (take at numbers) n ≡ true → is_among numbers n ≡ true
 among_first zero numbers n among = absurd (true≢false (sym among))
 among_first (suc at) [] n among = among

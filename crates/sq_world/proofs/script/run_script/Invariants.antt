@@ -7,7 +7,7 @@ use Rattle.sq_world.specs.Script.{LeadsTo}
 use Rattle.sq_world.proofs.Scripts.{Before}
 use Rattle.sq_world.proofs.script.run_script.Given as goal
 
--- whatever history led to the world, it goes on in what was written so far
+-- whatever history led to the world, it continues in what was written so far
 abbrev pub invariant-loop-lines : goal.invariant-loop-lines
 invariant-loop-lines g l =
     (o : OpeningValue) (t : Trace) → LeadsTo o t l.initial.world → o.tables ≡ l.schema → Before l.manner o t l.initial.lines l.lines (g.W.Write.contents l.initial.writer) (g.W.Write.contents l.writer) l.world

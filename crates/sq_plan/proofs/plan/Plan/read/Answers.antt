@@ -1,4 +1,4 @@
--- What the JSON value is read as, told of the bytes.
+-- What the JSON value is read as, in terms of the bytes.
 use Rattle.serde_json.specs.View.{view}
 use Rattle.sq_plan.proofs.Bytes.{found, only, json_of-some, not_refused}
 use Rattle.sq_plan.proofs.plan.Plan.read.Goals as goal

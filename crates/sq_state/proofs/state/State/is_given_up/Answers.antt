@@ -7,7 +7,7 @@ use Rattle.sq_state.proofs.Trees.{given_up_there, begun_status, not_begun}
 use Rattle.sq_state.proofs.state.State.is_given_up.Goals as goal
 use Rattle.sq_state.proofs.state.State.is_given_up.Goals.{After-status}
 
--- the status of the node that covers the leaf tells
+-- the status of the node that covers the leaf decides
 told : (c : After-status) → is_begun c.status.result ≡ is_root_given_up c.args.self.now c.args.root
 told c =
     let w = c.args.self.now in

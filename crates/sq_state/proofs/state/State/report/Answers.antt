@@ -15,7 +15,7 @@ use Rattle.sq_state.proofs.Leading.{report_went, report_fails}
 use Rattle.sq_state.proofs.state.State.report.Goals as goal
 use Rattle.sq_state.proofs.state.State.report.Goals.{After-made}
 
--- what is told of each tree is told of each segment of the world whose trees they are
+-- what holds of each tree holds of each segment of the world with these trees
 told_of : (w : WorldValue) (trees : List (List Status)) (whole : List Bool) → trees ≡ w.trees
     → ((seg : ℕ) → seg < length trees → is_told_whole whole seg ≡ is_complete_reading (reading (status_at (slice_index_or trees seg [])) 1))
     → (seg : ℕ) → seg < length w.trees → is_told_whole whole seg ≡ is_segment_whole w seg

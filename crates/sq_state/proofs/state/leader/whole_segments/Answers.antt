@@ -20,7 +20,7 @@ tells_complete false Complete tells = tells.1 refl
 tells_complete false NotStarted tells = refl
 tells_complete false Partial tells = refl
 
--- one more segment is told
+-- one more segment has its entry
 told_next : (trees : List (List Status)) (whole : List Bool) (seg : ℕ) (tree : List Status) (b : Bool) → length whole ≡ SEGMENT_LIMIT → seg < SEGMENT_LIMIT → seg < length trees → tree ≡ slice_index_or trees seg tree
     → (IsTrue b ↔ (reading (status_at tree) 1 ≡ Complete))
     → ((k : ℕ) → k < seg → is_told_whole whole k ≡ is_complete_reading (reading (status_at (slice_index_or trees k [])) 1))

@@ -7,7 +7,7 @@ use Rattle.sq_tree.specs.Tree.{status_at}
 use Rattle.sq_tree.specs.Reading.{is_complete_reading}
 use Rattle.sq_state.proofs.state.leader.whole_segments.Given as goal
 
--- each segment so far is told
+-- each segment so far has its entry
 abbrev pub invariant-loop-seg : goal.invariant-loop-seg
 invariant-loop-seg l = record {
   room : length l.whole ≡ SEGMENT_LIMIT;

@@ -7,7 +7,7 @@ use Rattle.sq_tree.proofs.Statuses.{answer_is_split}
 use Rattle.sq_tree.proofs.Covering.{covering_is, looks_from_1, looks_from_half, looks_no_further}
 use Rattle.sq_tree.proofs.plain.PlainTree.covering.Goals as goal
 
--- what the loop's test tells of the node's status
+-- what the loop's test says of the node's status
 test : (looked there : Status) (answer : Bool) → looked ≡ there → (IsTrue answer ↔ (looked ≡ Split)) → is_split there ≡ answer
 test looked there answer is tells = ap is_split (sym is) ∙ sym (answer_is_split answer looked tells)
 
