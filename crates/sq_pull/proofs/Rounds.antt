@@ -63,7 +63,6 @@ stage_round-kept recon stage n is = stage_round-more recon stage n ∙ ap (λ (b
 pub stage_round-left : (recon : ReconValue) (stage n : ℕ) → (stage_at recon n == stage) ≡ false → stage_round recon stage (n + 1) ≡ stage_round recon stage n
 stage_round-left recon stage n is = stage_round-more recon stage n ∙ ap (λ (b : Bool). stage_round recon stage n ++ (if b then n ∷ [] else [])) is ∙ append-nil (stage_round recon stage n)
 
--- a new one is one
 pub IsPump-new : (recon : ReconValue) (stage number : ℕ) (seats : List SeatValue) → number < MAX_OWNERS → length seats ≤ SEGMENT_LIMIT → IsPump (new_pump recon stage number seats)
 IsPump-new recon stage number seats small few =
     record {

@@ -41,7 +41,7 @@ refused_split n v w (split.NotFree found) is = both v is.1.1.0 w (live_by (n == 
 pub won_split : (n : ℕ) (v w : View) → WonLive v n Split w → ClaimedOnly v [] w
 won_split n v w is = both v is.0 w (live_by (n == 1) v n is.0 is.1) (only_split is.0 n w is.2)
 
--- whatever became of the split of a node
+-- whatever the outcome of the split of a node
 pub tries_split : (n : ℕ) (v w : View) (result : Result (Unit {0}) SplitFault) → MatchResult result (λ _. (is_leaf n ≡ false) × WonLive v n Split w) (SplitRefused n v w) → TriesSplit n v w
 tries_split n v w (Ok u) won = record { split = inl won.1; claims = won_split n v w won.1 }
 tries_split n v w (Err fault) was = record { split = inr (fault, was); claims = refused_split n v w fault was }

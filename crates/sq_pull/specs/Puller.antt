@@ -1,4 +1,4 @@
--- The reactive pulls of a partition, and what becomes of one.
+-- The reactive pulls of a partition, and the outcome of one.
 use Rattle.std.specs.Prelude.{◌≡◌, ℕ, ◌<◌, Bool, List}
 use Rattle.sq_ranges.specs.ReconValue.{ReconValue}
 use Rattle.sq_status.specs.declared.tree.walks.LeafClaim.TheVariants as claim
@@ -24,7 +24,7 @@ pub record RoomyPuller : Type 0 where
 abbrev pub next_reactive : PullerValue → ℕ
 next_reactive puller = reactive_pull puller.part puller.wins.count
 
--- what became of a reactive pull for a leaf of a segment: what it did to the puller and to the seats
+-- the outcome of a reactive pull for a leaf of a segment: what it did to the puller and to the seats
 abbrev pub HasPulled : ReconValue → ℕ → ℕ → PullerValue → List SeatValue → PullerValue → List SeatValue → ReactivePull → Type 0
 HasPulled recon seg leaf old seats new after (Won n) =
     (old.wins.count < MAX_CLAIMS)

@@ -1,4 +1,4 @@
--- A pump, which claims what is free, segment by segment, and what becomes of a turn of it.
+-- A pump, which claims free nodes, segment by segment, and the outcome of a turn of it.
 use Rattle.std.specs.Prelude.{◌≡◌, ◌≢◌, ℕ, ◌<◌, ◌≤◌, ◌⊎◌, true, ◌==◌, nat_lt, List, [], ◌∷◌, ◌++◌, length, filter, slice_get, Some, None, MatchOption}
 use Rattle.std.specs.List.{list_all, range_with_len}
 use Rattle.atomic_table.specs.Seated.{TableId}
@@ -12,7 +12,8 @@ use Rattle.sq_pull.specs.Numbers.{pump_pull}
 use Rattle.sq_pull.specs.Wins.{WinsValue, no_wins, AddsWin, Sends, AreWonClaims}
 use Rattle.sq_pull.specs.Seats.{AreSeatsOf, StepsAt, ClaimsAny, TriesSplit, OnlyClaimed}
 
--- a pump with its seats, one for each segment, what it won, and its round: the segments that it goes on looking at, the next one first
+-- a pump with its seats, one for each segment, what it won, and its round: the segments that it still looks at, the
+-- next one first
 pub record PumpValue : Type 0 where
   pub number : ℕ
   pub wins : WinsValue
@@ -32,7 +33,8 @@ new_pump recon stage number seats =
 abbrev pub next_asynchronous : PumpValue → ℕ
 next_asynchronous pump = pump_pull pump.number pump.wins.count
 
--- the next segment of the round had a free node, which was claimed. The round goes on behind the segment, and comes to it again
+-- the next segment of the round had a free node, which was claimed. The round continues behind the segment, and reaches
+-- it again
 pub record WinsNext (recon : ReconValue) (seg n : ℕ) (old new : PumpValue) : Type 0 where
   pub few : old.wins.count < MAX_CLAIMS
   pub rest : List ℕ
@@ -42,7 +44,7 @@ pub record WinsNext (recon : ReconValue) (seg n : ℕ) (old new : PumpValue) : T
   pub wins : AddsWin recon seg n (next_asynchronous old) old.wins new.wins
   pub number : new.number ≡ old.number
 
--- in the next segment of the round each leaf has a pull. The round goes on without the segment
+-- in the next segment of the round each leaf has a pull. The round continues without the segment
 pub record SkipsNext (old new : PumpValue) : Type 0 where
   pub few : old.wins.count < MAX_CLAIMS
   pub seg : ℕ
@@ -89,7 +91,7 @@ pub record OnlySends (old new : PumpValue) : Type 0 where
   pub seats : new.seats ≡ old.seats
   pub wins : Sends old.wins new.wins
 
--- what became of a turn: what was claimed, and then requests were sent
+-- the outcome of a turn: what was claimed, and then requests were sent
 abbrev pub HasTurned : ReconValue → PumpValue → PumpValue → PumpTurn → Type 0
 HasTurned recon old new turn = (claimed : PumpValue) × ClaimsNext recon old claimed turn × OnlySends claimed new
 

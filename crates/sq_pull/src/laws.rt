@@ -3,7 +3,7 @@ ghost use Rattle.std.specs.Prelude.{◌≡◌, ◌≢◌, ℕ, ◌^◌, ◌%◌,
 ghost use Rattle.sq_pull.specs.declared.numbers.TheConstants.{MAX_OWNERS, MAX_CLAIMS};
 ghost use Rattle.sq_pull.specs.Numbers.{reactive_pull, pump_pull};
 
-/// A pull number tells whose claim it is, and which one of its owner: no two claims have one number.
+/// A pull number says whose claim it is, and which one of its owner: no two claims have one number.
 pub fn each_claim_has_a_pull_of_its_own()
     ensures partitions { (part other won count : ℕ) → part < MAX_OWNERS → other < MAX_OWNERS
         → reactive_pull part won ≡ reactive_pull other count → (part ≡ other) × (won ≡ count) }
@@ -12,7 +12,7 @@ pub fn each_claim_has_a_pull_of_its_own()
     ensures apart { (part pump won count : ℕ) → reactive_pull part won ≢ pump_pull pump count }
 {}
 
-/// The pull of a partition is reactive, which is to say odd, and that of a pump is not. Both have 32 bits.
+/// The pull of a partition is reactive, which means odd, and the pull of a pump is not. Both have 32 bits.
 pub fn a_pull_is_odd_where_it_is_reactive()
     ensures odd { (part won : ℕ) → reactive_pull part won % 2 ≡ 1 }
     ensures even { (pump won : ℕ) → pump_pull pump won % 2 ≡ 0 }

@@ -17,7 +17,7 @@ use std::alloc::{AllocError, Global};
 use std::marker::Model;
 use std::sync::Wait;
 
-/// What became of a reactive pull.
+/// The outcome of a reactive pull.
 #[derive(Clone, Copy, Debug, PartialEq, Eq)]
 pub enum ReactivePull {
     /// The leaf's node was claimed, and is asked for. This is the node.

@@ -18,7 +18,7 @@ use std::collections::VecDeque;
 use std::marker::Model;
 use std::sync::Wait;
 
-/// What became of a pump's turn.
+/// The outcome of a pump's turn.
 #[derive(Clone, Copy, Debug, PartialEq, Eq)]
 pub enum PumpTurn {
     /// A node of a segment was claimed, and is asked for.

@@ -15,7 +15,7 @@ pub struct Request {
     pub pull: u32,
 }
 
-/// A request that isn't sent, with the partition that it is for.
+/// A request that isn't sent, with its partition.
 #[derive(Clone, Copy, Debug, PartialEq, Eq)]
 pub struct PendingRequest {
     /// The partition that the node leaves.

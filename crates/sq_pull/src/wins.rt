@@ -1,5 +1,5 @@
 // The claims that a partition or a pump won.
-ghost use Rattle.std.specs.Prelude.{◌≡◌, ◌↔◌, ◌+◌, ◌<◌, ◌++◌, ◌∷◌, [], true, false, IsTrue, OnOk, OnErr};
+ghost use Rattle.std.specs.Prelude.{◌≡◌, ◌↔◌, ◌+◌, ◌<◌, ◌++◌, ◌∷◌, [], true, false, IsTrue, IfErr, OnOk, OnErr};
 ghost use Rattle.sq_pull.specs.Wins.{no_wins, AreLeft};
 
 use crate::numbers::MAX_CLAIMS;
@@ -100,13 +100,20 @@ impl Wins {
         ensures room { self.old.has_room ≡ true → self.new.has_room ≡ true }
     {
         self.pending
-            .retain(|pending| !is_sent(rt, queues, *pending));
+            .retain(|pending| send_one(rt, queues, *pending).is_err());
     }
 }
 
-// Sends a request to the queue of its partition. This is false where that queue was full at one moment of the call.
-fn is_sent<R: Wait>(rt: &R, queues: &[ArrayQueue<Request>], pending: PendingRequest) -> bool {
-    queues
-        .get(usize::from(pending.src.number()))
-        .is_some_and(|queue| queue.push(rt, pending.request).is_ok())
+// Sends a request to the queue of its partition. It comes back where that queue was full at one moment of the call.
+fn send_one<R: Wait>(
+    rt: &R,
+    queues: &[ArrayQueue<Request>],
+    pending: PendingRequest,
+) -> Result<(), Request>
+    ensures { IfErr result (λ back. back ≡ pending.request) }
+{
+    match queues.get(usize::from(pending.src.number())) {
+        Some(queue) => queue.push(rt, pending.request),
+        None => Err(pending.request),
+    }
 }
