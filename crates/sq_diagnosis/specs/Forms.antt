@@ -74,6 +74,6 @@ plan_misfit front [] = Some (Missing 1 front)
 plan_misfit front (word ∷ []) = if fits front word then Some (Missing 2 wanted.Plan) else Some (flaw_at 1 word (Wrong 1 front))
 plan_misfit front (word ∷ plan ∷ words) = if fits front word then None else Some (flaw_at 1 word (Wrong 1 front))
 
--- the first thing by which a line isn't 'old' or 'new', a space, and a plan, of which nothing is said here
+-- the first thing by which a line isn't 'old' or 'new', a space, and a plan; the plan isn't looked at
 abbrev pub plan_line_flaw : Wanted → List ℕ → Option LineFlaw
 plan_line_flaw front line = if has_mark line then Some Mark else plan_misfit front (words_of line)

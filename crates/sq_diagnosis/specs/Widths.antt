@@ -1,4 +1,4 @@
--- By which widths of a leaf there is a move between two plans, and why there is none by another.
+-- The widths of a leaf by which there is a move between two plans, and why there is none by another.
 use Rattle.std.specs.Prelude.{◌≡◌, ◌≢◌, ℕ, ◌≤◌, length, None}
 use Rattle.sq_plan.specs.PlanValue.{PlanValue}
 use Rattle.sq_ranges.specs.ReconValue.{segments_of}
@@ -16,9 +16,13 @@ pub record IsLeastWidth (old new : PlanValue) (width : ℕ) : Type 0 where
   pub does : recon_fault old new width ≡ None
   pub least : (other : ℕ) → recon_fault old new other ≡ None → width ≤ other
 
--- why a move with leaves of this width comes to too many segments
+-- how many segments a move with leaves of this width comes to, and how many it may have
+abbrev pub AreCounted : PlanValue → PlanValue → ℕ → ℕ → ℕ → Type 0
+AreCounted old new width segments limit =
+    (segments ≡ length (segments_of width (moves_of old new))) × (limit ≡ segment_limit new.version)
+
+-- why a move with leaves of this width has too many segments
 abbrev pub IsSegmentFlaw : PlanValue → PlanValue → ℕ → SegmentFlaw → Type 0
 IsSegmentFlaw old new width (Narrow segments limit least) =
-    (segments ≡ length (segments_of width (moves_of old new))) × (limit ≡ segment_limit new.version)
-    × IsLeastWidth old new least
-IsSegmentFlaw old new width (Large limit) = (limit ≡ segment_limit new.version) × HasNoWidth old new
+    AreCounted old new width segments limit × IsLeastWidth old new least
+IsSegmentFlaw old new width (Large segments limit) = AreCounted old new width segments limit × HasNoWidth old new

@@ -93,7 +93,6 @@ module _ (width : ℕ) (some : 1 ≤ width) where
       (λ (further : any_has_key ranges key ≡ true). or_right (any_has_key (segments_in width range) key) (any_has_key (segments_of width ranges) key) (segments_of-cover ranges key further))
       (or_cases (has_key range key) (any_has_key ranges key) held)
 
--- a part of a run is a run
 pub run_parts : (old new : PlanValue) (width : ℕ) (range : Range) → IsMovingRun old new range → OfParts width (IsMovingRun old new) range
 run_parts old new width range run lo hi low some high short = record {
   some = some;

@@ -1,4 +1,4 @@
--- Runs that are put together where one goes on from another.
+-- Runs that are put together where one continues another.
 use Rattle.std.proofs.Common.{◌≡◌, ◌≢◌, ⊎_elim, ℕ, ◌<◌, ◌≤◌, Bool, true, false, if◌then◌else◌, List, [], ◌∷◌, refl, ◌∙◌, arith, ◌&&◌, nat_lt, nat_le, ◌==◌}
 use Rattle.std.specs.List.{list_any}
 use Rattle.std.proofs.lemmas.Bool.{and_parts, and_from, or_cases, or_left, or_right, eqb-true, ltb-true, leb-true, lt-ltb, le-leb, cases_lt}
@@ -21,7 +21,7 @@ has_key-within range key low high = and_from (nat_le range.lo key) (nat_lt key r
 abbrev pub any_has_key : List Range → ℕ → Bool
 any_has_key ranges key = list_any (λ range. has_key range key) ranges
 
--- whether a range goes on from another with the same owners
+-- whether a range continues another with the same owners
 abbrev goes_on : Range → Range → Bool
 goes_on range next = (range.hi == next.lo) && ((range.src == next.src) && (range.dst == next.dst))
 
@@ -38,7 +38,7 @@ apart_parts : (range next : Range) → goes_on range next ≡ false → range.hi
 apart_parts range next off at src dst = grind (arith, nat_tests)
 
 module _ (old new : PlanValue) where
-  -- two runs of which one goes on from the other are one run
+  -- two runs, one of which continues the other, are one run
   both_run : (range next : Range) → goes_on range next ≡ true → IsMovingRun old new range → IsMovingRun old new next → IsMovingRun old new (both range next)
   both_run range next on one other =
       let parts = goes_on_parts range next on in

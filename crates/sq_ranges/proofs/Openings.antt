@@ -28,7 +28,7 @@ none-both : (first rest : Option OpeningFault) → option_or first rest ≡ None
 none-both None rest e = (refl, e)
 none-both (Some fault) rest e = absurd (none-some fault (sym e))
 
--- nor has a row whose fault is told as one of an opening
+-- nor has a row whose fault is one of an opening
 none-told : (at : ℕ) (fault : Option TxnFault) → option_map (Row at) fault ≡ None → fault ≡ None
 none-told at None e = refl
 none-told at (Some fault) e = absurd (none-some (Row at fault) (sym e))

@@ -28,7 +28,7 @@ moves_keys_so range some differ =
     and_from (nat_lt range.lo range.hi) (not (range.src == range.dst)) (lt-ltb range.lo range.hi some) (not_from_false (range.src == range.dst) (ne_eqb range.src range.dst differ))
 
 module _ (old new : PlanValue) where
-  -- the ranges tell the owners of the new plan from this key on
+  -- the ranges give the owners of the new plan from this key on
   abbrev AgreeFrom : (ℕ → ℕ) → ℕ → List PlanRange → Type 0
   AgreeFrom by from ranges = (key : ℕ) → from ≤ key → owner_among ranges key ≡ by key
 
@@ -99,14 +99,12 @@ module _ (old new : PlanValue) where
         (all_each one.hi olds parts.2 (agree_rest (owner old) from one olds (omega arith) agree_old) key further within differ))
         (cases_lt key one.hi)
 
--- they are in a row
 pub moves_of-row : (old new : PlanValue) → IsPlan old → IsPlan new → Row (IsMovingRun old new) 0 ROOT_END (moves_of old new)
 unfolding moves_of
 moves_of-row old new is_old is_new =
     joined-row old new 0 ROOT_END (flat_map (overlaps new.ranges) old.ranges)
     (all_row old new new.ranges is_new.tiling (λ key _. refl) 0 old.ranges is_old.tiling (λ key _. refl))
 
--- and they are the moves
 pub moves_of-moves : (old new : PlanValue) → IsPlan old → IsPlan new → AreMoves old new (moves_of old new)
 unfolding moves_of
 moves_of-moves old new is_old is_new =

@@ -4,7 +4,7 @@ use Rattle.std.specs.Prelude.{All, slice_get, Some}
 use Rattle.std.proofs.lemmas.Option.{same_Some, none-some}
 use Rattle.sq_ranges.specs.declared.recon.Range.{Range}
 
--- ranges between two keys, of each of which something holds
+-- ranges between two keys, with this property each
 abbrev pub Row : (Range → Type 0) → ℕ → ℕ → List Range → Type 0
 Row P lo hi [] = lo ≤ hi
 Row P lo hi (range ∷ ranges) = (lo ≤ range.lo) × (range.lo < range.hi) × P range × Row P range.hi hi ranges

@@ -36,7 +36,7 @@ module _ (old new : PlanValue) where
   begin_behind run [] maximal = (tt, tt)
   begin_behind run (next ∷ runs) maximal = (maximal.0.0, maximal.1)
 
-  -- a run isn't gone on with behind it
+  -- a run isn't continued with behind it
   no_further : (run : Range) (runs : List Range) → IsMovingRun old new run → All (IsMovingRun old new) runs → AreMaximal (run ∷ runs) → any_has_key runs run.hi ≡ true → owner old run.hi ≡ run.src → owner new run.hi ≡ run.dst → ⊥
   no_further run [] is all maximal held src dst = true≢false (sym held)
   no_further run (next ∷ runs) is all maximal held src dst =

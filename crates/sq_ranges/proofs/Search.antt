@@ -94,7 +94,6 @@ module _ (recon : ReconValue) (is : IsRecon recon) (key : ℕ) where
       pub found_within : segment.lo ≤ key → has_key segment key ≡ true
       found_within low = has_key-within segment key low (leb-false segment.hi key (ap (ends_by key) at ∙ point.1 i segment (omega arith) within))
 
--- a segment that was read
 pub segment_read : (segments read : List Range) (i : ℕ) (segment : Range) → read ≡ segments → i < length read → segment ≡ get_or read i segment → (i < length segments) × (segment ≡ get_or segments i segment) × (slice_get segments i ≡ Some segment)
 segment_read segments read i segment same within at =
     subst (λ (xs : List Range). (i < length xs) × (segment ≡ get_or xs i segment) × (slice_get xs i ≡ Some segment)) same (within, at, slice_get_read read (length read) i segment refl within at)

@@ -15,7 +15,6 @@ use Rattle.sq_ranges.proofs.Joins.{any_has_key, has_key-bounds}
 use Rattle.sq_ranges.proofs.Cuts.{IsSegment, Moves, segments_of-row, segments_of-cover, row_from_rising, rising_from_row, segment_parts, run_parts}
 use Rattle.sq_ranges.proofs.Found.{segment_of-some, segment_of-has_key, segment_of-none, one_holder}
 
--- the bounds of a width
 pub width_bounds : (width : ℕ) → is_width width ≡ true → (1 ≤ width) × (width ≤ MAX_WIDTH)
 width_bounds width is =
     let parts = and_parts (nat_le 1 width) (nat_le width MAX_WIDTH) is in

@@ -46,7 +46,7 @@ ahead_first plan at range ranges ahead =
 ahead_none : (plan : PlanValue) (at : ℕ) → AreAhead plan at [] → ROOT_END ≤ at
 ahead_none plan at ahead = let end = eqb-true ahead.start ROOT_END ahead.tiling in omega (arith, ahead.begun)
 
--- the sweep goes on to a key up to which no range ends
+-- the sweep proceeds to a key up to which no range ends
 ahead_past : (plan : PlanValue) (at to : ℕ) (range : PlanRange) (ranges : List PlanRange) → AreAhead plan at (range ∷ ranges) → at ≤ to → to ≤ range.hi → AreAhead plan to (past (range ∷ ranges) to)
 ahead_past plan at to range ranges ahead le ge =
     let parts = tiling_parts ahead.start range ranges ahead.tiling in
@@ -187,7 +187,7 @@ module _ (old new : PlanValue) where
       let is = moves.0 in
       absurd (omega (arith, is.from, is.moves.some, is.moves.within))
 
-  -- a piece that goes on with a run is part of it
+  -- a piece that continues a run is part of it
   pub went_on : (from : ℕ) (before after : Sweep) (run piece : Range) → Reaches old new from before run → Went before after piece → piece.src ≡ run.src → piece.dst ≡ run.dst → Reaches old new from after (record { lo = run.lo; hi = piece.hi; src = run.src; dst = run.dst })
   went_on from before after run piece reaches went src dst =
       let is = piece_is before after piece reaches.sweeps went in

@@ -1,4 +1,4 @@
--- Faults of a reconfiguration and of an opening: the one told as the other, and their numbers as a user sees them.
+-- Faults of a reconfiguration and of an opening: the first as the second, and their numbers as a user sees them.
 use Rattle.std.specs.Prelude.{ℕ}
 use Rattle.sq_schema.specs.declared.fault.RowFault.{RowFault}
 use Rattle.sq_schema.specs.declared.fault.RowFault.TheVariants as row
@@ -8,12 +8,12 @@ use Rattle.sq_ranges.specs.declared.fault.ReconFault.TheVariants as recon
 use Rattle.sq_ranges.specs.declared.fault.OpeningFault.{OpeningFault}
 use Rattle.sq_ranges.specs.declared.fault.OpeningFault.TheVariants as opening
 
--- a fault of the plans, told as one of the opening
+-- a fault of the plans, as one of the opening
 abbrev pub of_recon : ReconFault → OpeningFault
 of_recon recon.Memory = opening.Memory
 of_recon fault = opening.Recon fault
 
--- a fault of the row with this number in its place, told as one of the opening
+-- a fault of the row with this number in its place, as one of the opening
 abbrev pub of_row : ℕ → RowFault → OpeningFault
 of_row at row.Memory = opening.Memory
 of_row at fault = opening.Place at fault

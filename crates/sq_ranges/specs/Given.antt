@@ -22,7 +22,7 @@ key_of given = record { table = given.table; sub = given.sub }
 abbrev pub row_of : GivenRow → RowValue
 row_of given = record { number = given.number; note = given.note.items }
 
--- an opening row: its root key, where it stands within it, and the row itself
+-- an opening row: its root key, where it is within it, and the row itself
 pub record GivenValue : Type 0 where
   pub root : ℕ
   pub key : RowKey

@@ -7,7 +7,7 @@ use Rattle.sq_plan.specs.PlanValue.{PlanValue, owner}
 use Rattle.sq_ranges.specs.declared.recon.Range.{Range}
 use Rattle.sq_ranges.specs.ReconValue.{has_key}
 
--- a nonempty run of root keys, each of which the source owns by the old plan and the destination by the new
+-- a nonempty run of root keys that the source owns by the old plan and the destination by the new
 pub record IsMovingRun (old new : PlanValue) (range : Range) : Type 0 where
   pub some : range.lo < range.hi
   pub within : range.hi ≤ ROOT_END
@@ -43,7 +43,7 @@ overlap one other = record { lo = max one.lo other.lo; hi = min one.hi other.hi;
 abbrev pub moves_keys : Range → Bool
 moves_keys range = nat_lt range.lo range.hi && not (range.src == range.dst)
 
--- a range put before those that follow it; one with the next where that goes on from it with the same owners
+-- a range put before those that follow it; one with the next where that continues it with the same owners
 abbrev pub joined_with : Range → List Range → List Range
 joined_with range [] = range ∷ []
 joined_with range (next ∷ ranges) =

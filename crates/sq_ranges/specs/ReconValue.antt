@@ -113,7 +113,7 @@ destinations src (range ∷ ranges) =
 abbrev pub place_on : List Range → ℕ → ℕ → ℕ
 place_on ranges src dst = unwrap_or (position (λ other. other == dst) (destinations src ranges)) 0
 
--- that of the partition to which a range goes
+-- the place of the partition to which a range goes
 abbrev pub place_of : List Range → Range → ℕ
 place_of ranges range = place_on ranges range.src range.dst
 

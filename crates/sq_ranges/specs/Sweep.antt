@@ -23,7 +23,7 @@ abbrev pub EndsBehind : ℕ → List PlanRange → Type 0
 EndsBehind at [] = Unit {0}
 EndsBehind at (range ∷ ranges) = at < range.hi
 
--- ranges of a plan with which its keys from this one on are told
+-- ranges of a plan that cover its keys from this one on
 pub record AreAhead (plan : PlanValue) (at : ℕ) (ranges : List PlanRange) : Type 0 where
   pub start : ℕ
   pub begun : start ≤ at
@@ -60,7 +60,7 @@ pub record Reaches (old new : PlanValue) (from : ℕ) (sweep : Sweep) (run : Ran
   pub begun : run.lo ≡ from
   pub end : run.hi ≡ sweep.at
 
--- and it doesn't go on
+-- and it doesn't continue
 pub record EndsAt (old new : PlanValue) (from : ℕ) (sweep : Sweep) (run : Range) : Type 0 where
   pub reaches : Reaches old new from sweep run
   pub after : run.hi < ROOT_END → owner old run.hi ≡ run.src → owner new run.hi ≢ run.dst

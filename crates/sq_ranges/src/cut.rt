@@ -1,5 +1,5 @@
 // The moves between two plans, and the segments that they are cut into.
-ghost use Rattle.std.specs.Prelude.{◌≡◌, ◌≤◌, ◌<◌, ◌++◌, true, nat_le, length, map, IfOk, OnOk};
+ghost use Rattle.std.specs.Prelude.{◌≡◌, ◌≤◌, ◌<◌, ◌++◌, true, nat_le, length, map, IfOk, IfSome, OnOk};
 ghost use Rattle.sq_ranges.specs.ReconValue.{is_width, segment_at, segment_count, segments_in, segments_of, are_in_key_order, range_link, AreLinks};
 ghost use Rattle.sq_schema.specs.declared.root.TheConstants.{ROOT_END};
 ghost use Rattle.sq_plan.specs.PlanValue.{IsPlan};
@@ -13,7 +13,7 @@ use sq_plan::Plan;
 use sq_tree::LEAVES;
 use std::alloc::{AllocError, Global};
 
-/// Whether the moves between two plans come to no more segments than the version of the new one allows.
+/// Whether what moves between two plans has no more segments than the version of the new one allows.
 pub(crate) fn fits(old: &Plan, new: &Plan, width: u64) -> bool
     requires { is_width width ≡ true }
     ensures { result ≡ nat_le (length (segments_of width (moves_of old.now new.now))) (segment_limit new.now.version) }
@@ -28,6 +28,19 @@ pub(crate) fn fits(old: &Plan, new: &Plan, width: u64) -> bool
         }
     }
     true
+}
+
+/// How many segments the moves between two plans come to; `None` where that is no number below 2^64.
+pub(crate) fn count(old: &Plan, new: &Plan, width: u64) -> Option<u64>
+    requires { is_width width ≡ true }
+    ensures { IfSome result (λ count. count ≡ length (segments_of width (moves_of old.now new.now))) }
+{
+    let mut count: u64 = 0;
+    let mut sweep = Sweep::new(old, new);
+    while let Some(run) = sweep.next_run() {
+        count = count.checked_add(segment_count(&run, width))?;
+    }
+    Some(count)
 }
 
 /// The moves between two plans, in key order.
@@ -109,7 +122,6 @@ pub(crate) fn links(alloc: Global, ranges: &[Range]) -> Result<Vec<Link>, AllocE
     Ok(links)
 }
 
-// The link of each range.
 fn each_link(alloc: Global, ranges: &[Range]) -> Result<Vec<Link>, AllocError>
     ensures { IfOk result (λ links. links.items ≡ map range_link ranges.now) }
 {

@@ -1,5 +1,5 @@
-// Why there is no reconfiguration or no opening, in the order in which the causes are looked at. What each means stands in
-// the table of `sq_explain`, by its number.
+// Why there is no reconfiguration or no opening, in the order in which the causes are looked at. The table of
+// `sq_explain` says what each means, by its number.
 ghost use Rattle.std.specs.Prelude.{◌≡◌};
 ghost use Rattle.sq_ranges.specs.Fault.{of_row, recon_fault_number, opening_fault_number};
 

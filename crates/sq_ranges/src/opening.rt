@@ -34,7 +34,7 @@ pub struct Config {
     pub capacity: u64,
 }
 
-/// An opening row as it is given: any numbers, of which [`Opening::new`] and [`Opening::take_row`] refuse wrong ones.
+/// An opening row, of any numbers: [`Opening::new`] and [`Opening::take_row`] refuse wrong ones.
 #[derive(Debug, Drop)]
 pub struct GivenRow {
     /// The root key.
@@ -116,9 +116,10 @@ impl Opening {
 
     /// The opening of two plans with these sizes and rows. Otherwise the plans and the rows come back as they were,
     /// with the first of these faults: those of the plans and the width of a leaf, as [`Recon::fault`] has them; the
-    /// bytes of a chunk; the chunks of a queue; and then row by row the root key, the table, the sub key, the note,
-    /// a row that was given before, and a row without its root row. A row's fault tells which row it is. That memory ran
-    /// out may be told in place of any answer about rows but a fault of the first, and of none about plans and sizes.
+    /// bytes of a chunk; the chunks of a queue; and then row by row the root key, the table, the sub key, the note, a
+    /// row that was given before, and a row without its root row. A row's fault has the number of the row. Want of
+    /// memory may be answered in place of any answer about rows but a fault of the first, and of none about plans and
+    /// sizes.
     pub fn new(
         alloc: Global,
         schema: Schema,
@@ -159,7 +160,7 @@ impl Opening {
 
     /// The opening of two plans with these sizes, and no rows: [`Opening::take_row`] takes one after another. Otherwise
     /// the plans come back as they were, with the first fault of the plans and the sizes, as [`Opening::new`] has them.
-    /// That memory ran out is told in place of none of these.
+    /// Want of memory is answered in place of none of these.
     pub fn without_rows(
         alloc: Global,
         schema: Schema,
@@ -189,9 +190,9 @@ impl Opening {
         }
     }
 
-    /// Takes one more opening row, with its note and no copy; a fault tells it by this number. Otherwise nothing changes,
-    /// and the row comes back, with its first fault as [`Opening::new`] has them. That memory ran out is told in place of
-    /// none of these.
+    /// Takes one more opening row, with its note and no copy; a fault names it by this number. Otherwise nothing
+    /// changes, and the row comes back, with its first fault as [`Opening::new`] has them. Want of memory is answered
+    /// in place of none of these.
     pub fn take_row(&mut self, at: usize, given: GivenRow) -> Result<(), (OpeningFault, GivenRow)>
         ensures fault { let fault = given_fault self.old.tables (rows_in self.old.table) at (value_of given) in
             MatchResult result (λ _. fault ≡ None) (λ refused. MayRefuse fault fault refused.0) }
@@ -317,7 +318,7 @@ impl GivenRow {
     ghost use Rattle.sq_ranges.specs.Given.{key_of, row_of, value_of};
     ghost use Rattle.sq_ranges.specs.Refused.{shape_fault};
 
-    /// Where it stands within its root key.
+    /// Where it is within its root key.
     pub(crate) fn key(&self) -> RowKey
         ensures { result ≡ key_of self.now }
     {

@@ -5,7 +5,7 @@ ghost use Rattle.sq_schema.specs.declared.root.TheConstants.{ROOT_END};
 ghost use Rattle.sq_plan.specs.PlanValue.{IsPlan};
 ghost use Rattle.sq_ranges.specs.ReconValue.{is_width, are_in_key_order, leaf_start};
 
-use crate::cut::{fits, links, moves, segments};
+use crate::cut::{count, fits, links, moves, segments};
 use crate::fault::ReconFault;
 use crate::segment::SegId;
 use crate::stage::{place_on, places};
@@ -78,12 +78,14 @@ impl Model for Recon {
 
 impl Recon {
     ghost use Rattle.sq_ranges.specs.ReconValue.{IsRecon, AreLinks, no_moves, leaf_at, extent_at, stage_on, stage_at, stages};
+    ghost use Rattle.sq_ranges.specs.ReconValue.{segments_of};
+    ghost use Rattle.sq_ranges.specs.Moves.{moves_of};
     ghost use Rattle.sq_ranges.specs.Between.{recon_fault, recon_of, IsReconOf};
 
     /// Why there is no reconfiguration between two plans: the first of these. They name different numbers of
-    /// partitions; the width of a leaf isn't from 1 to [`MAX_WIDTH`] root keys; what moves comes to more
-    /// than [`SEGMENT_LIMIT`] segments, or [`crate::FIRST_SEGMENT_LIMIT`] where the new plan is of the first version.
-    /// `None` where there is one. It takes no memory.
+    /// partitions; the width of a leaf isn't from 1 to [`MAX_WIDTH`] root keys; what moves has more than
+    /// [`SEGMENT_LIMIT`] segments, or [`crate::FIRST_SEGMENT_LIMIT`] where the new plan is of the first version. `None`
+    /// where there is one. It takes no memory.
     pub fn fault(old: &Plan, new: &Plan, width: u64) -> Option<ReconFault>
         ensures fault { result ≡ recon_fault old.now new.now width }
         ensures plans { IsPlan old.now × IsPlan new.now }
@@ -99,6 +101,17 @@ impl Recon {
             return Some(ReconFault::TooManySegments);
         }
         None
+    }
+
+    /// How many segments the moves between two plans come to with leaves of this width, also where they are more than one move
+    /// has. `None` where the width isn't from 1 to [`MAX_WIDTH`] root keys, and where there are 2^64 or more. It takes no memory.
+    pub fn count_segments(old: &Plan, new: &Plan, width: u64) -> Option<u64>
+        ensures { IfSome result (λ count. count ≡ length (segments_of width (moves_of old.now new.now))) }
+    {
+        if !is_width(width) {
+            return None;
+        }
+        count(old, new, width)
     }
 
     /// What moves between two plans, cut into segments of [`LEAVES`] leaves of `width` root keys each. It is refused where

@@ -60,7 +60,7 @@ impl SegId {
         u64::from(self.0)
     }
 
-    /// Where the segment stands in a list of all segments.
+    /// Where the segment is in a list of all segments.
     pub fn index(self) -> usize
         ensures place { result ≡ self }
         ensures bound { result < SEGMENT_LIMIT }

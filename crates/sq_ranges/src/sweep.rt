@@ -29,7 +29,7 @@ impl<'a> Sweep<'a> {
         }
     }
 
-    /// The next run of keys that move, as far as it goes. The sweep goes on behind it.
+    /// The next run of keys that move, as far as it goes. The sweep continues behind it.
     pub(crate) fn next_run(&mut self) -> Option<Range>
         ensures next { (runs : List Range) → HasAhead self.old runs
             → MatchOption result (runs ≡ []) (λ run. (rest : List Range) × (runs ≡ run ∷ rest) × HasAhead self.new rest) }
@@ -74,7 +74,7 @@ impl<'a> Sweep<'a> {
         })
     }
 
-    // Goes on to a key up to which no range ends.
+    // Continues to a key up to which no range ends.
     fn skip_to(&mut self, at: u64)
         ensures at { self.new.at ≡ at }
         ensures olds { self.new.olds.now ≡ past self.old.olds.now at }

@@ -9,7 +9,6 @@ use Rattle.sq_ranges.proofs.sweep.Sweep.next_run.Goals.{After-skip_to}
 piece_went : (c : After-skip_to) → Went c.loop-piece.self c.skip_to.new.self c.in-Some.piece
 piece_went c = record { found = sym c.in-Some.ensures; at = c.skip_to.ensures.at; olds = c.skip_to.ensures.olds; news = c.skip_to.ensures.news }
 
--- so less is left of it
 less_left : (c : After-skip_to) → left c.skip_to.new.self < left c.loop-piece.self
 less_left c = went_fewer c.loop-piece.self c.skip_to.new.self c.in-Some.piece (piece_went c)
 
