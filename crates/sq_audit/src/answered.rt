@@ -32,8 +32,8 @@ pub fn count_answered(
     receipts: &[Receipt],
     jobs: &[Job],
 ) -> Result<usize, AllocError>
-    ensures answered { IfOk result (λ answered. answered ≡ length (answered_jobs receipts.now jobs.now)) }
-    ensures most { IfOk result (λ answered. answered ≤ length jobs.now) }
+    ensures answered { IfOk result (λ n. n ≡ length (answered_jobs receipts.now jobs.now)) }
+    ensures most { IfOk result (λ n. n ≤ length jobs.now) }
 {
     let ids = list_ids(alloc, receipts)?;
     let mut answered = 0;
