@@ -32,7 +32,8 @@ pub(crate) fn job_of<'a>(
     requires ids { IdsDiffer jobs.now }
     requires places { IsIndexOf id_of jobs.now places.now }
     ensures one { IfSome result (λ txn. IsOneJob jobs.now receipt.now txn.now) }
-    ensures none { IfNone result ((job : Job) → Contains jobs.now job → is_of job.txn receipt.now ≡ true → ⊥) }
+    ensures none { IfNone result ((job : Job) → Contains jobs.now job
+        → is_of job.txn receipt.now ≡ true → ⊥) }
 {
     let Some(place) = place_of(places, receipt.id) else {
         return None;

@@ -98,8 +98,10 @@ fn finish(
     requires by_id { AreById ready.ids.items }
     requires bound { (root : ℕ) → ROOT_END ≤ root → rows_in ready.table root ≡ [] }
     ensures opening { result.opening ≡ folded_opening opening ready.table }
-    ensures gathered { result.gathered ≡ folded_gathered gathered (map folded_store gathered.stores) }
-    ensures jobs { result.jobs.items ≡ filter (λ job. not (is_listed ready.ids.items job)) jobs.items }
+    ensures gathered { result.gathered
+        ≡ folded_gathered gathered (map folded_store gathered.stores) }
+    ensures jobs { result.jobs.items
+        ≡ filter (λ job. not (is_listed ready.ids.items job)) jobs.items }
 {
     leave_unanswered(&ready.ids, &mut jobs);
     Folded {

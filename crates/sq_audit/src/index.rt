@@ -73,7 +73,8 @@ pub(crate) fn all_start_from<R: Threads + Sync>(
     table: &Table,
     all: &[Located],
 ) -> Result<bool, AllocError>
-    ensures { IfOk result (λ from. Decides from (StartFrom (rows_in table.now) (entries_in all.now))) }
+    ensures { IfOk result (λ from. Decides from
+        (StartFrom (rows_in table.now) (entries_in all.now))) }
 {
     let size = part_size(all.len());
     let said = thread::map_chunks(
@@ -82,7 +83,8 @@ pub(crate) fn all_start_from<R: Threads + Sync>(
         all,
         size,
         &|_, part: &[Located]| -> Result<bool, AllocError>
-            ensures { IfOk result (λ from. Decides from (StartFrom (rows_in table.entry.now) (entries_in part.entry.now))) }
+            ensures { IfOk result (λ from. Decides from
+                (StartFrom (rows_in table.entry.now) (entries_in part.entry.now))) }
         { Ok(start_from(table, part)) },
     )?;
     all_hold(&said)

@@ -17,14 +17,16 @@ pub fn sound_is_clear_of_each_defect()
 
 /// There is one verdict at most.
 pub fn one_verdict()
-    ensures { (o : OpeningValue) (g : GatheredValue) (jobs : List Job) (one other : Verdict) → IsVerdict o g jobs one
+    ensures { (o : OpeningValue) (g : GatheredValue) (jobs : List Job) (one other : Verdict)
+        → IsVerdict o g jobs one
         → IsVerdict o g jobs other → one ≡ other }
 {}
 
 /// What is found sound is placed: each family is where the notes place its root key, and nowhere else, it starts from
 /// its opening rows, and the receipts name its log.
 pub fn sound_is_placed()
-    ensures { (o : OpeningValue) (g : GatheredValue) (jobs : List Job) → IsVerdict o g jobs Verdict.Sound → IsPlaced o g }
+    ensures { (o : OpeningValue) (g : GatheredValue) (jobs : List Job)
+        → IsVerdict o g jobs Verdict.Sound → IsPlaced o g }
 {}
 
 /// The table of numbers has each defect.

@@ -63,7 +63,8 @@ fn add_stored<'a>(
     site: Site,
     store: &'a RunStore,
 ) -> Result<(), AllocError>
-    ensures { OnOk result (AddsAll (spot_of site) (get store.now) (entries_in all.old.items) (entries_in all.new.items)) }
+    ensures { OnOk result (AddsAll (spot_of site) (get store.now) (entries_in all.old.items)
+        (entries_in all.new.items)) }
 {
     for family in store.families() {
         // For the proof alone: the log is of the family's own root key, as that of each family is.
@@ -79,7 +80,8 @@ fn add_under_way<'a>(
     link: usize,
     of: &'a ClosedLink,
 ) -> Result<(), AllocError>
-    ensures { OnOk result (AddsLink link of.now (entries_in all.old.items) (entries_in all.new.items)) }
+    ensures { OnOk result (AddsLink link of.now (entries_in all.old.items)
+        (entries_in all.new.items)) }
 {
     for (chunk, carried) in of.under_way.iter().enumerate() {
         add_carried(all, Site::Chunk { link, chunk }, carried)?;
@@ -93,7 +95,8 @@ fn add_carried<'a>(
     site: Site,
     chunk: &'a Chunk,
 ) -> Result<(), AllocError>
-    ensures { OnOk result (AddsAll (spot_of site) (family_in chunk.now.families) (entries_in all.old.items) (entries_in all.new.items)) }
+    ensures { OnOk result (AddsAll (spot_of site) (family_in chunk.now.families)
+        (entries_in all.old.items) (entries_in all.new.items)) }
 {
     for family in chunk.families() {
         all.push(Located { site, family })?;

@@ -39,7 +39,8 @@ pub(crate) fn are_placed(
 // Whether a family that is in a store is where the notes of a stage place its root key. One that is in a chunk always is.
 fn is_placed(opening: &Opening, stage: u64, spans: &[Span], located: &Located) -> bool
     requires { AreByKey (marked_in spans.now) }
-    ensures { Decides result (IsPlacedBy opening.now stage (marked_in spans.now) (entry_of located.now)) }
+    ensures { Decides result (IsPlacedBy opening.now stage (marked_in spans.now)
+        (entry_of located.now)) }
 {
     let Site::Store(part) = located.site else {
         return true;

@@ -38,7 +38,8 @@ fn loaded_count(link: &ClosedLink) -> usize
 
 /// The notes of links that cover keys, by the first keys.
 pub(crate) fn by_key(alloc: Global, links: &[ClosedLink]) -> Result<Vec<Span<'_>>, AllocError>
-    ensures all { IfOk result (λ spans. IsPermutation (flat_map notes_of links.now) (marked_in spans.items)) }
+    ensures all { IfOk result (λ spans. IsPermutation (flat_map notes_of links.now)
+        (marked_in spans.items)) }
     ensures sorted { IfOk result (λ spans. IsNonDecreasingBy first_key (marked_in spans.items)) }
 {
     let mut spans = Vec::new(alloc);
@@ -51,7 +52,8 @@ pub(crate) fn by_key(alloc: Global, links: &[ClosedLink]) -> Result<Vec<Span<'_>
 
 // Adds the notes of a link that cover keys.
 fn add_link<'a>(spans: &mut Vec<Span<'a>>, link: &'a ClosedLink) -> Result<(), AllocError>
-    ensures { OnOk result (marked_in spans.new.items ≡ marked_in spans.old.items ++ notes_of link.now) }
+    ensures { OnOk result (marked_in spans.new.items
+        ≡ marked_in spans.old.items ++ notes_of link.now) }
 {
     let count = loaded_count(link);
     add(spans, &link.notes[..count], true)?;
@@ -60,7 +62,8 @@ fn add_link<'a>(spans: &mut Vec<Span<'a>>, link: &'a ClosedLink) -> Result<(), A
 
 // Adds those of these notes that cover keys.
 fn add<'a>(spans: &mut Vec<Span<'a>>, notes: &'a [Note], loaded: bool) -> Result<(), AllocError>
-    ensures { OnOk result (marked_in spans.new.items ≡ marked_in spans.old.items ++ marked loaded notes.now) }
+    ensures { OnOk result (marked_in spans.new.items
+        ≡ marked_in spans.old.items ++ marked loaded notes.now) }
 {
     for note in notes {
         if note.lo < note.hi {

@@ -12,7 +12,8 @@ use std::alloc::{AllocError, Global};
 
 /// The table of the rows that the families of these stores have.
 pub(crate) fn table_of(alloc: Global, stores: &[RunStore]) -> Result<Table, AllocError>
-    ensures rows { IfOk result (λ table. (root : ℕ) → rows_in table root ≡ rows_among [] stores.now root) }
+    ensures rows { IfOk result (λ table. (root : ℕ)
+        → rows_in table root ≡ rows_among [] stores.now root) }
     ensures bound { IfOk result (λ table. (root : ℕ) → ROOT_END ≤ root → rows_in table root ≡ []) }
 {
     let mut table = Table::new(alloc);
@@ -24,8 +25,10 @@ pub(crate) fn table_of(alloc: Global, stores: &[RunStore]) -> Result<Table, Allo
 
 // Adds the rows of the families of a store.
 fn add_store(table: &mut Table, store: &RunStore) -> Result<(), AllocError>
-    ensures rows { OnOk result ((root : ℕ) → rows_in table.new root ≡ rows_with (rows_in table.old root) (get store.now root)) }
-    ensures bound { OnOk result ((root : ℕ) → ROOT_END ≤ root → rows_in table.new root ≡ rows_in table.old root) }
+    ensures rows { OnOk result ((root : ℕ)
+        → rows_in table.new root ≡ rows_with (rows_in table.old root) (get store.now root)) }
+    ensures bound { OnOk result ((root : ℕ) → ROOT_END ≤ root
+        → rows_in table.new root ≡ rows_in table.old root) }
 {
     let mut at = 0;
     while let Some((family, next)) = next_family(store, at) {
@@ -37,7 +40,8 @@ fn add_store(table: &mut Table, store: &RunStore) -> Result<(), AllocError>
 
 // Adds the rows of a family, if it has some.
 fn add_family(table: &mut Table, family: &Family) -> Result<(), AllocError>
-    ensures { OnOk result ((root : ℕ) → rows_in table.new root ≡ rows_beside (rows_in table.old) family.now root) }
+    ensures { OnOk result ((root : ℕ)
+        → rows_in table.new root ≡ rows_beside (rows_in table.old) family.now root) }
 {
     let rows = family.rows();
     if !rows.is_empty() {

@@ -30,7 +30,8 @@ pub(crate) fn are_known<R: Threads + Sync>(
 ) -> Result<bool, AllocError>
     requires ids { IdsDiffer jobs.now }
     requires rise { AreByRoot (entries_in all.now) }
-    ensures { IfOk result (λ known. Decides known (KnowsAll (entries_in all.now) jobs.now receipts.now)) }
+    ensures { IfOk result (λ known. Decides known
+        (KnowsAll (entries_in all.now) jobs.now receipts.now)) }
 {
     let ids = by_id(alloc, jobs)?;
     let sorted = sort(alloc, receipts)?;
@@ -54,7 +55,8 @@ fn tell_all_logs<R: Threads + Sync>(
     requires index { IsIndexOf id_of jobs.now ids.now }
     requires sorted { IsSortedByKey receipt_key key_order (values_of sorted.now) }
     requires rise { AreByRoot (entries_in all.now) }
-    ensures { IfOk result (λ tell. Decides tell (TellLogs (entries_in all.now) jobs.now (values_of sorted.now))) }
+    ensures { IfOk result (λ tell. Decides tell
+        (TellLogs (entries_in all.now) jobs.now (values_of sorted.now))) }
 {
     let size = part_size(all.len());
     let said = thread::map_chunks(
@@ -67,7 +69,9 @@ fn tell_all_logs<R: Threads + Sync>(
             requires index { IsIndexOf id_of jobs.now ids.now }
             requires sorted { IsSortedByKey receipt_key key_order (values_of sorted.now) }
             requires rise { AreByRoot (entries_in part.now) }
-            ensures { IfOk result (λ tell. Decides tell (TellLogs (entries_in part.entry.now) jobs.entry.now (values_of sorted.entry.now))) }
+            ensures { IfOk result (λ tell. Decides tell
+                (TellLogs (entries_in part.entry.now) jobs.entry.now
+                (values_of sorted.entry.now))) }
         { tell_logs(alloc, part, jobs, ids, sorted) },
     )?;
     all_hold(&said)
@@ -85,7 +89,8 @@ fn tell_logs(
     requires index { IsIndexOf id_of jobs.now ids.now }
     requires sorted { IsSortedByKey receipt_key key_order (values_of sorted.now) }
     requires rise { AreByRoot (entries_in all.now) }
-    ensures { IfOk result (λ tell. Decides tell (TellLogs (entries_in all.now) jobs.now (values_of sorted.now))) }
+    ensures { IfOk result (λ tell. Decides tell
+        (TellLogs (entries_in all.now) jobs.now (values_of sorted.now))) }
 {
     let mut from = 0;
     for located in all {
@@ -110,7 +115,8 @@ fn tell_no_log(
     requires ids { IdsDiffer jobs.now }
     requires index { IsIndexOf id_of jobs.now ids.now }
     requires rise { AreByRoot (entries_in all.now) }
-    ensures { IfOk result (λ tell. Decides tell (TellNoLog (entries_in all.now) jobs.now receipts.now)) }
+    ensures { IfOk result (λ tell. Decides tell
+        (TellNoLog (entries_in all.now) jobs.now receipts.now)) }
 {
     for receipt in receipts {
         if has_family(all, receipt.root) {
@@ -132,7 +138,8 @@ fn tells_no_log(
 ) -> Result<bool, AllocError>
     requires ids { IdsDiffer jobs.now }
     requires index { IsIndexOf id_of jobs.now ids.now }
-    ensures { IfOk result (λ tells. Decides tells ((receipt.now.position ≡ 0) × IsAnswerOn jobs.now [] None receipt.now)) }
+    ensures { IfOk result (λ tells. Decides tells ((receipt.now.position ≡ 0)
+        × IsAnswerOn jobs.now [] None receipt.now)) }
 {
     if receipt.position != 0 {
         return Ok(false);
@@ -151,7 +158,8 @@ fn tells_log(
     requires ids { IdsDiffer jobs.now }
     requires index { IsIndexOf id_of jobs.now ids.now }
     requires order { AreInOrder (values_of receipts.now) }
-    ensures { IfOk result (λ tells. Decides tells (TellsLog jobs.now family.now (values_of receipts.now))) }
+    ensures { IfOk result (λ tells. Decides tells
+        (TellsLog jobs.now family.now (values_of receipts.now))) }
 {
     if receipts.is_empty() {
         return Ok(family.log().is_empty());
@@ -185,8 +193,10 @@ fn is_answered(
 ) -> Result<bool, AllocError>
     requires ids { IdsDiffer jobs.now }
     requires index { IsIndexOf id_of jobs.now ids.now }
-    ensures answered { IfOk result (λ answered. Decides answered (IsAnswerOn jobs.now rows.old (option_copied next.entry) receipt.now)) }
-    ensures rows { IfOk result (λ answered. answered ≡ true → rows.new ≡ rows_then rows.old (option_copied next.entry) receipt.now) }
+    ensures answered { IfOk result (λ answered. Decides answered
+        (IsAnswerOn jobs.now rows.old (option_copied next.entry) receipt.now)) }
+    ensures rows { IfOk result (λ answered. answered ≡ true
+        → rows.new ≡ rows_then rows.old (option_copied next.entry) receipt.now) }
 {
     let Some(txn) = job_of(jobs, ids, receipt) else {
         return Ok(false);
@@ -200,7 +210,8 @@ fn is_answered(
 
 // Whether the transaction comes next, if the receipt is of a commit.
 fn may_stand(next: Option<&Txn>, txn: &Txn, receipt: &Receipt) -> bool
-    ensures { Decides result (is_commit receipt.now.reply ≡ true → option_copied next.entry ≡ Some txn.now) }
+    ensures { Decides result (is_commit receipt.now.reply ≡ true
+        → option_copied next.entry ≡ Some txn.now) }
 {
     if commits(receipt) {
         is_next(next, txn)
@@ -231,7 +242,8 @@ fn commits(receipt: &Receipt) -> bool
 // Receipts by root key, then by position, and at one position those of aborts first.
 fn sort(alloc: Global, receipts: &[Receipt]) -> Result<Vec<&Receipt>, AllocError>
     ensures all { IfOk result (λ sorted. IsPermutation receipts.now (values_of sorted.items)) }
-    ensures sorted { IfOk result (λ sorted. IsSortedByKey receipt_key key_order (values_of sorted.items)) }
+    ensures sorted { IfOk result (λ sorted. IsSortedByKey receipt_key key_order
+        (values_of sorted.items)) }
 {
     let mut sorted = Vec::with_capacity(alloc, receipts.len())?;
     for receipt in receipts {
@@ -252,7 +264,8 @@ fn first_from(sorted: &[&Receipt], from: usize, root: u64) -> usize
     ensures within { result ≤ length sorted.now }
     ensures below { (k : ℕ) (receipt : ReceiptValue) → from ≤ k → k < result
         → slice_get (values_of sorted.now) k ≡ Some receipt → receipt.root < root }
-    ensures first { (receipt : ReceiptValue) → slice_get (values_of sorted.now) result ≡ Some receipt → root ≤ receipt.root }
+    ensures first { (receipt : ReceiptValue)
+        → slice_get (values_of sorted.now) result ≡ Some receipt → root ≤ receipt.root }
 {
     let mut at = from;
     while at < sorted.len() {

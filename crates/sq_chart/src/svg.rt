@@ -228,7 +228,8 @@ fn write_drawn<W: Write>(
     moments: &[Moment],
 ) -> io::Result<()>
     requires { at < 2000 }
-    ensures { OnOk result (Appends (W.contents writer.old) (W.contents writer.new) (drawn_text curve all at moments.now)) }
+    ensures { OnOk result (Appends (W.contents writer.old) (W.contents writer.new)
+        (drawn_text curve all at moments.now)) }
 {
     write_sample(writer, curve.class(), at)?;
     write_legend(writer, curve.name(), curve.count(all), at)?;
@@ -269,7 +270,8 @@ pub(crate) fn interval_len(micros: u64) -> u64
 
 // Writes ticks of an axis of this many microseconds, with so many between two of them.
 fn write_ticks<W: Write>(writer: &mut W, micros: u64, step: u64, ticks: &[u64]) -> io::Result<()>
-    ensures { OnOk result (Appends (W.contents writer.old) (W.contents writer.new) (flat_map (tick_text micros step) ticks.now)) }
+    ensures { OnOk result (Appends (W.contents writer.old) (W.contents writer.new)
+        (flat_map (tick_text micros step) ticks.now)) }
 {
     for tick in ticks {
         write_tick(writer, micros, step, *tick)?;
@@ -280,7 +282,8 @@ fn write_ticks<W: Write>(writer: &mut W, micros: u64, step: u64, ticks: &[u64]) 
 // Writes a tick of an axis of this many microseconds, if it lies within these.
 #[tactic(auto, unfolding(crate::specs::Ticks::tick_text))]
 fn write_tick<W: Write>(writer: &mut W, micros: u64, step: u64, tick: u64) -> io::Result<()>
-    ensures { OnOk result (Appends (W.contents writer.old) (W.contents writer.new) (tick_text micros step tick)) }
+    ensures { OnOk result (Appends (W.contents writer.old) (W.contents writer.new)
+        (tick_text micros step tick)) }
 {
     let at = u128::from(step) * u128::from(tick);
     if at <= u128::from(micros) {
@@ -302,7 +305,8 @@ fn write_rule<W: Write>(writer: &mut W, x: u64) -> io::Result<()>
 
 // Writes the tick at this moment of an axis of so many microseconds.
 fn write_mark<W: Write>(writer: &mut W, micros: u64, at: u64) -> io::Result<()>
-    ensures { OnOk result (Appends (W.contents writer.old) (W.contents writer.new) (tick_mark micros at)) }
+    ensures { OnOk result (Appends (W.contents writer.old) (W.contents writer.new)
+        (tick_mark micros at)) }
 {
     write_rule(writer, LEFT + share_of(at, micros, WIDTH))?;
     write_label(writer, at)?;
@@ -311,7 +315,8 @@ fn write_mark<W: Write>(writer: &mut W, micros: u64, at: u64) -> io::Result<()>
 
 /// Writes microseconds as milliseconds, with decimals only where they aren't zero.
 pub(crate) fn write_label<W: Write>(writer: &mut W, micros: u64) -> io::Result<()>
-    ensures { OnOk result (Appends (W.contents writer.old) (W.contents writer.new) (label_text micros)) }
+    ensures { OnOk result (Appends (W.contents writer.old) (W.contents writer.new)
+        (label_text micros)) }
 {
     let millis = micros / 1000;
     let rest = micros % 1000;
@@ -325,7 +330,8 @@ pub(crate) fn write_label<W: Write>(writer: &mut W, micros: u64) -> io::Result<(
 // Writes a piece of a curve of this class, this far from the left.
 fn write_sample<W: Write>(writer: &mut W, class: &str, at: u64) -> io::Result<()>
     requires { at < 2000 }
-    ensures { OnOk result (Appends (W.contents writer.old) (W.contents writer.new) (sample_text class.now at)) }
+    ensures { OnOk result (Appends (W.contents writer.old) (W.contents writer.new)
+        (sample_text class.now at)) }
 {
     let end = at + 64;
     write!(writer, "<path class=\"{class}\" d=\"M{at} 81H{end}\"/>")
@@ -334,7 +340,8 @@ fn write_sample<W: Write>(writer: &mut W, class: &str, at: u64) -> io::Result<()
 // Writes what a curve is of, this far from the left, and how much of that there is in all.
 fn write_legend<W: Write>(writer: &mut W, name: &str, count: u64, at: u64) -> io::Result<()>
     requires { at < 2000 }
-    ensures { OnOk result (Appends (W.contents writer.old) (W.contents writer.new) (legend_text name.now count at)) }
+    ensures { OnOk result (Appends (W.contents writer.old) (W.contents writer.new)
+        (legend_text name.now count at)) }
 {
     let text = at + 80;
     writeln!(
@@ -350,7 +357,8 @@ fn write_curve<W: Write>(
     all: Moment,
     moments: &[Moment],
 ) -> io::Result<()>
-    ensures { OnOk result (Appends (W.contents writer.old) (W.contents writer.new) (curve_text curve all moments.now)) }
+    ensures { OnOk result (Appends (W.contents writer.old) (W.contents writer.new)
+        (curve_text curve all moments.now)) }
 {
     write_start(writer, curve.class())?;
     for moment in moments {
@@ -361,14 +369,16 @@ fn write_curve<W: Write>(
 
 // Writes the start of a curve of this class, at nothing.
 fn write_start<W: Write>(writer: &mut W, class: &str) -> io::Result<()>
-    ensures { OnOk result (Appends (W.contents writer.old) (W.contents writer.new) (curve_start class.now)) }
+    ensures { OnOk result (Appends (W.contents writer.old) (W.contents writer.new)
+        (curve_start class.now)) }
 {
     write!(writer, "<path class=\"{class}\" d=\"M130 760")
 }
 
 // Writes a step of a curve.
 fn write_step<W: Write>(writer: &mut W, curve: Curve, all: Moment, moment: Moment) -> io::Result<()>
-    ensures { OnOk result (Appends (W.contents writer.old) (W.contents writer.new) (step_text curve all moment)) }
+    ensures { OnOk result (Appends (W.contents writer.old) (W.contents writer.new)
+        (step_text curve all moment)) }
 {
     let x = LEFT + share_of(moment.micros, all.micros, WIDTH);
     let y = BOTTOM - share_of(curve.count(moment), curve.count(all), HEIGHT);

@@ -18,8 +18,10 @@ pub fn cut_next<S: FamilyStore>(
     rest: Extent,
     limit: u64,
 ) -> Result<Chunk, AllocError>
-    ensures chunk { IfOk result (λ chunk. chunk ≡ next_chunk (S.contents store.old) base rest limit) }
-    ensures store { IfOk result (λ chunk. S.contents store.new ≡ without_between (S.contents store.old) rest.lo chunk.note.hi) }
+    ensures chunk { IfOk result (λ chunk. chunk
+        ≡ next_chunk (S.contents store.old) base rest limit) }
+    ensures store { IfOk result (λ chunk. S.contents store.new
+        ≡ without_between (S.contents store.old) rest.lo chunk.note.hi) }
     ensures err { OnErr result (S.contents store.new ≡ S.contents store.old) }
 
     ensures from { rest.lo ≤ rest.hi → IfOk result (λ chunk. rest.lo ≤ chunk.note.hi) }

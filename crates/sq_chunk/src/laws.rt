@@ -9,7 +9,8 @@ ghost use Rattle.sq_chunk.specs.NextChunk.{next_chunk};
 
 /// A chunk takes each family whose root key its note covers, and leaves each other one.
 pub fn takes_what_its_note_covers()
-    ensures taken { (store : StoreValue) (base : Note) (rest : Extent) (limit root : ℕ) → HoldsByRoot store
+    ensures taken { (store : StoreValue) (base : Note) (rest : Extent) (limit root : ℕ)
+        → HoldsByRoot store
         → let chunk = next_chunk store base rest limit in
         family_in chunk.families root ≡ (if covers chunk.note root then get store root else None) }
     ensures left { (store : StoreValue) (base : Note) (rest : Extent) (limit root : ℕ)

@@ -69,7 +69,8 @@ pub fn ranges<'a>(alloc: Global) -> Result<Command<'a>, AllocError>
 
 /// The listing that options ask for.
 pub fn ranges_line<'a>(options: &ArgMatches<'a>) -> Result<Line<'a>, Clash>
-    ensures line { Asks (IsWorkLine IsRangesTask) RangesClash (rows_of (found_of options.now)) result }
+    ensures line { Asks (IsWorkLine IsRangesTask) RangesClash
+        (rows_of (found_of options.now)) result }
     ensures within { IfOk result LineIsWithin }
 {
     let task = Task::Ranges {

@@ -131,7 +131,8 @@ fn form_after(
     word: &[u8],
 ) -> Result<&'static [Wanted], LineFlaw>
     ensures { (words : List Word) → MatchResult result
-        (λ others. misfit behind at form.now (word.now ∷ words) ≡ misfit behind (next at) others.now words)
+        (λ others. misfit behind at form.now (word.now ∷ words)
+        ≡ misfit behind (next at) others.now words)
         (λ flaw. misfit behind at form.now (word.now ∷ words) ≡ Some flaw) }
 {
     match form {
@@ -151,7 +152,8 @@ fn form_after(
 // The same behind a form.
 fn form_behind(behind: Behind, at: usize, word: &[u8]) -> Result<&'static [Wanted], LineFlaw>
     ensures { (words : List Word) → MatchResult result
-        (λ others. misfit behind at [] (word.now ∷ words) ≡ misfit behind (next at) others.now words)
+        (λ others. misfit behind at [] (word.now ∷ words)
+        ≡ misfit behind (next at) others.now words)
         (λ flaw. misfit behind at [] (word.now ∷ words) ≡ Some flaw) }
 {
     match behind {

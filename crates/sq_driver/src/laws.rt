@@ -15,35 +15,46 @@ use crate::teller::Teller;
 /// The nodes and the pumps that a run opens with can be driven, and what a node keeps holds of each node, as
 /// the first stage begins.
 pub fn opened_workers_can_be_driven()
-    ensures nodes { (o : OpeningValue) (count : ℕ) (fabric : FabricValue) (nodes : List NodeState) (pumps : List PumpValue)
+    ensures nodes { (o : OpeningValue) (count : ℕ) (fabric : FabricValue) (nodes : List NodeState)
+        (pumps : List PumpValue)
         → IsOpened o count fabric nodes pumps → All (IsNodeOf fabric) nodes }
-    ensures pumps { (o : OpeningValue) (count : ℕ) (fabric : FabricValue) (nodes : List NodeState) (pumps : List PumpValue)
+    ensures pumps { (o : OpeningValue) (count : ℕ) (fabric : FabricValue) (nodes : List NodeState)
+        (pumps : List PumpValue)
         → IsOpened o count fabric nodes pumps → All (HasAllSeats fabric) pumps }
-    ensures hold { (o : OpeningValue) (count : ℕ) (fabric : FabricValue) (nodes : List NodeState) (pumps : List PumpValue)
+    ensures hold { (o : OpeningValue) (count : ℕ) (fabric : FabricValue) (nodes : List NodeState)
+        (pumps : List PumpValue)
         → IsOpened o count fabric nodes pumps → All (HoldsUnder o (first_began o)) nodes }
 {}
 
 /// The nodes and the pumps that a stage of a run begins with can be driven.
 pub fn resumed_workers_can_be_driven()
-    ensures nodes { (o : OpeningValue) (stage : ℕ) (stores : List StoreValue) (receipts : List ReceiptValue) (count : ℕ)
+    ensures nodes { (o : OpeningValue) (stage : ℕ) (stores : List StoreValue)
+        (receipts : List ReceiptValue) (count : ℕ)
         (fabric : FabricValue) (nodes : List NodeState) (pumps : List PumpValue)
-        → IsReopened o stage stores receipts count fabric nodes pumps → All (IsNodeOf fabric) nodes }
-    ensures pumps { (o : OpeningValue) (stage : ℕ) (stores : List StoreValue) (receipts : List ReceiptValue) (count : ℕ)
+        → IsReopened o stage stores receipts count fabric nodes pumps
+        → All (IsNodeOf fabric) nodes }
+    ensures pumps { (o : OpeningValue) (stage : ℕ) (stores : List StoreValue)
+        (receipts : List ReceiptValue) (count : ℕ)
         (fabric : FabricValue) (nodes : List NodeState) (pumps : List PumpValue)
-        → IsReopened o stage stores receipts count fabric nodes pumps → All (HasAllSeats fabric) pumps }
+        → IsReopened o stage stores receipts count fabric nodes pumps
+        → All (HasAllSeats fabric) pumps }
 {}
 
 /// What a node keeps holds of all nodes of a run once they were driven, under each opening, and each beginning of a stage,
 /// under which it held of them before.
 pub fn driven_nodes_hold()
-    ensures { (fabric : FabricValue) (o : OpeningValue) (began : BeganWith) (old new : List NodeState)
-        → IsOpening o → AllDriven fabric old new → All (HoldsUnder o began) old → All (HoldsUnder o began) new }
+    ensures { (fabric : FabricValue) (o : OpeningValue) (began : BeganWith)
+        (old new : List NodeState)
+        → IsOpening o → AllDriven fabric old new → All (HoldsUnder o began) old
+        → All (HoldsUnder o began) new }
 {}
 
 /// Workers that were driven are those of their fabric still, and can be driven again.
 pub fn driven_workers_stay()
-    ensures nodes { (fabric : FabricValue) (old new : List NodeState) → AllDriven fabric old new → All (IsNodeOf fabric) new }
-    ensures pumps { (fabric : FabricValue) (old new : List PumpValue) → AllPumpsDriven fabric old new → All (HasAllSeats fabric) new }
+    ensures nodes { (fabric : FabricValue) (old new : List NodeState) → AllDriven fabric old new
+        → All (IsNodeOf fabric) new }
+    ensures pumps { (fabric : FabricValue) (old new : List PumpValue)
+        → AllPumpsDriven fabric old new → All (HasAllSeats fabric) new }
 {}
 
 /// Nodes that were driven with their tellers were driven, so what holds of such holds of them.

@@ -19,29 +19,34 @@ pub fn a_chunk_adds_what_its_note_covers()
     ensures keys { (runs : List Run) (note : Note) (key : ℕ)
         → is_loaded (runs_with runs note) key ≡ (is_loaded runs key || covers note key) }
     ensures whole { (runs : List Run) (note : Note) (node : ℕ)
-        → is_whole (runs_with runs note) node ≡ (is_whole runs node || ((note.node == node) && note.last)) }
+        → is_whole (runs_with runs note) node
+        ≡ (is_whole runs node || ((note.node == node) && note.last)) }
 {}
 
 /// A node that is begun gives up just its leaves.
 pub fn a_node_gives_up_its_leaves()
     ensures { (leaves : List Bool) (node leaf : ℕ) → leaf < LEAVES
-        → is_given_up (given_up_with leaves node) leaf ≡ (is_given_up leaves leaf || is_above node leaf) }
+        → is_given_up (given_up_with leaves node) leaf
+        ≡ (is_given_up leaves leaf || is_above node leaf) }
 {}
 
 /// A chunk meets what is loaded just where a key that its note covers is loaded.
 pub fn a_chunk_meets_the_keys_that_are_loaded()
     ensures meets { (runs : List Run) (note : Note) → is_met runs note ≡ true
         → (key : ℕ) × (covers note key ≡ true) × (is_loaded runs key ≡ true) }
-    ensures met { (runs : List Run) (note : Note) (key : ℕ) → covers note key ≡ true → is_loaded runs key ≡ true
+    ensures met { (runs : List Run) (note : Note) (key : ℕ) → covers note key ≡ true
+        → is_loaded runs key ≡ true
         → is_met runs note ≡ true }
 {}
 
 /// In the stage in which a root key moves, a partition runs transactions on it only as its source that hasn't given it up,
 /// or as its destination that has loaded it.
 pub fn runs_what_it_has_not_given_up_or_has_loaded()
-    ensures { (core : CoreValue) (root : ℕ) (at : Location) → location core root ≡ Some at → at.stage ≡ core.stage
+    ensures { (core : CoreValue) (root : ℕ) (at : Location) → location core root ≡ Some at
+        → at.stage ≡ core.stage
         → at.src ≢ at.dst → route core root ≡ core.part
-        → ((at.src ≡ core.part) × (at.given_up ≡ false)) ⊎ ((at.dst ≡ core.part) × (at.loaded ≡ true)) }
+        → ((at.src ≡ core.part) × (at.given_up ≡ false)) ⊎ ((at.dst ≡ core.part)
+        × (at.loaded ≡ true)) }
 {}
 
 /// A root key comes to a partition just where the move has started, and the key moves there in the running stage and isn't
@@ -50,13 +55,16 @@ pub fn comes_until_it_is_loaded()
     ensures comes { (core : CoreValue) (root : ℕ) → is_coming_here core root ≡ true
         → (at : Location) × (location core root ≡ Some at) × (core.started ≡ true)
         × (at.stage ≡ core.stage) × (at.dst ≡ core.part) × (at.loaded ≡ false) }
-    ensures coming { (core : CoreValue) (root : ℕ) (at : Location) → location core root ≡ Some at → core.started ≡ true
-        → at.stage ≡ core.stage → at.dst ≡ core.part → at.loaded ≡ false → is_coming_here core root ≡ true }
+    ensures coming { (core : CoreValue) (root : ℕ) (at : Location) → location core root ≡ Some at
+        → core.started ≡ true
+        → at.stage ≡ core.stage → at.dst ≡ core.part → at.loaded ≡ false
+        → is_coming_here core root ≡ true }
 {}
 
 /// The first waiting transaction that is ready is ready, and none before it is.
 pub fn none_before_the_first_is_ready()
-    ensures { (core : CoreValue) (place : ℕ) (txn : TxnValue) → position (is_ready_here core) core.waiting ≡ Some place
+    ensures { (core : CoreValue) (place : ℕ) (txn : TxnValue)
+        → position (is_ready_here core) core.waiting ≡ Some place
         → slice_get core.waiting place ≡ Some txn → (is_ready_here core txn ≡ true)
         × ((k : ℕ) (other : TxnValue) → k < place → slice_get core.waiting k ≡ Some other
         → is_ready_here core other ≡ false) }

@@ -99,9 +99,11 @@ impl OutLink {
         limit: u64,
     ) -> Result<Note, CutFault>
         ensures ok { IfOk result
-            (λ note. IsCut limit ends self.old.link (S.contents store.old) note self.new.link (S.contents store.new)) }
+            (λ note. IsCut limit ends self.old.link (S.contents store.old) note self.new.link
+            (S.contents store.new)) }
         ensures refusal { IfErr result (λ fault. fault ≡ cut_fault self.old.link) }
-        ensures err { OnErr result ((self.new.link ≡ self.old.link) × (S.contents store.new ≡ S.contents store.old)) }
+        ensures err { OnErr result ((self.new.link ≡ self.old.link)
+            × (S.contents store.new ≡ S.contents store.old)) }
         ensures room { self.old.has_room ≡ true → self.new.has_room ≡ true }
     {
         if self.outbox.is_some() {

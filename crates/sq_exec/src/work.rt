@@ -21,7 +21,8 @@ impl Model for Work {
 
     ghost Value = { WorkValue };
 
-    ghost view = { λ w. record { seg = w.seg; node = w.node; pull = w.pull; rest = w.rest.lo; hi = w.rest.hi } };
+    ghost view = { λ w.
+        record { seg = w.seg; node = w.node; pull = w.pull; rest = w.rest.lo; hi = w.rest.hi } };
 
     ghost invariant = { λ w. w.rest.lo ≤ w.rest.hi };
 
@@ -32,7 +33,8 @@ impl Work {
     /// All of a node, whose keys are these.
     pub(crate) fn new(seg: SegId, node: NodeId, pull: u32, keys: Extent) -> Work
         requires { keys.lo ≤ keys.hi }
-        ensures { result ≡ record { seg = seg; node = node; pull = pull; rest = keys.lo; hi = keys.hi } }
+        ensures { result ≡
+            record { seg = seg; node = node; pull = pull; rest = keys.lo; hi = keys.hi } }
     {
         Work {
             seg,
@@ -75,7 +77,13 @@ impl Work {
     // What is left from this key on.
     fn from(self, key: u64) -> Work
         requires { key ≤ self.hi }
-        ensures { result ≡ record { seg = self.seg; node = self.node; pull = self.pull; rest = key; hi = self.hi } }
+        ensures { result ≡ record {
+          seg = self.seg;
+          node = self.node;
+          pull = self.pull;
+          rest = key;
+          hi = self.hi;
+        } }
     {
         let rest = Extent {
             lo: key,

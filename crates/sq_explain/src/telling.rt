@@ -34,7 +34,8 @@ pub fn meaning(number: u16) -> &'static str
 /// Writes an entry. An error is the writer's.
 #[tactic(auto, unfolding(crate::specs::Meanings::entry_lines))]
 pub fn write_entry<W: Write>(writer: &mut W, entry: &Entry) -> io::Result<()>
-    ensures { OnOk result (Appends (W.contents writer.old) (W.contents writer.new) (entry_lines entry.now)) }
+    ensures { OnOk result (Appends (W.contents writer.old) (W.contents writer.new)
+        (entry_lines entry.now)) }
 {
     let Entry {
         number,
@@ -47,7 +48,8 @@ pub fn write_entry<W: Write>(writer: &mut W, entry: &Entry) -> io::Result<()>
 
 /// Writes entries, one behind the other. An error is the writer's.
 pub fn write_entries<W: Write>(writer: &mut W, entries: &[Entry]) -> io::Result<()>
-    ensures { OnOk result (Appends (W.contents writer.old) (W.contents writer.new) (flat_map entry_lines entries.now)) }
+    ensures { OnOk result (Appends (W.contents writer.old) (W.contents writer.new)
+        (flat_map entry_lines entries.now)) }
 {
     for entry in entries {
         write_entry(writer, entry)?;

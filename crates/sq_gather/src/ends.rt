@@ -12,7 +12,8 @@ pub(crate) fn put_sources(ends: &mut Vec<LinkEnds>, mut sends: Vec<Sender>, mut 
     requires outs { length outs.items ≡ length sends.items }
     requires among { AreAmong (length ends.old.items) sends.items }
     requires apart { AreApart sends.items }
-    ensures { HavePut with_out_link sends.items outs.items no_out_link 0 ends.old.items ends.new.items }
+    ensures { HavePut with_out_link sends.items outs.items no_out_link 0 ends.old.items
+        ends.new.items }
 {
     while let Some(sender) = sends.pop() {
         let Some(out) = outs.pop() else {

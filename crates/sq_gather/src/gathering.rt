@@ -101,7 +101,8 @@ impl Gathering {
 
     // Adds what the nodes left.
     pub(crate) fn add_nodes(&mut self, nodes: Vec<Node>)
-        requires ends { (part : ℕ) (node : NodeState) → slice_get nodes.items part ≡ Some node → IsAddable (length self.old.ends) node }
+        requires ends { (part : ℕ) (node : NodeState) → slice_get nodes.items part ≡ Some node
+            → IsAddable (length self.old.ends) node }
         requires room { HasRoomFor self.old nodes.items }
         ensures { AddsNodes self.old nodes.items self.new }
     {
@@ -154,7 +155,10 @@ impl Gathering {
     // Adds the seats of the pumps.
     pub(crate) fn add_pumps(&mut self, pumps: Vec<Pump>)
         requires { length self.old.owners + length pumps.items ≤ self.old.room.owners }
-        ensures { self.new ≡ record self.old { owners = self.old.owners ++ map (λ pump. pump.seats) pumps.items } }
+        ensures { self.new ≡ record self.old {
+          owners = self.old.owners ++ map
+              (λ pump. pump.seats) pumps.items;
+        } }
     {
         for pump in pumps {
             self.add_pump(pump);
@@ -200,7 +204,8 @@ impl Gathering {
 
 // How many receipts the nodes have together with so many of earlier stages.
 fn count_receipts(past: usize, nodes: &[Node]) -> Option<usize>
-    ensures { IfSome result (λ count. count ≡ past + sum_by (λ node. length node.receipts) nodes.now) }
+    ensures { IfSome result (λ count. count
+        ≡ past + sum_by (λ node. length node.receipts) nodes.now) }
 {
     let mut count = past;
     for node in nodes {

@@ -10,28 +10,36 @@ ghost use Rattle.sq_gather.specs.Reopened.{IsRunInStage, AllStay, AllPumpsStay};
 
 /// What a run opens with is a run in its first stage.
 pub fn a_run_begins()
-    ensures { (o : OpeningValue) (count : ℕ) (fabric : FabricValue) (nodes : List NodeState) (pumps : List PumpValue)
-        → IsOpening o → IsFabric fabric → IsOpened o count fabric nodes pumps → IsRunInStage o (first_began o) fabric nodes pumps }
+    ensures { (o : OpeningValue) (count : ℕ) (fabric : FabricValue) (nodes : List NodeState)
+        (pumps : List PumpValue)
+        → IsOpening o → IsFabric fabric → IsOpened o count fabric nodes pumps
+        → IsRunInStage o (first_began o) fabric nodes pumps }
 {}
 
 /// A run stays one where each of its nodes and of its pumps stays one of it, and what a node keeps holds still.
 pub fn a_run_goes_on()
-    ensures { (o : OpeningValue) (began : BeganWith) (fabric : FabricValue) (old new : List NodeState) (before after : List PumpValue)
-        → IsOpening o → IsRunInStage o began fabric old before → AllStay fabric old new → AllPumpsStay fabric before after
+    ensures { (o : OpeningValue) (began : BeganWith) (fabric : FabricValue)
+        (old new : List NodeState) (before after : List PumpValue)
+        → IsOpening o → IsRunInStage o began fabric old before → AllStay fabric old new
+        → AllPumpsStay fabric before after
         → IsRunInStage o began fabric new after }
 {}
 
 /// A run can be gathered: its nodes and pumps are all of it, and what is gathered is placed and continues what its
 /// stage began with.
 pub fn a_run_can_be_gathered()
-    ensures all { (o : OpeningValue) (began : BeganWith) (fabric : FabricValue) (nodes : List NodeState) (pumps : List PumpValue)
+    ensures all { (o : OpeningValue) (began : BeganWith) (fabric : FabricValue)
+        (nodes : List NodeState) (pumps : List PumpValue)
         → IsRunInStage o began fabric nodes pumps → AreAllOf fabric nodes pumps }
-    ensures placed { (o : OpeningValue) (began : BeganWith) (fabric : FabricValue) (nodes : List NodeState) (pumps : List PumpValue)
-        → IsRunInStage o began fabric nodes pumps → IsFabricOf o fabric × HasBegun began fabric × CanBegin o began × AllHold o began nodes }
+    ensures placed { (o : OpeningValue) (began : BeganWith) (fabric : FabricValue)
+        (nodes : List NodeState) (pumps : List PumpValue)
+        → IsRunInStage o began fabric nodes pumps → IsFabricOf o fabric × HasBegun began fabric
+        × CanBegin o began × AllHold o began nodes }
 {}
 
 /// A pump that turned is one of the run still, whose seats began and completed nothing.
 pub fn a_pump_stays_a_pump()
-    ensures { (fabric : FabricValue) (old new : PumpValue) → IsPumpOf fabric old → AreSeatsOf fabric.trees new.seats
+    ensures { (fabric : FabricValue) (old new : PumpValue) → IsPumpOf fabric old
+        → AreSeatsOf fabric.trees new.seats
         → OnlyClaimed old.seats new.seats → IsPumpOf fabric new }
 {}

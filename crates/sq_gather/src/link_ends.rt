@@ -55,7 +55,8 @@ impl LinkEnds {
 
     /// The source's end: its right to send, the notes of all chunks that it cut, and the one that it didn't send.
     pub fn put_source(&mut self, sender: SendPass, notes: Vec<Note>, outbox: Option<Chunk>)
-        ensures { self.new ≡ record self.old { sender = Some sender; notes = notes.items; outbox = outbox } }
+        ensures { self.new ≡
+            record self.old { sender = Some sender; notes = notes.items; outbox = outbox } }
     {
         self.sender = Some(sender);
         self.notes = notes;

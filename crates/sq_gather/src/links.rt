@@ -28,7 +28,8 @@ impl Model for ClosedLink {
 
     ghost Value = { GatheredLink };
 
-    ghost view = { λ l. record { src = l.src; dst = l.dst; notes = l.notes.items; under_way = l.under_way.items } };
+    ghost view = { λ l.
+        record { src = l.src; dst = l.dst; notes = l.notes.items; under_way = l.under_way.items } };
 }
 
 /// Closes the links, each with what its ends left of it. The result is in the room that was brought.

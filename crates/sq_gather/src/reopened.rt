@@ -31,7 +31,8 @@ pub fn reopen(
 ) -> Result<(Fabric, Vec<Node>, Vec<Pump>), Gathered>
     requires { pumps ≤ MAX_PUMPS }
     ensures reopened { IfOk result
-        (λ run. IsReopened opening.now (g.stage + 1) g.stores g.receipts pumps run.0 run.1.items run.2.items) }
+        (λ run. IsReopened opening.now (g.stage + 1) g.stores g.receipts pumps run.0 run.1.items
+        run.2.items) }
     ensures run { IfOk result (λ run. (table : TableValue)
         → IsNextStageOf (folded_opening opening.now table) g run.0 run.1.items run.2.items) }
     ensures all { IfOk result (λ run. AreAllOf run.0 run.1.items run.2.items) }
@@ -84,7 +85,8 @@ fn resume(
     pumps: u32,
 ) -> Result<(Fabric, Vec<Node>, Vec<Pump>), Gathered>
     requires { pumps ≤ MAX_PUMPS }
-    ensures run { IfOk result (λ run. IsReopened opening.now stage g.stores g.receipts pumps run.0 run.1.items run.2.items) }
+    ensures run { IfOk result (λ run.
+        IsReopened opening.now stage g.stores g.receipts pumps run.0 run.1.items run.2.items) }
     ensures holds { IfOk result (λ run. (table : TableValue)
         → AllHoldAsBegun (folded_opening opening.now table) run.0 g.stores run.1.items) }
     ensures all { IfOk result (λ run. AreAllOf run.0 run.1.items run.2.items) }

@@ -36,9 +36,11 @@ pub fn gather<R: Wait>(
 ) -> Result<Gathered, Ungathered>
     requires { AreAllOf fabric nodes.items pumps.items }
     ensures gathered { IfOk result (IsGathered fabric nodes.items pumps.items) }
-    ensures placed { IfOk result (λ g. (o : OpeningValue) (began : BeganWith) → IsOpening o → IsFabricOf o fabric
+    ensures placed { IfOk result (λ g. (o : OpeningValue) (began : BeganWith) → IsOpening o
+        → IsFabricOf o fabric
         → HasBegun began fabric → CanBegin o began → AllHold o began nodes.items → IsPlaced o g) }
-    ensures grows { IfOk result (λ g. (o : OpeningValue) (began : BeganWith) → IsOpening o → IsFabricOf o fabric
+    ensures grows { IfOk result (λ g. (o : OpeningValue) (began : BeganWith) → IsOpening o
+        → IsFabricOf o fabric
         → HasBegun began fabric → CanBegin o began → AllHold o began nodes.items → GoOn began g) }
     ensures fabric_returned { IfErr result (λ back. back.fabric ≡ fabric) }
     ensures nodes_returned { IfErr result (λ back. back.nodes ≡ nodes) }

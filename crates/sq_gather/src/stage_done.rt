@@ -42,7 +42,8 @@ impl Gathered {
 /// of its halves read so.
 pub fn reads_complete(statuses: &[Status; NODES], node: NodeId) -> bool
     requires { IsGrown (status_at statuses.now) }
-    ensures { (depth : ℕ) → 32 ≤ node * 2 ^ depth → result ≡ is_complete_reading (reading_within depth (status_at statuses.now) node) }
+    ensures { (depth : ℕ) → 32 ≤ node * 2 ^ depth
+        → result ≡ is_complete_reading (reading_within depth (status_at statuses.now) node) }
 {
     match statuses[node.index()] {
         Status::Complete(_) => true,

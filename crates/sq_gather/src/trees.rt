@@ -33,7 +33,8 @@ fn join_owners(trees: &[StatusTree], first: &mut Vec<TreeSeat>, owners: Vec<Vec<
     requires owners { AllAreSeatsOf trees.now (map (λ owner. owner.items) owners.items) }
     ensures first { AreSeatsOf trees.now first.new.items }
     ensures opened { AreFirst first.new.items }
-    ensures joined { AreJoined first.old.items (map (λ owner. owner.items) owners.items) first.new.items }
+    ensures joined { AreJoined first.old.items
+        (map (λ owner. owner.items) owners.items) first.new.items }
 {
     for seats in owners {
         join_seats(trees, first, seats);

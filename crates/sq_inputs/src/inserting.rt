@@ -38,7 +38,8 @@ impl<'a, M: Read, W: Read> Inserting<'a, M, W> {
     /// A reader with another one behind its first line. How many lines the other one has goes into a cell, once all of them
     /// were given.
     pub fn new(main: M, inserted: W, all_lines: &'a Cell<Option<usize>>) -> Inserting<'a, M, W>
-        ensures { inserting_remaining M.remaining W.remaining result ≡ inserted_text (M.remaining main) (W.remaining inserted) }
+        ensures { inserting_remaining M.remaining W.remaining result
+            ≡ inserted_text (M.remaining main) (W.remaining inserted) }
     {
         Inserting {
             main,

@@ -11,7 +11,8 @@ pub const PLAN_ROOM: u64 = 65_536;
 
 /// What a plan's file holds, up to [`PLAN_ROOM`] bytes. An error is a read that failed, or memory that ran out.
 pub fn plan_text<R: Read + Drop>(alloc: Global, file: R) -> io::Result<Vec<u8>>
-    ensures { IfOk result (λ text. IfSome (R.remaining file) (λ bytes. text.items ≡ take PLAN_ROOM bytes)) }
+    ensures { IfOk result (λ text. IfSome (R.remaining file) (λ bytes. text.items
+        ≡ take PLAN_ROOM bytes)) }
 {
     let mut text = Vec::new(alloc);
     let mut start = file.take(PLAN_ROOM);

@@ -10,7 +10,8 @@ ghost use Rattle.sq_leader.specs.Calls.{Call, EndsHeard};
 /// Just those partitions are marked that there are and that reported, in whichever order and however often.
 pub fn those_that_told_it_are_marked()
     ensures { (parts : ℕ) (told : List ℕ) (part : ℕ)
-        → is_marked (marks_after parts told) part ≡ (list_any (λ one. one == part) told && nat_lt part parts) }
+        → is_marked (marks_after parts told) part
+        ≡ (list_any (λ one. one == part) told && nat_lt part parts) }
 {}
 
 /// A move can start just where each of its partitions has said that it has prepared.
@@ -29,12 +30,14 @@ pub fn a_stage_is_over_once_each_segment_of_it_is_reported()
 
 /// Where each segment moves into one of the partitions, a stage can be left just where each partition counts as reported.
 pub fn a_partition_without_segments_counts_as_reported()
-    ensures { (at : StageValue) → list_all (λ segment. nat_lt segment.dst (length at.reported)) at.recon.segments ≡ true
+    ensures { (at : StageValue) → list_all
+        (λ segment. nat_lt segment.dst (length at.reported)) at.recon.segments ≡ true
         → have_reported at ≡ list_all (owes_no_report at) (range_with_len 0 (length at.reported)) }
 {}
 
 /// Whatever reports a leader hears and however often the next stage is asked for, the move can end only after a report
 /// was heard for every segment: one of the partition into which it moves, made in the segment's stage while that ran.
 pub fn an_ended_move_heard_each_segment_in_its_stage()
-    ensures { (parts : ℕ) (recon : ReconValue) (calls : List Call) → IsRecon recon → EndsHeard parts recon calls }
+    ensures { (parts : ℕ) (recon : ReconValue) (calls : List Call) → IsRecon recon
+        → EndsHeard parts recon calls }
 {}

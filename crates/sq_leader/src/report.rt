@@ -38,7 +38,8 @@ impl Report {
     ) -> Result<Report, ReportFault>
         ensures answer { result ≡ made_answer plan.now recon.now stage whole.now part }
         // There is a report only where each segment into the partition in the stage is whole.
-        ensures whole { OnOk result ((seg : ℕ) → IsTrue (moves_into recon.now stage part seg) → IsTrue (is_told_whole whole.now seg)) }
+        ensures whole { OnOk result ((seg : ℕ) → IsTrue (moves_into recon.now stage part seg)
+            → IsTrue (is_told_whole whole.now seg)) }
     {
         if part >= u64::from(plan.parts()) {
             return Err(ReportFault::NoSuchPartition);

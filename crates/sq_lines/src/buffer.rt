@@ -46,7 +46,8 @@ pub(crate) fn move_to_front(buffer: &mut Vec<u8>, from: usize, to: usize)
     requires order { from ≤ to }
     requires within { to ≤ vec_len buffer.old }
     ensures len { vec_len buffer.new ≡ vec_len buffer.old }
-    ensures moved { slice_range buffer.new.items 0 (to - from) ≡ slice_range buffer.old.items from to }
+    ensures moved { slice_range buffer.new.items 0 (to - from)
+        ≡ slice_range buffer.old.items from to }
 {
     if from > 0 {
         buffer.as_mut_slice().copy_within(from..to, 0);
@@ -57,7 +58,8 @@ pub(crate) fn move_to_front(buffer: &mut Vec<u8>, from: usize, to: usize)
 fn read_some<R: Read>(reader: &mut R, bytes: &mut [u8]) -> io::Result<usize>
     requires { 0 < length bytes.old }
     ensures within { IfOk result (λ n. n ≤ length bytes.new) }
-    ensures took { IfOk result (λ n. Consumes (R.remaining reader.old) (R.remaining reader.new) (take n bytes.new)) }
+    ensures took { IfOk result (λ n. Consumes (R.remaining reader.old) (R.remaining reader.new)
+        (take n bytes.new)) }
     ensures ended { IfOk result (λ n. n ≡ 0 → IsAtEnd (R.remaining reader.new)) }
     ensures failed { OnErr result (Keeps (R.remaining reader.old) (R.remaining reader.new)) }
 {
@@ -81,7 +83,8 @@ pub(crate) fn read_behind<R: Read>(
     ensures before { take end buffer.new.items ≡ take end buffer.old.items }
     ensures within { IfOk result (λ n. n ≤ BLOCK) }
     ensures took { IfOk result
-        (λ n. Consumes (R.remaining reader.old) (R.remaining reader.new) (slice_range buffer.new.items end (end + n))) }
+        (λ n. Consumes (R.remaining reader.old) (R.remaining reader.new)
+        (slice_range buffer.new.items end (end + n))) }
     ensures ended { IfOk result (λ n. n ≡ 0 → IsAtEnd (R.remaining reader.new)) }
     ensures failed { OnErr result (Keeps (R.remaining reader.old) (R.remaining reader.new)) }
 {

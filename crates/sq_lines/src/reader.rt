@@ -136,7 +136,8 @@ impl<R: Read> LineReader<R> {
         requires unended { list_all (λ byte. not (byte == 10)) front.now ≡ true }
         requires some { 0 < length front.now }
         requires short { length front.now ≤ MAX_UNENDED }
-        ensures begins { IfSome result (λ begins. (ps : List PieceValue) → CanCome self.now ps → next_begins front.now ps ≡ begins) }
+        ensures begins { IfSome result (λ begins. (ps : List PieceValue) → CanCome self.now ps
+            → next_begins front.now ps ≡ begins) }
         ensures undecided { IfNone result (IsUndecided (length front.now) self.now) }
     {
         if self.lines_left == 0 {
@@ -236,7 +237,8 @@ impl<R: Read> LineReader<R> {
         requires some { 0 < length front.now }
         requires short { length front.now ≤ MAX_UNENDED }
         ensures goes_on { ReadsOn self.old self.new }
-        ensures begins { (ps : List PieceValue) → CanCome self.new ps → next_begins front.now ps ≡ result }
+        ensures begins { (ps : List PieceValue) → CanCome self.new ps
+            → next_begins front.now ps ≡ result }
     {
         loop {
             match self.begins(front) {

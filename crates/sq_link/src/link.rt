@@ -47,9 +47,12 @@ impl SharedLink {
         capacity: u64,
     ) -> Result<(SharedLink, SendPass, RecvPass), AllocError>
         requires { 0 < capacity }
-        ensures link { IfOk result (λ opened. (opened.0.src ≡ src) × (opened.0.dst ≡ dst) × (opened.0.capacity ≡ capacity)) }
-        ensures sender { IfOk result (λ opened. opened.1 ≡ record { queue = opened.0.queue; chunks = [] }) }
-        ensures receiver { IfOk result (λ opened. opened.2 ≡ record { queue = opened.0.queue; chunks = [] }) }
+        ensures link { IfOk result (λ opened. (opened.0.src ≡ src) × (opened.0.dst ≡ dst)
+            × (opened.0.capacity ≡ capacity)) }
+        ensures sender { IfOk result (λ opened. opened.1
+            ≡ record { queue = opened.0.queue; chunks = [] }) }
+        ensures receiver { IfOk result (λ opened. opened.2
+            ≡ record { queue = opened.0.queue; chunks = [] }) }
     {
         let capacity = capacity as usize;
         let room = Vec::with_capacity(alloc, capacity)?;
@@ -80,7 +83,8 @@ impl SharedLink {
     /// Sends the chunk, or hands it back where the link was full at one moment of the call.
     pub fn send<R: Wait>(&self, rt: &R, pass: &mut SendPass, chunk: Chunk) -> Result<(), Chunk>
         requires { pass.old.queue ≡ self.now.queue }
-        ensures sent { OnOk result (pass.new ≡ record pass.old { chunks = pass.old.chunks ++ chunk ∷ [] }) }
+        ensures sent { OnOk result (pass.new
+            ≡ record pass.old { chunks = pass.old.chunks ++ chunk ∷ [] }) }
         ensures refused { IfErr result (λ back. (back ≡ chunk) × (pass.new ≡ pass.old)) }
         ensures full { OnErr result (Held self.now.capacity (IsEndOf pass.old.chunks)) }
     {
@@ -90,7 +94,8 @@ impl SharedLink {
     /// The chunk that was sent first of those not received; `None` where the link was empty at one moment of the call.
     pub fn recv<R: Wait>(&self, rt: &R, pass: &mut RecvPass) -> Option<Chunk>
         requires { pass.old.queue ≡ self.now.queue }
-        ensures received { IfSome result (λ chunk. pass.new ≡ record pass.old { chunks = pass.old.chunks ++ chunk ∷ [] }) }
+        ensures received { IfSome result (λ chunk. pass.new
+            ≡ record pass.old { chunks = pass.old.chunks ++ chunk ∷ [] }) }
         ensures none { IfNone result (pass.new ≡ pass.old) }
         ensures empty { IfNone result (Held 0 (ComesAfter pass.old.chunks)) }
     {

@@ -24,7 +24,12 @@ impl Model for Account {
 
     ghost Value = { AccountValue };
 
-    ghost view = { λ a. record { opening = a.opening; jobs = a.jobs.items; answered = a.answered; committed = a.committed } };
+    ghost view = { λ a. record {
+      opening = a.opening;
+      jobs = a.jobs.items;
+      answered = a.answered;
+      committed = a.committed;
+    } };
 
     ghost invariant = { λ a. IsAccount (record {
       opening = a.opening;

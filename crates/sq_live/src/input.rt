@@ -49,7 +49,8 @@ pub fn live<T: Threads + Wait + Sync, R: Read, W: Write, G: Watch>(
     watch: &G,
 ) -> Result<LiveEnding, WriteFault>
     requires { pumps ≤ MAX_PUMPS }
-    ensures { IfOk result (RunsLive folds MAX_TABLES (R.remaining reader.old) (W.contents writer.old) (W.contents writer.new)) }
+    ensures { IfOk result (RunsLive folds MAX_TABLES (R.remaining reader.old)
+        (W.contents writer.old) (W.contents writer.new)) }
 {
     let manner = RunManner {
         turns,
@@ -64,7 +65,8 @@ pub fn live<T: Threads + Wait + Sync, R: Read, W: Write, G: Watch>(
 
 // Writes the line of an ending.
 fn write_ending<W: Write>(writer: &mut W, ending: LiveEnding) -> Result<(), WriteFault>
-    ensures { OnOk result (Appends (W.contents writer.old) (W.contents writer.new) (ending_line ending)) }
+    ensures { OnOk result (Appends (W.contents writer.old) (W.contents writer.new)
+        (ending_line ending)) }
 {
     match ending {
         LiveEnding::Done(outcome) => Ok(write_outcome(writer, outcome)?),
@@ -80,7 +82,8 @@ fn end_input<T: Threads + Wait + Sync, R: Read, G: Watch>(
     manner: RunManner,
     watch: &G,
 ) -> LiveEnding
-    ensures { (given : List PieceValue) × IsGiven (R.remaining reader.old) given × EndsLive manner.folds MAX_TABLES given result }
+    ensures { (given : List PieceValue) × IsGiven (R.remaining reader.old) given
+        × EndsLive manner.folds MAX_TABLES given result }
 {
     match LineReader::new(alloc, reader) {
         Ok(mut lines) => end_lines(rt, alloc, &mut lines, manner, watch),
@@ -96,7 +99,8 @@ fn end_lines<T: Threads + Wait + Sync, R: Read, G: Watch>(
     manner: RunManner,
     watch: &G,
 ) -> LiveEnding
-    ensures { (given : List PieceValue) × CanCome lines.old given × EndsLive manner.folds MAX_TABLES given result }
+    ensures { (given : List PieceValue) × CanCome lines.old given
+        × EndsLive manner.folds MAX_TABLES given result }
 {
     match read_input(alloc, lines) {
         Ok((opening, jobs)) => match run_input(rt, alloc, opening, jobs, manner, watch) {

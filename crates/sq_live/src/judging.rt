@@ -37,7 +37,8 @@ pub(crate) fn judge_end<R: Threads + Sync>(
     requires moved { MarksMoved g.now.statuses moved.now }
     requires last { g.now.stage + 1 ≡ stages account.now.opening.recon }
     requires done { IsStageDone account.now.opening g.now }
-    requires ended { (at : StageValue) × HasEnded account.now.opening g.now.stage (is_whole_in g.now) at }
+    requires ended { (at : StageValue)
+        × HasEnded account.now.opening g.now.stage (is_whole_in g.now) at }
     ensures { IfOk result (λ outcome. (folds : Bool) → CameTo folds account.now g.now outcome) }
 {
     // For the proof alone: what the account has is an opening.
@@ -124,7 +125,8 @@ fn is_counted(recon: &Recon, stage: u64, moved: &[bool], seg: SegId) -> bool
 
 // How many families all stores have.
 fn count_families(stores: &[RunStore]) -> u64
-    ensures { sum_by (λ store. len store) stores.now < 2 ^ 64 → result ≡ sum_by (λ store. len store) stores.now }
+    ensures { sum_by (λ store. len store) stores.now < 2 ^ 64
+        → result ≡ sum_by (λ store. len store) stores.now }
 {
     let mut count: u64 = 0;
     for store in stores {

@@ -48,7 +48,8 @@ impl LiveOutcome {
 
 /// Writes the line of an outcome of a live run. An error is the writer's.
 pub fn write_outcome<W: Write>(writer: &mut W, outcome: LiveOutcome) -> io::Result<()>
-    ensures { OnOk result (Appends (W.contents writer.old) (W.contents writer.new) (outcome_line outcome)) }
+    ensures { OnOk result (Appends (W.contents writer.old) (W.contents writer.new)
+        (outcome_line outcome)) }
 {
     match outcome {
         LiveOutcome::Sound {

@@ -115,7 +115,8 @@ fn run_stage<R: Threads + Wait + Sync, G: Watch>(
     watch: &G,
 ) -> Result<ControlFlow<LiveOutcome, Ready>, AllocError>
     requires ready { (began : BeganWith) × IsReady began ready }
-    ensures { IfOk result (λ after. (began : BeganWith) → IsReady began ready → ComesAfterStage manner.folds ready.account began after) }
+    ensures { IfOk result (λ after. (began : BeganWith) → IsReady began ready
+        → ComesAfterStage manner.folds ready.account began after) }
 {
     let Ready {
         account,

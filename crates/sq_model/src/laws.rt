@@ -136,7 +136,8 @@ pub fn runs_waiters_where_they_wait()
 /// A family whose log was folded starts from its rows; one that has none goes.
 pub fn folds_logs()
     ensures answers { answers one_row [] folded_twice ≡ folded_twice_answers }
-    ensures family { family_of one_row (after one_row [] folded_twice) 5 ≡ record { root = 5; base = row (pos 11); log = [] } }
+    ensures family { family_of one_row (after one_row [] folded_twice) 5
+        ≡ record { root = 5; base = row (pos 11); log = [] } }
     ensures gone { stands one_row (after one_row [] folded_twice) 6 ≡ false }
 {}
 
@@ -148,7 +149,8 @@ pub fn folds_only_at_the_end()
 /// A log that is full takes no further transaction, whatever came before.
 pub fn refuses_at_a_full_log()
     ensures { (o : OpeningValue) (t : Trace) (part : ℕ) (txn : TxnValue) → part < o.old.parts
-        → has_to_wait o t part txn.root ≡ false → runner o t txn.root ≡ Some part → is_full o t txn.root ≡ true
+        → has_to_wait o t part txn.root ≡ false → runner o t txn.root ≡ Some part
+        → is_full o t txn.root ≡ true
         → answer o t (Step.Submit part txn) ≡ Answer.Refused Refusal.LogFull }
 {}
 
@@ -156,7 +158,8 @@ pub fn refuses_at_a_full_log()
 /// from were made by, and then its log; so its family's rows are those of the one table.
 pub fn folds_lose_nothing()
     ensures folded { (o : OpeningValue) (t : Trace) (root : ℕ) → IsFoldedRoot o t root }
-    ensures rows { (o : OpeningValue) (t : Trace) (root : ℕ) → rows_of (family_of o t root) ≡ now o t root }
+    ensures rows { (o : OpeningValue) (t : Trace) (root : ℕ)
+        → rows_of (family_of o t root) ≡ now o t root }
 {}
 
 /// Where as many wait as can, a further transaction isn't let in, whatever came before.
@@ -170,7 +173,8 @@ pub fn refuses_a_crowd()
 /// root key, and so it is in the list of those that were loaded.
 pub fn moves_each_key_once()
     ensures cut { (o : OpeningValue) (t : Trace) → IsOpening o → IsLegal o t → CoverOnce (notes t) }
-    ensures loaded { (o : OpeningValue) (t : Trace) → IsOpening o → IsLegal o t → CoverOnce (loads t) }
+    ensures loaded { (o : OpeningValue) (t : Trace) → IsOpening o → IsLegal o t
+        → CoverOnce (loads t) }
 {}
 
 /// Whatever the steps: each family of a range that moves is cut at most once and loaded at most once, in the order
@@ -181,7 +185,8 @@ pub fn moves_in_order()
 
 /// Once the move has ended, the family of each root key is where the new plan has it.
 pub fn ends_where_planned()
-    ensures { (o : OpeningValue) (t : Trace) (root : ℕ) → IsOpening o → IsLegal o t → phase t ≡ Phase.Ended
+    ensures { (o : OpeningValue) (t : Trace) (root : ℕ) → IsOpening o → IsLegal o t
+        → phase t ≡ Phase.Ended
         → place o t root ≡ At (destination o root) }
 {}
 

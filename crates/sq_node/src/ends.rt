@@ -78,9 +78,11 @@ impl PartEnd<Sends> {
         chunk: Chunk,
     ) -> Result<(), Chunk>
         requires { (end : EndValue) → self.old ≡ Some end → IsEnd links.now end }
-        ensures sent { OnOk result ((end : EndValue) × (self.old ≡ Some end) × (self.new ≡ Some (passed_on end chunk))) }
+        ensures sent { OnOk result ((end : EndValue) × (self.old ≡ Some end)
+            × (self.new ≡ Some (passed_on end chunk))) }
         ensures refused { IfErr result (λ back. (back ≡ chunk) × (self.new ≡ self.old)) }
-        ensures full { OnErr result ((end : EndValue) → self.old ≡ Some end → WasFull links.now end) }
+        ensures full { OnErr result ((end : EndValue) → self.old ≡ Some end
+            → WasFull links.now end) }
     {
         let Some(LinkEnd { link, mut pass }) = self.end.take() else {
             return Err(chunk);

@@ -20,5 +20,6 @@ impl Model for Receipt {
 
     ghost Value = { ReceiptValue };
 
-    ghost view = { λ r. record { id = r.id; root = r.root; position = r.position; reply = r.reply } };
+    ghost view = { λ r.
+        record { id = r.id; root = r.root; position = r.position; reply = r.reply } };
 }

@@ -17,9 +17,11 @@ ghost use Rattle.sq_node_model.specs.Placed.{IsPlaced, GoOn};
 /// the chunks under way are those of the last notes, each family stands once and where the notes place it, each opening
 /// root has one, with the base that it had, and the receipts name each log position once and say what was done there.
 pub fn what_is_gathered_is_placed()
-    ensures placed { (o : OpeningValue) (began : BeganWith) (nodes : List NodeValue) (g : GatheredValue)
+    ensures placed { (o : OpeningValue) (began : BeganWith) (nodes : List NodeValue)
+        (g : GatheredValue)
         → IsOpening o → CanBegin o began → Gathers o began nodes g → IsPlaced o g }
-    ensures grows { (o : OpeningValue) (began : BeganWith) (nodes : List NodeValue) (g : GatheredValue)
+    ensures grows { (o : OpeningValue) (began : BeganWith) (nodes : List NodeValue)
+        (g : GatheredValue)
         → IsOpening o → CanBegin o began → Gathers o began nodes g → GoOn began g }
 {}
 
@@ -28,7 +30,8 @@ pub fn what_is_gathered_is_placed()
 pub fn the_next_stage_begins()
     ensures can { (o : OpeningValue) (g : GatheredValue)
         → IsOpening o → IsPlaced o g → IsStageDone o g → CanBegin o (next_began o g) }
-    ensures holds { (o : OpeningValue) (g : GatheredValue) (q : ℕ) (store : StoreValue) (node : NodeAtWork)
+    ensures holds { (o : OpeningValue) (g : GatheredValue) (q : ℕ) (store : StoreValue)
+        (node : NodeAtWork)
         → IsOpening o → IsPlaced o g → IsStageDone o g → slice_get g.stores q ≡ Some store
         → IsFreshWith (staged_core o (g.stage + 1) q store) node
         → AllHolds o (next_began o g) node }
@@ -37,9 +40,11 @@ pub fn the_next_stage_begins()
 /// Where what was gathered of the last stage of a move is placed, and its segments are complete, a move that follows can begin
 /// with it: each partition opens with its store.
 pub fn the_next_move_begins()
-    ensures can { (o next : OpeningValue) (g : GatheredValue) → IsOpening o → IsPlaced o g → IsStageDone o g
+    ensures can { (o next : OpeningValue) (g : GatheredValue) → IsOpening o → IsPlaced o g
+        → IsStageDone o g
         → IsNextMove o g next → CanBegin next (onward_began o g) }
-    ensures opens { (o next : OpeningValue) (g : GatheredValue) (q : ℕ) (store : StoreValue) → IsOpening o → IsPlaced o g
+    ensures opens { (o next : OpeningValue) (g : GatheredValue) (q : ℕ) (store : StoreValue)
+        → IsOpening o → IsPlaced o g
         → IsStageDone o g → IsNextMove o g next → slice_get g.stores q ≡ Some store
         → OpensWith next (onward_began o g) q store }
 {}
@@ -47,16 +52,20 @@ pub fn the_next_move_begins()
 /// What was gathered of a stage whose segments are complete is placed again, with its segments complete, once the logs of
 /// its families are folded: with an opening whose table is their rows, and without receipts.
 pub fn what_is_folded_is_placed()
-    ensures placed { (o : OpeningValue) (g : GatheredValue) (table : TableValue) (stores : List StoreValue)
+    ensures placed { (o : OpeningValue) (g : GatheredValue) (table : TableValue)
+        (stores : List StoreValue)
         → IsOpening o → IsPlaced o g → IsStageDone o g → IsFolded o g table stores
         → IsPlaced (folded_opening o table) (folded_gathered g stores) }
-    ensures done { (o : OpeningValue) (g : GatheredValue) (table : TableValue) (stores : List StoreValue)
+    ensures done { (o : OpeningValue) (g : GatheredValue) (table : TableValue)
+        (stores : List StoreValue)
         → IsOpening o → IsPlaced o g → IsStageDone o g → IsFolded o g table stores
         → IsStageDone (folded_opening o table) (folded_gathered g stores) }
 {}
 
 /// Where what was gathered is placed and the segments of its stage are complete, no chunk is under way.
 pub fn nothing_is_under_way()
-    ensures { (o : OpeningValue) (g : GatheredValue) (i : ℕ) (link : GatheredLink) (chunk : ChunkValue)
-        → IsPlaced o g → IsStageDone o g → slice_get g.links i ≡ Some link → Contains link.under_way chunk → ⊥ }
+    ensures { (o : OpeningValue) (g : GatheredValue) (i : ℕ) (link : GatheredLink)
+        (chunk : ChunkValue)
+        → IsPlaced o g → IsStageDone o g → slice_get g.links i ≡ Some link
+        → Contains link.under_way chunk → ⊥ }
 {}

@@ -34,7 +34,8 @@ pub fn an_opening_can_begin()
 /// A partition that opens with the families that the root keys it owns were given, and whose thread did nothing yet, is
 /// a node that keeps all of it.
 pub fn a_new_node_holds()
-    ensures { (o : OpeningValue) (began : BeganWith) (part : ℕ) (store : StoreValue) (node : NodeAtWork)
+    ensures { (o : OpeningValue) (began : BeganWith) (part : ℕ) (store : StoreValue)
+        (node : NodeAtWork)
         → part < o.old.parts → CanBegin o began → OpensWith o began part store
         → IsFreshWith (staged_core o began.stage part store) node
         → AllHolds o began node }
@@ -53,9 +54,12 @@ pub fn a_begin_keeps_a_node()
     ensures step { (o : OpeningValue) (i : ℕ) (node : NodeAtWork) (word : WonWord) (segment : Range)
         → IsOpening o → IsCoreOf o i node.core → slice_get o.recon.segments word.seg ≡ Some segment
         → WinsAs Partial node word
-        → node_of (once_begun node word) ≡ node_begun (node_of node) segment.dst (work_won node word segment) }
-    ensures keeps { (o : OpeningValue) (began : BeganWith) (node : NodeAtWork) (word : WonWord) (segment : Range)
-        → IsOpening o → IsCoreOf o began.stage node.core → MovesOut o began.stage node.core.part word.seg segment
+        → node_of (once_begun node word)
+        ≡ node_begun (node_of node) segment.dst (work_won node word segment) }
+    ensures keeps { (o : OpeningValue) (began : BeganWith) (node : NodeAtWork) (word : WonWord)
+        (segment : Range)
+        → IsOpening o → IsCoreOf o began.stage node.core
+        → MovesOut o began.stage node.core.part word.seg segment
         → is_node word.node ≡ true → WinsAs Partial node word
         → AllHolds o began node → AllHolds o began (once_begun node word) }
 {}
@@ -65,7 +69,8 @@ pub fn a_cut_keeps_a_node()
     ensures step { (node : NodeAtWork) (new : CoreValue) (dst : ℕ) (note : Note)
         → (cuts : CutsFor node.core dst note new)
         → node_of (with_partition node new) ≡ node_cut (node_of node) dst cuts.out cuts.store }
-    ensures keeps { (o : OpeningValue) (began : BeganWith) (node : NodeAtWork) (new : CoreValue) (dst : ℕ) (note : Note)
+    ensures keeps { (o : OpeningValue) (began : BeganWith) (node : NodeAtWork) (new : CoreValue)
+        (dst : ℕ) (note : Note)
         → IsOpening o → CutsFor node.core dst note new
         → AllHolds o began node → AllHolds o began (with_partition node new) }
 {}
@@ -75,7 +80,8 @@ pub fn a_send_keeps_a_node()
     ensures step { (node : NodeAtWork) (dst : ℕ) (chunk : ChunkValue)
         → (out_at node.core dst).outbox ≡ Some chunk
         → node_of (once_sent node dst chunk) ≡ node_sent (node_of node) dst chunk }
-    ensures keeps { (o : OpeningValue) (began : BeganWith) (node : NodeAtWork) (dst : ℕ) (chunk : ChunkValue)
+    ensures keeps { (o : OpeningValue) (began : BeganWith) (node : NodeAtWork) (dst : ℕ)
+        (chunk : ChunkValue)
         → (out_at node.core dst).outbox ≡ Some chunk
         → AllHolds o began node → AllHolds o began (once_sent node dst chunk) }
 {}
@@ -85,17 +91,21 @@ pub fn a_receive_keeps_a_node()
     ensures step { (node : NodeAtWork) (src : ℕ) (chunk : ChunkValue)
         → src < length node.core.inboxes
         → node_of (once_received node src chunk) ≡ node_received (node_of node) src chunk }
-    ensures keeps { (o : OpeningValue) (began : BeganWith) (node : NodeAtWork) (src : ℕ) (chunk : ChunkValue)
+    ensures keeps { (o : OpeningValue) (began : BeganWith) (node : NodeAtWork) (src : ℕ)
+        (chunk : ChunkValue)
         → src < length node.core.inboxes → inbox_at node.core src ≡ None
         → AllHolds o began node → AllHolds o began (once_received node src chunk) }
 {}
 
 /// So it does where it loads a chunk that can be loaded.
 pub fn a_load_keeps_a_node()
-    ensures step { (o : OpeningValue) (i : ℕ) (node : NodeAtWork) (new : CoreValue) (src : ℕ) (note : Note)
-        → IsCoreOf o i node.core → (loads : LoadsFrom node.core src note new) → IsLoadable node.core src loads.chunk
+    ensures step { (o : OpeningValue) (i : ℕ) (node : NodeAtWork) (new : CoreValue) (src : ℕ)
+        (note : Note)
+        → IsCoreOf o i node.core → (loads : LoadsFrom node.core src note new)
+        → IsLoadable node.core src loads.chunk
         → node_of (with_partition node new) ≡ node_loaded (node_of node) src loads.chunk }
-    ensures keeps { (o : OpeningValue) (began : BeganWith) (node : NodeAtWork) (new : CoreValue) (src : ℕ) (note : Note)
+    ensures keeps { (o : OpeningValue) (began : BeganWith) (node : NodeAtWork) (new : CoreValue)
+        (src : ℕ) (note : Note)
         → IsOpening o → IsCoreOf o began.stage node.core
         → (loads : LoadsFrom node.core src note new) → IsLoadable node.core src loads.chunk
         → runs_in o began.stage src node.core.part ≡ true
@@ -106,7 +116,8 @@ pub fn a_load_keeps_a_node()
 pub fn a_complete_keeps_a_node()
     ensures step { (node : NodeAtWork) (word : WonWord)
         → WinsAs Complete node word
-        → node_of (once_completed node word) ≡ node_completed (node_of node) word.seg word.node word.pull }
+        → node_of (once_completed node word)
+        ≡ node_completed (node_of node) word.seg word.node word.pull }
     ensures keeps { (o : OpeningValue) (began : BeganWith) (node : NodeAtWork) (word : WonWord)
         → is_whole (loaded_at node.core word.seg) word.node ≡ true → WinsAs Complete node word
         → AllHolds o began node → AllHolds o began (once_completed node word) }
@@ -114,7 +125,8 @@ pub fn a_complete_keeps_a_node()
 
 /// So it does where it takes a transaction: one that runs has its receipt, and one that waits or is sent on has none.
 pub fn a_submit_keeps_a_node()
-    ensures step { (node : NodeAtWork) (new : CoreValue) (waits : Bool) (txn : TxnValue) (outcome : Outcome)
+    ensures step { (node : NodeAtWork) (new : CoreValue) (waits : Bool) (txn : TxnValue)
+        (outcome : Outcome)
         → IsTaken waits node.core txn outcome new
         → node_of (once_served node new txn outcome) ≡ node_served (node_of node) txn outcome }
     ensures keeps { (o : OpeningValue) (began : BeganWith) (node : NodeAtWork) (new : CoreValue)
@@ -127,10 +139,13 @@ pub fn a_submit_keeps_a_node()
 pub fn a_resume_keeps_a_node()
     ensures step { (node : NodeAtWork) (new : CoreValue) (resumed : Resumed)
         → IsResumed node.core resumed new
-        → node_of (once_served node new resumed.txn resumed.outcome) ≡ node_served (node_of node) resumed.txn resumed.outcome }
-    ensures keeps { (o : OpeningValue) (began : BeganWith) (node : NodeAtWork) (new : CoreValue) (resumed : Resumed)
+        → node_of (once_served node new resumed.txn resumed.outcome)
+        ≡ node_served (node_of node) resumed.txn resumed.outcome }
+    ensures keeps { (o : OpeningValue) (began : BeganWith) (node : NodeAtWork) (new : CoreValue)
+        (resumed : Resumed)
         → IsOpening o → IsCoreOf o began.stage node.core → IsResumed node.core resumed new
-        → AllHolds o began node → AllHolds o began (once_served node new resumed.txn resumed.outcome) }
+        → AllHolds o began node → AllHolds o began
+        (once_served node new resumed.txn resumed.outcome) }
 {}
 
 /// A chunk that came and belongs here can be loaded, unless it covers a root key that was loaded.
@@ -143,7 +158,8 @@ pub fn what_belongs_here_can_be_loaded()
 
 /// A tree that threads share is one that splits and claims lead to from a free one.
 pub fn seats_grow_a_tree()
-    ensures { (statuses : List Status) (views : List View) → IsTreeOf statuses views → IsGrown (status_at statuses) }
+    ensures { (statuses : List Status) (views : List View) → IsTreeOf statuses views
+        → IsGrown (status_at statuses) }
 {}
 
 /// What a seat began is begun, and no seat begins a tree node that it began before.
@@ -151,11 +167,13 @@ pub fn a_seat_begins_once()
     ensures begun { (statuses : List Status) (views : List View) (seat : ℕ) (v : View) (n pull : ℕ)
         → IsTreeOf statuses views → get_elem? views seat ≡ some v
         → Contains v.begun (n, pull) → is_begun (status_at statuses n) ≡ true }
-    ensures once { (v w : View) (n pull other : ℕ) → Won v n (Partial pull) w → Contains v.begun (n, other) → ⊥ }
+    ensures once { (v w : View) (n pull other : ℕ) → Won v n (Partial pull) w
+        → Contains v.begun (n, other) → ⊥ }
 {}
 
 /// No two begun nodes of a tree have a root key in common.
 pub fn begun_nodes_share_no_key()
     ensures { (o : OpeningValue) (status : ℕ → Status) (seg root n m : ℕ)
-        → IsOpening o → IsGrown status → IsBegunOver o status seg root n → IsBegunOver o status seg root m → n ≡ m }
+        → IsOpening o → IsGrown status → IsBegunOver o status seg root n
+        → IsBegunOver o status seg root m → n ≡ m }
 {}

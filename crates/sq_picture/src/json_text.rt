@@ -19,7 +19,8 @@ fn range_value(alloc: Global, range: Range) -> Result<Value, AllocError>
 
 // The ranges as JSON, one for one.
 fn ranges_value(alloc: Global, ranges: &[Range]) -> Result<Value, AllocError>
-    ensures { IfOk result (λ value. view value ≡ array (items_of (map moved_range_data ranges.now))) }
+    ensures { IfOk result (λ value. view value
+        ≡ array (items_of (map moved_range_data ranges.now))) }
 {
     let mut values = Vec::with_capacity(alloc, ranges.len())?;
     for range in ranges {
@@ -44,7 +45,8 @@ fn segment_value(alloc: Global, recon: &Recon, segment: Range) -> Result<Value, 
 
 // The segments as JSON, one for one.
 fn segments_value(alloc: Global, recon: &Recon) -> Result<Value, AllocError>
-    ensures { IfOk result (λ value. view value ≡ array (items_of (map (segment_data recon.now) recon.now.segments))) }
+    ensures { IfOk result (λ value. view value
+        ≡ array (items_of (map (segment_data recon.now) recon.now.segments))) }
 {
     let segments = recon.segments();
     let mut values = Vec::with_capacity(alloc, segments.len())?;
@@ -67,8 +69,10 @@ fn moves_value(alloc: Global, recon: &Recon) -> Result<Value, AllocError>
 /// What moves, in compact JSON: the ranges in key order, the segments in the order of their numbers, each with its stage, and
 /// how many stages there are. Reading the text gives this value again. The only fault is that memory ran out.
 pub fn moves_json(alloc: Global, recon: &Recon) -> Result<String, AllocError>
-    ensures compact { IfOk result (λ text. string_bytes text ≡ compact_text (moves_data recon.now)) }
-    ensures reads_back { IfOk result (λ text. read (string_bytes text) ≡ Some (moves_data recon.now)) }
+    ensures compact { IfOk result (λ text. string_bytes text
+        ≡ compact_text (moves_data recon.now)) }
+    ensures reads_back { IfOk result (λ text. read (string_bytes text)
+        ≡ Some (moves_data recon.now)) }
 {
     moves_value(alloc, recon)?.to_string(alloc)
 }

@@ -65,7 +65,8 @@ fn names_of(i: usize) -> &'static str
 
 // Writes where a column begins, from which on its places are counted.
 fn write_origin<W: Write>(writer: &mut W, i: usize) -> io::Result<()>
-    ensures { OnOk result (Appends (W.contents writer.old) (W.contents writer.new) (origin_text i)) }
+    ensures { OnOk result (Appends (W.contents writer.old) (W.contents writer.new)
+        (origin_text i)) }
 {
     let x = 96 + i % ACROSS * 160;
     let y = 40 + i as u128 / ACROSS as u128 * 196;
@@ -89,7 +90,8 @@ fn write_place<W: Write>(writer: &mut W, i: usize) -> io::Result<()>
 
 // Writes the root keys of a range, on their axis.
 fn write_keys<W: Write>(writer: &mut W, range: &Range) -> io::Result<()>
-    ensures { OnOk result (Appends (W.contents writer.old) (W.contents writer.new) (keys_text range.now)) }
+    ensures { OnOk result (Appends (W.contents writer.old) (W.contents writer.new)
+        (keys_text range.now)) }
 {
     let Range { lo, hi, .. } = *range;
     writeln!(
@@ -100,7 +102,8 @@ fn write_keys<W: Write>(writer: &mut W, range: &Range) -> io::Result<()>
 
 // Writes a box in the colour of a partition, at this height.
 fn write_box<W: Write>(writer: &mut W, part: PartId, top: u64) -> io::Result<()>
-    ensures { OnOk result (Appends (W.contents writer.old) (W.contents writer.new) (box_text part top)) }
+    ensures { OnOk result (Appends (W.contents writer.old) (W.contents writer.new)
+        (box_text part top)) }
 {
     let hue = hue_of(part);
     let light = light_of(part);
@@ -113,7 +116,8 @@ fn write_box<W: Write>(writer: &mut W, part: PartId, top: u64) -> io::Result<()>
 // Writes the number of a partition, in its box at this height.
 fn write_name<W: Write>(writer: &mut W, part: PartId, top: u64) -> io::Result<()>
     requires { top < 1000 }
-    ensures { OnOk result (Appends (W.contents writer.old) (W.contents writer.new) (name_text part top)) }
+    ensures { OnOk result (Appends (W.contents writer.old) (W.contents writer.new)
+        (name_text part top)) }
 {
     let number = u64::from(part.number());
     write_number(writer, "owner", 72, top + 20, "partition ", number)
@@ -122,7 +126,8 @@ fn write_name<W: Write>(writer: &mut W, part: PartId, top: u64) -> io::Result<()
 // Writes an owner: its box, with its number.
 fn write_owner<W: Write>(writer: &mut W, part: PartId, top: u64) -> io::Result<()>
     requires { top < 1000 }
-    ensures { OnOk result (Appends (W.contents writer.old) (W.contents writer.new) (owner_text part top)) }
+    ensures { OnOk result (Appends (W.contents writer.old) (W.contents writer.new)
+        (owner_text part top)) }
 {
     write_box(writer, part, top)?;
     write_name(writer, part, top)
@@ -130,7 +135,8 @@ fn write_owner<W: Write>(writer: &mut W, part: PartId, top: u64) -> io::Result<(
 
 // Writes the owners of a range, and an arrow from the old to the new one.
 fn write_owners<W: Write>(writer: &mut W, range: &Range) -> io::Result<()>
-    ensures { OnOk result (Appends (W.contents writer.old) (W.contents writer.new) (owners_text range.now)) }
+    ensures { OnOk result (Appends (W.contents writer.old) (W.contents writer.new)
+        (owners_text range.now)) }
 {
     write_owner(writer, range.src, 32)?;
     write_owner(writer, range.dst, 104)?;
@@ -146,7 +152,8 @@ fn begun_below(segments: &[Range], key: u64) -> usize
 
 // Writes a segment on the axis of segments.
 fn write_segment<W: Write>(writer: &mut W, seg: usize) -> io::Result<()>
-    ensures { OnOk result (Appends (W.contents writer.old) (W.contents writer.new) (segment_text seg)) }
+    ensures { OnOk result (Appends (W.contents writer.old) (W.contents writer.new)
+        (segment_text seg)) }
 {
     let class = if seg % 2 == 0 { "even" } else { "odd" };
     writeln!(
@@ -168,7 +175,8 @@ fn write_each<W: Write>(writer: &mut W, first: usize, end: usize) -> io::Result<
 
 // Writes the start of the axis of segments, of so many from the first number on.
 fn write_axis<W: Write>(writer: &mut W, first: usize, count: usize) -> io::Result<()>
-    ensures { OnOk result (Appends (W.contents writer.old) (W.contents writer.new) (axis_text first count)) }
+    ensures { OnOk result (Appends (W.contents writer.old) (W.contents writer.new)
+        (axis_text first count)) }
 {
     writeln!(
         writer,
@@ -178,7 +186,8 @@ fn write_axis<W: Write>(writer: &mut W, first: usize, count: usize) -> io::Resul
 
 // Writes the segments from the first number up to the other one, on their axis.
 fn write_segments<W: Write>(writer: &mut W, first: usize, end: usize) -> io::Result<()>
-    ensures { OnOk result (Appends (W.contents writer.old) (W.contents writer.new) (segments_text first end)) }
+    ensures { OnOk result (Appends (W.contents writer.old) (W.contents writer.new)
+        (segments_text first end)) }
 {
     write_axis(writer, first, end.saturating_sub(first))?;
     write_each(writer, first, end)?;
@@ -187,7 +196,8 @@ fn write_segments<W: Write>(writer: &mut W, first: usize, end: usize) -> io::Res
 
 // Writes the number of the last segment, where there is more than one.
 fn write_last<W: Write>(writer: &mut W, first: usize, end: usize) -> io::Result<()>
-    ensures { OnOk result (Appends (W.contents writer.old) (W.contents writer.new) (last_text first end)) }
+    ensures { OnOk result (Appends (W.contents writer.old) (W.contents writer.new)
+        (last_text first end)) }
 {
     if end > first && end - first > 1 {
         write_number(writer, "end", 144, 168, "", end as u64 - 1)
@@ -198,7 +208,8 @@ fn write_last<W: Write>(writer: &mut W, first: usize, end: usize) -> io::Result<
 
 // Writes the numbers of the segments, the first and the last one, and their stage.
 fn write_numbers<W: Write>(writer: &mut W, first: usize, end: usize, stage: u64) -> io::Result<()>
-    ensures { OnOk result (Appends (W.contents writer.old) (W.contents writer.new) (numbers_text first end stage)) }
+    ensures { OnOk result (Appends (W.contents writer.old) (W.contents writer.new)
+        (numbers_text first end stage)) }
 {
     write_number(writer, "start", 0, 168, "", first as u64)?;
     write_number(writer, "middle", 72, 168, "stage ", stage)?;
@@ -207,7 +218,8 @@ fn write_numbers<W: Write>(writer: &mut W, first: usize, end: usize, stage: u64)
 
 // Writes the segments of a range, which are numbered in key order.
 fn write_marks<W: Write>(writer: &mut W, recon: &Recon, range: &Range) -> io::Result<()>
-    ensures { OnOk result (Appends (W.contents writer.old) (W.contents writer.new) (marks_text recon.now range.now)) }
+    ensures { OnOk result (Appends (W.contents writer.old) (W.contents writer.new)
+        (marks_text recon.now range.now)) }
 {
     let first = begun_below(recon.segments(), range.lo);
     let end = begun_below(recon.segments(), range.hi);
@@ -223,7 +235,8 @@ pub fn write_open_column<W: Write>(
     range: &Range,
 ) -> io::Result<()>
     ensures { OnOk result
-        (Appends (W.contents writer.old) (W.contents writer.new) (open_column_text recon.now (i, range.now))) }
+        (Appends (W.contents writer.old) (W.contents writer.new)
+        (open_column_text recon.now (i, range.now))) }
 {
     write_place(writer, i)?;
     write_keys(writer, range)?;
@@ -240,7 +253,8 @@ pub fn write_column_end<W: Write>(writer: &mut W) -> io::Result<()>
 
 // Writes the column of a range.
 fn write_column<W: Write>(writer: &mut W, recon: &Recon, i: usize, range: &Range) -> io::Result<()>
-    ensures { OnOk result (Appends (W.contents writer.old) (W.contents writer.new) (column_text recon.now (i, range.now))) }
+    ensures { OnOk result (Appends (W.contents writer.old) (W.contents writer.new)
+        (column_text recon.now (i, range.now))) }
 {
     write_open_column(writer, recon, i, range)?;
     write_column_end(writer)
@@ -259,21 +273,24 @@ fn write_columns<W: Write>(writer: &mut W, recon: &Recon) -> io::Result<()>
 
 // Writes the start of a picture of so many columns.
 fn write_frame<W: Write>(writer: &mut W, count: usize) -> io::Result<()>
-    ensures { OnOk result (Appends (W.contents writer.old) (W.contents writer.new) (frame_text count)) }
+    ensures { OnOk result (Appends (W.contents writer.old) (W.contents writer.new)
+        (frame_text count)) }
 {
     write_start(writer, width_of(count), height_of(count), "What moves")
 }
 
 // Writes what is above so many columns.
 fn write_heading<W: Write>(writer: &mut W, count: usize) -> io::Result<()>
-    ensures { OnOk result (Appends (W.contents writer.old) (W.contents writer.new) (heading_text count)) }
+    ensures { OnOk result (Appends (W.contents writer.old) (W.contents writer.new)
+        (heading_text count)) }
 {
     write_words(writer, "start", 8, 24, heading_of(count))
 }
 
 /// Writes a picture of so many columns up to the first one. An error is the writer's.
 pub fn write_top<W: Write>(writer: &mut W, count: usize) -> io::Result<()>
-    ensures { OnOk result (Appends (W.contents writer.old) (W.contents writer.new) (top_text count)) }
+    ensures { OnOk result (Appends (W.contents writer.old) (W.contents writer.new)
+        (top_text count)) }
 {
     write_frame(writer, count)?;
     write_heading(writer, count)
@@ -283,7 +300,8 @@ pub fn write_top<W: Write>(writer: &mut W, count: usize) -> io::Result<()>
 /// keys, its old and its new owner in the partitions' colours, an arrow from the one to the other, and its segments with
 /// their numbers and their stage. Six columns stand side by side. An error is the writer's.
 pub fn write_moves_svg<W: Write>(writer: &mut W, recon: &Recon) -> io::Result<()>
-    ensures { OnOk result (Appends (W.contents writer.old) (W.contents writer.new) (moves_svg recon.now)) }
+    ensures { OnOk result (Appends (W.contents writer.old) (W.contents writer.new)
+        (moves_svg recon.now)) }
 {
     write_top(writer, recon.ranges().len())?;
     write_columns(writer, recon)?;

@@ -38,7 +38,8 @@ text { fill: currentColor }
 
 // Writes how large a picture is, and its title.
 fn write_size<W: Write>(writer: &mut W, width: usize, height: u128, title: &str) -> io::Result<()>
-    ensures { OnOk result (Appends (W.contents writer.old) (W.contents writer.new) (size_text width height title.now)) }
+    ensures { OnOk result (Appends (W.contents writer.old) (W.contents writer.new)
+        (size_text width height title.now)) }
 {
     write!(
         writer,
@@ -61,7 +62,8 @@ pub(crate) fn write_start<W: Write>(
     height: u128,
     title: &str,
 ) -> io::Result<()>
-    ensures { OnOk result (Appends (W.contents writer.old) (W.contents writer.new) (start_text width height title.now)) }
+    ensures { OnOk result (Appends (W.contents writer.old) (W.contents writer.new)
+        (start_text width height title.now)) }
 {
     write_size(writer, width, height, title)?;
     write_style(writer)
@@ -75,7 +77,8 @@ pub(crate) fn write_words<W: Write>(
     y: u64,
     words: &str,
 ) -> io::Result<()>
-    ensures { OnOk result (Appends (W.contents writer.old) (W.contents writer.new) (words_text class.now x y words.now)) }
+    ensures { OnOk result (Appends (W.contents writer.old) (W.contents writer.new)
+        (words_text class.now x y words.now)) }
 {
     writeln!(
         writer,
@@ -92,7 +95,8 @@ pub(crate) fn write_number<W: Write>(
     words: &str,
     number: u64,
 ) -> io::Result<()>
-    ensures { OnOk result (Appends (W.contents writer.old) (W.contents writer.new) (number_text class.now x y words.now number)) }
+    ensures { OnOk result (Appends (W.contents writer.old) (W.contents writer.new)
+        (number_text class.now x y words.now number)) }
 {
     writeln!(
         writer,

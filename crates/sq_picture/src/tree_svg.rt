@@ -80,7 +80,8 @@ fn write_placed<W: Write>(
     top: u64,
     height: u64,
 ) -> io::Result<()>
-    ensures { OnOk result (Appends (W.contents writer.old) (W.contents writer.new) (placed_text class.now left top height)) }
+    ensures { OnOk result (Appends (W.contents writer.old) (W.contents writer.new)
+        (placed_text class.now left top height)) }
 {
     writeln!(
         writer,
@@ -90,7 +91,8 @@ fn write_placed<W: Write>(
 
 // Writes the start of a node, with its box, which is as high as its leaves.
 fn write_box<W: Write>(writer: &mut W, class: &str, node: NodeId) -> io::Result<()>
-    ensures { OnOk result (Appends (W.contents writer.old) (W.contents writer.new) (box_text class.now node)) }
+    ensures { OnOk result (Appends (W.contents writer.old) (W.contents writer.new)
+        (box_text class.now node)) }
 {
     let height = height_of(node);
     write_placed(writer, class, left_of(node), top_of(node), height)
@@ -98,7 +100,8 @@ fn write_box<W: Write>(writer: &mut W, class: &str, node: NodeId) -> io::Result<
 
 // Writes a status that names a pull, up to this place.
 fn write_pull<W: Write>(writer: &mut W, x: u64, y: u64, status: &str, pull: u32) -> io::Result<()>
-    ensures { OnOk result (Appends (W.contents writer.old) (W.contents writer.new) (number_text (codes "end") x y status.now pull)) }
+    ensures { OnOk result (Appends (W.contents writer.old) (W.contents writer.new)
+        (number_text (codes "end") x y status.now pull)) }
 {
     writeln!(
         writer,
@@ -108,7 +111,8 @@ fn write_pull<W: Write>(writer: &mut W, x: u64, y: u64, status: &str, pull: u32)
 
 // Writes a status, with the pull that it names, up to this place.
 fn write_status<W: Write>(writer: &mut W, x: u64, y: u64, status: Status) -> io::Result<()>
-    ensures { OnOk result (Appends (W.contents writer.old) (W.contents writer.new) (status_label x y status)) }
+    ensures { OnOk result (Appends (W.contents writer.old) (W.contents writer.new)
+        (status_label x y status)) }
 {
     match status {
         Status::Free => write_words(writer, "end", x, y, "free"),
@@ -122,7 +126,8 @@ fn write_status<W: Write>(writer: &mut W, x: u64, y: u64, status: Status) -> io:
 // Writes a node's number and its status, in a box whose text begins here.
 fn write_at<W: Write>(writer: &mut W, x: u64, y: u64, number: u64, status: Status) -> io::Result<()>
     requires { x < 2000 }
-    ensures { OnOk result (Appends (W.contents writer.old) (W.contents writer.new) (words_at x y number status)) }
+    ensures { OnOk result (Appends (W.contents writer.old) (W.contents writer.new)
+        (words_at x y number status)) }
 {
     write_number(writer, "start", x, y, "", number)?;
     write_status(writer, x + 134, y, status)
@@ -130,7 +135,8 @@ fn write_at<W: Write>(writer: &mut W, x: u64, y: u64, number: u64, status: Statu
 
 // Writes what is in a node's box.
 fn write_said<W: Write>(writer: &mut W, node: NodeId, status: Status) -> io::Result<()>
-    ensures { OnOk result (Appends (W.contents writer.old) (W.contents writer.new) (said_text node status)) }
+    ensures { OnOk result (Appends (W.contents writer.old) (W.contents writer.new)
+        (said_text node status)) }
 {
     let left = left_of(node);
     let top = top_of(node);
@@ -139,7 +145,8 @@ fn write_said<W: Write>(writer: &mut W, node: NodeId, status: Status) -> io::Res
 
 // Writes a node.
 fn write_node<W: Write>(writer: &mut W, tree: &PlainTree, node: NodeId) -> io::Result<()>
-    ensures { OnOk result (Appends (W.contents writer.old) (W.contents writer.new) (node_text (status_at tree.now) node)) }
+    ensures { OnOk result (Appends (W.contents writer.old) (W.contents writer.new)
+        (node_text (status_at tree.now) node)) }
 {
     let status = tree.status(node);
     let class = class_of(is_live(tree, node), status);
@@ -164,7 +171,8 @@ fn write_nodes<W: Write>(writer: &mut W, tree: &PlainTree) -> io::Result<()>
 
 // Writes what is above the nodes.
 fn write_heading<W: Write>(writer: &mut W) -> io::Result<()>
-    ensures { OnOk result (Appends (W.contents writer.old) (W.contents writer.new) tree_heading_text) }
+    ensures { OnOk result (Appends (W.contents writer.old)
+        (W.contents writer.new) tree_heading_text) }
 {
     write_words(
         writer,
@@ -187,7 +195,8 @@ fn write_top<W: Write>(writer: &mut W) -> io::Result<()>
 /// the pull that the status names, in a column for each level, from the whole segment to its leaves. Nodes that aren't live
 /// are pale. An error is the writer's.
 pub fn write_tree_svg<W: Write>(writer: &mut W, tree: &PlainTree) -> io::Result<()>
-    ensures { OnOk result (Appends (W.contents writer.old) (W.contents writer.new) (tree_svg (status_at tree.now))) }
+    ensures { OnOk result (Appends (W.contents writer.old) (W.contents writer.new)
+        (tree_svg (status_at tree.now))) }
 {
     write_top(writer)?;
     write_nodes(writer, tree)?;

@@ -130,7 +130,8 @@ struct PlanFields<'a> {
 
 // What a plan says of stages, which it has to in the second version alone.
 fn stages_in(value: &Value, version: u64) -> Option<Option<&str>>
-    ensures { option_map (λ stages. option_map (λ text. text.now) stages) result ≡ stages_at version (view value.now) }
+    ensures { option_map (λ stages. option_map (λ text. text.now) stages) result
+        ≡ stages_at version (view value.now) }
 {
     if version == 1 {
         Some(None)

@@ -16,6 +16,8 @@ pub fn each_claim_has_a_pull_of_its_own()
 pub fn a_pull_is_odd_where_it_is_reactive()
     ensures odd { (part won : ℕ) → reactive_pull part won % 2 ≡ 1 }
     ensures even { (pump won : ℕ) → pump_pull pump won % 2 ≡ 0 }
-    ensures reactive_bits { (part won : ℕ) → part < MAX_OWNERS → won < MAX_CLAIMS → reactive_pull part won < 2 ^ 32 }
-    ensures pump_bits { (pump won : ℕ) → pump < MAX_OWNERS → won < MAX_CLAIMS → pump_pull pump won < 2 ^ 32 }
+    ensures reactive_bits { (part won : ℕ) → part < MAX_OWNERS → won < MAX_CLAIMS
+        → reactive_pull part won < 2 ^ 32 }
+    ensures pump_bits { (pump won : ℕ) → pump < MAX_OWNERS → won < MAX_CLAIMS
+        → pump_pull pump won < 2 ^ 32 }
 {}

@@ -43,7 +43,10 @@ impl Model for Puller {
 
     ghost Value = { RoomyPuller };
 
-    ghost view = { λ p. record { puller = record { part = p.part; wins = p.wins.wins }; has_room = p.wins.has_room } };
+    ghost view = { λ p. record {
+      puller = record { part = p.part; wins = p.wins.wins };
+      has_room = p.wins.has_room;
+    } };
 
     ghost invariant = { λ p. p.part < MAX_OWNERS };
 }
@@ -95,12 +98,15 @@ impl Puller {
         requires segment { seg < length shared.now.recon.now.segments }
         ensures seats { AreSeatsOf shared.now.trees.now seats.new.items }
         ensures pulled { IfOk result
-            (HasPulled shared.now.recon.now seg leaf self.old.puller seats.old.items self.new.puller seats.new.items) }
+            (HasPulled shared.now.recon.now seg leaf self.old.puller seats.old.items self.new.puller
+            seats.new.items) }
         ensures memory { OnErr result (self.old.has_room ≡ false) }
-        ensures err { OnErr result ((self.old.puller.wins.count < MAX_CLAIMS) × (self.new ≡ self.old)
+        ensures err { OnErr result ((self.old.puller.wins.count < MAX_CLAIMS)
+            × (self.new ≡ self.old)
             × (seats.new.items ≡ seats.old.items)) }
         ensures work { OnlyClaimed seats.old.items seats.new.items }
-        ensures claims { AreWonClaims seats.old.items self.old.puller.wins → AreWonClaims seats.new.items self.new.puller.wins }
+        ensures claims { AreWonClaims seats.old.items self.old.puller.wins
+            → AreWonClaims seats.new.items self.new.puller.wins }
     {
         if self.wins.is_spent() {
             return Ok(ReactivePull::Spent);

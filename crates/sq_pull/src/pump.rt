@@ -44,7 +44,12 @@ impl Model for Pump {
 
     ghost Value = { PumpValue };
 
-    ghost view = { λ p. record { number = p.number; wins = p.wins.wins; seats = p.seats.items; round = p.round.items } };
+    ghost view = { λ p. record {
+      number = p.number;
+      wins = p.wins.wins;
+      seats = p.seats.items;
+      round = p.round.items;
+    } };
 
     ghost invariant = { λ p. IsPump (record { number = p.number; wins = p.wins.wins; seats = p.seats.items; round = p.round.items }) };
 }

@@ -32,7 +32,8 @@ impl PendingRequest {
     /// The request of a pull for a node of a segment.
     pub(crate) fn new(recon: &Recon, seg: SegId, node: NodeId, pull: u32) -> PendingRequest
         requires { seg < length recon.now.segments }
-        ensures { (segment : Range) × (slice_get recon.now.segments seg ≡ Some segment) × (result ≡ request_for segment seg node pull) }
+        ensures { (segment : Range) × (slice_get recon.now.segments seg ≡ Some segment)
+            × (result ≡ request_for segment seg node pull) }
     {
         let segment = recon.segments()[seg.index()];
         PendingRequest {

@@ -16,7 +16,8 @@ use std::alloc::{AllocError, Global};
 /// Whether what moves between two plans has no more segments than the version of the new one allows.
 pub(crate) fn fits(old: &Plan, new: &Plan, width: u64) -> bool
     requires { is_width width ≡ true }
-    ensures { result ≡ nat_le (length (segments_of width (moves_of old.now new.now))) (segment_limit new.now.version) }
+    ensures { result ≡ nat_le (length (segments_of width (moves_of old.now new.now)))
+        (segment_limit new.now.version) }
 {
     let limit = segment_limit(new.version());
     let mut count = 0;
@@ -33,7 +34,8 @@ pub(crate) fn fits(old: &Plan, new: &Plan, width: u64) -> bool
 /// How many segments the moves between two plans come to; `None` where that is no number below 2^64.
 pub(crate) fn count(old: &Plan, new: &Plan, width: u64) -> Option<u64>
     requires { is_width width ≡ true }
-    ensures { IfSome result (λ count. count ≡ length (segments_of width (moves_of old.now new.now))) }
+    ensures { IfSome result (λ count. count
+        ≡ length (segments_of width (moves_of old.now new.now))) }
 {
     let mut count: u64 = 0;
     let mut sweep = Sweep::new(old, new);

@@ -31,7 +31,8 @@ pub(crate) fn moves_and_table(
     requires { tables ≤ MAX_TABLES }
     ensures fault { MatchResult result
         (λ _. opening_fault tables old.now new.now config rows.now ≡ None)
-        (MayRefuse (early_fault tables old.now new.now config rows.now) (opening_fault tables old.now new.now config rows.now)) }
+        (MayRefuse (early_fault tables old.now new.now config rows.now)
+        (opening_fault tables old.now new.now config rows.now)) }
     ensures recon { IfOk result (λ parts. (parts.0 ≡ recon_of old.now new.now config.width)
         × IsReconOf old.now new.now config.width parts.0) }
     ensures table { IfOk result (λ parts. IsTableOf rows.now parts.1) }
@@ -103,7 +104,8 @@ fn take(table: &mut Table, tables: u8, at: usize, given: &GivenRow) -> Result<()
     requires { tables ≤ MAX_TABLES }
     ensures fault { let fault = given_fault tables (rows_in table.old) at (value_of given.now) in
         MatchResult result (λ _. fault ≡ None) (MayRefuse fault fault) }
-    ensures ok { OnOk result ((root : ℕ) → rows_in table.new root ≡ with_one (rows_in table.old) (value_of given.now) root) }
+    ensures ok { OnOk result ((root : ℕ)
+        → rows_in table.new root ≡ with_one (rows_in table.old) (value_of given.now) root) }
 {
     let root = match given.root(tables) {
         Ok(root) => root,
@@ -132,7 +134,8 @@ pub(crate) fn take_over(
     requires { tables ≤ MAX_TABLES }
     ensures fault { let fault = given_fault tables (rows_in table.old) at (value_of given) in
         MatchResult result (λ _. fault ≡ None) (λ refused. MayRefuse fault fault refused.0) }
-    ensures ok { OnOk result ((root : ℕ) → rows_in table.new root ≡ with_one (rows_in table.old) (value_of given) root) }
+    ensures ok { OnOk result ((root : ℕ)
+        → rows_in table.new root ≡ with_one (rows_in table.old) (value_of given) root) }
     ensures err { OnErr result (table.new ≡ table.old) }
     ensures row_returned { IfErr result (λ refused. value_of refused.1 ≡ value_of given) }
 {

@@ -20,9 +20,11 @@ ghost use Rattle.sq_ranges.specs.Laws.{IsHoldingSegment, IsSegmentOf, Covers, Li
 
 /// The limits of plans, of what moves and of what waits, in digits.
 pub fn the_limits()
-    ensures parts { (parts_limit First ≡ 16) × ((stages : Stages) → parts_limit (Second stages) ≡ 64) × (MAX_PARTS ≡ 64) }
+    ensures parts { (parts_limit First ≡ 16)
+        × ((stages : Stages) → parts_limit (Second stages) ≡ 64) × (MAX_PARTS ≡ 64) }
     ensures ranges { MAX_RANGES ≡ 256 }
-    ensures segments { (segment_limit First ≡ 256) × ((stages : Stages) → segment_limit (Second stages) ≡ 1024)
+    ensures segments { (segment_limit First ≡ 256)
+        × ((stages : Stages) → segment_limit (Second stages) ≡ 1024)
         × (SEGMENT_LIMIT ≡ 1024) }
     ensures trees { (NODES ≡ 63) × (LEAVES ≡ 32) × (MAX_WIDTH ≡ 65536) }
     ensures chunks { (MIN_LIMIT ≡ 64) × (MAX_LIMIT ≡ 1048576) × (MAX_CAPACITY ≡ 64) }
@@ -32,12 +34,14 @@ pub fn the_limits()
 /// What moves between two plans is one list of ranges: the maximal runs of root keys with one pair of owners that
 /// differ.
 pub fn two_plans_have_one_list_of_moves()
-    ensures { (old new : PlanValue) → IsPlan old → IsPlan new → AreTheMoves old new (moves_of old new) }
+    ensures { (old new : PlanValue) → IsPlan old → IsPlan new
+        → AreTheMoves old new (moves_of old new) }
 {}
 
 /// A root key that moves is in just one segment, from its old owner to its new one; another keeps its owner.
 pub fn each_key_that_moves_has_one_segment()
-    ensures { (old new : PlanValue) (width : ℕ) (recon : ReconValue) (key : ℕ) → IsReconOf old new width recon
+    ensures { (old new : PlanValue) (width : ℕ) (recon : ReconValue) (key : ℕ)
+        → IsReconOf old new width recon
         → key < ROOT_END → IsSegmentOf old new recon.segments key (segment_of recon.segments key) }
 {}
 
@@ -47,7 +51,8 @@ pub fn a_node_covers_the_keys_of_its_leaves()
         → IsHoldingSegment recon.segments key i segment → leaf_of recon.width segment key < LEAVES }
     ensures covers { (recon : ReconValue) (i key n : ℕ) (segment : Range) → IsRecon recon
         → IsHoldingSegment recon.segments key i segment
-        → Covers (extent recon.width segment n) key ↔ (is_above n (leaf_of recon.width segment key) ≡ true) }
+        → Covers (extent recon.width segment n) key
+        ↔ (is_above n (leaf_of recon.width segment key) ≡ true) }
 {}
 
 /// The keys of a node lie in its segment, which node 1 covers whole. The two halves of a node make it up, and two
@@ -58,7 +63,8 @@ pub fn nodes_divide_their_segment()
         → LiesIn (extent recon.width segment n) (record { lo = segment.lo; hi = segment.hi })
         × (extent recon.width segment 1 ≡ record { lo = segment.lo; hi = segment.hi }) }
     ensures halves { (width n : ℕ) (segment : Range) → IsTrue (is_node n) → is_leaf n ≡ false
-        → AreHalves (extent width segment (2 * n)) (extent width segment (2 * n + 1)) (extent width segment n) }
+        → AreHalves (extent width segment (2 * n)) (extent width segment (2 * n + 1))
+        (extent width segment n) }
     ensures apart { (width n m key : ℕ) (segment : Range) → IsTrue (is_node n) → IsTrue (is_node m)
         → is_under n m ≡ false → is_under m n ≡ false
         → Covers (extent width segment n) key → Covers (extent width segment m) key → ⊥ }

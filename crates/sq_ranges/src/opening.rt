@@ -130,7 +130,8 @@ impl Opening {
     ) -> Result<Opening, RefusedOpening>
         ensures fault { MatchResult result
             (λ _. opening_fault schema old new config rows.items ≡ None)
-            (λ refused. MayRefuse (early_fault schema old new config rows.items) (opening_fault schema old new config rows.items)
+            (λ refused. MayRefuse (early_fault schema old new config rows.items)
+            (opening_fault schema old new config rows.items)
             refused.fault) }
         ensures ok { IfOk result (IsOpeningOf schema old new config rows.items) }
         ensures set_up { IfOk result IsSetUp }
@@ -194,10 +195,12 @@ impl Opening {
     /// changes, and the row comes back, with its first fault as [`Opening::new`] has them. Want of memory is answered
     /// in place of none of these.
     pub fn take_row(&mut self, at: usize, given: GivenRow) -> Result<(), (OpeningFault, GivenRow)>
-        ensures fault { let fault = given_fault self.old.tables (rows_in self.old.table) at (value_of given) in
+        ensures fault { let fault = given_fault self.old.tables (rows_in self.old.table) at
+            (value_of given) in
             MatchResult result (λ _. fault ≡ None) (λ refused. MayRefuse fault fault refused.0) }
         ensures ok { OnOk result ((root : ℕ)
-            → rows_in self.new.table root ≡ with_one (rows_in self.old.table) (value_of given) root) }
+            → rows_in self.new.table root ≡ with_one (rows_in self.old.table)
+            (value_of given) root) }
         ensures kept { self.new ≡ record self.old { table = self.new.table } }
         ensures err { OnErr result (self.new ≡ self.old) }
         ensures row_returned { IfErr result (λ refused. value_of refused.1 ≡ value_of given) }

@@ -67,7 +67,12 @@ impl Model for Recon {
 
     ghost Value = { ReconValue };
 
-    ghost view = { λ r. record { width = r.width; ranges = r.ranges.items; segments = r.segments.items; auto = r.auto } };
+    ghost view = { λ r. record {
+      width = r.width;
+      ranges = r.ranges.items;
+      segments = r.segments.items;
+      auto = r.auto;
+    } };
 
     ghost invariant = { λ r. record {
       recon : IsRecon (record { width = r.width; ranges = r.ranges.items; segments = r.segments.items; auto = r.auto });
@@ -106,7 +111,8 @@ impl Recon {
     /// How many segments the moves between two plans come to with leaves of this width, also where they are more than one move
     /// has. `None` where the width isn't from 1 to [`MAX_WIDTH`] root keys, and where there are 2^64 or more. It takes no memory.
     pub fn count_segments(old: &Plan, new: &Plan, width: u64) -> Option<u64>
-        ensures { IfSome result (λ count. count ≡ length (segments_of width (moves_of old.now new.now))) }
+        ensures { IfSome result (λ count. count
+            ≡ length (segments_of width (moves_of old.now new.now))) }
     {
         if !is_width(width) {
             return None;
@@ -118,7 +124,8 @@ impl Recon {
     /// [`Recon::fault`] finds a cause; memory is taken, and may run out, only where it finds none.
     pub fn between(alloc: Global, old: &Plan, new: &Plan, width: u64) -> Result<Recon, ReconFault>
         ensures answer { MatchResult result
-            (λ recon. (recon_fault old.now new.now width ≡ None) × (recon ≡ recon_of old.now new.now width))
+            (λ recon. (recon_fault old.now new.now width ≡ None)
+            × (recon ≡ recon_of old.now new.now width))
             (λ fault. fault ≡ unwrap_or (recon_fault old.now new.now width) ReconFault.Memory) }
         ensures ok { IfOk result (IsReconOf old.now new.now width) }
     {
@@ -281,7 +288,8 @@ fn is_width(width: u64) -> bool
 fn count_up_to(segments: &[Range], key: u64) -> usize
     requires { are_in_key_order 0 segments.now ≡ true }
     ensures bound { result ≤ length segments.now }
-    ensures point { IsPartitionPoint (λ segment. nat_le segment.hi key ≡ true) (λ segment. nat_le segment.hi key ≡ false)
+    ensures point { IsPartitionPoint (λ segment. nat_le segment.hi key
+        ≡ true) (λ segment. nat_le segment.hi key ≡ false)
         segments.now result }
 {
     segments.partition_point(

@@ -32,7 +32,8 @@ impl<'a> Sweep<'a> {
     /// The next run of keys that move, as far as it goes. The sweep continues behind it.
     pub(crate) fn next_run(&mut self) -> Option<Range>
         ensures next { (runs : List Range) → HasAhead self.old runs
-            → MatchOption result (runs ≡ []) (λ run. (rest : List Range) × (runs ≡ run ∷ rest) × HasAhead self.new rest) }
+            → MatchOption result (runs ≡ []) (λ run. (rest : List Range) × (runs ≡ run ∷ rest)
+            × HasAhead self.new rest) }
         ensures fewer { OnSome result (left self.new < left self.old) }
     {
         while let Some(piece) = self.piece() {
@@ -47,7 +48,8 @@ impl<'a> Sweep<'a> {
     // A run of keys that ends where the sweep stands, with the pieces behind it that have its owners. The sweep
     // then stands at its end.
     fn extended(&mut self, mut run: Range) -> Range
-        ensures whole { (old new : PlanValue) (from : ℕ) → Reaches old new from self.old run → EndsAt old new from self.new result }
+        ensures whole { (old new : PlanValue) (from : ℕ) → Reaches old new from self.old run
+            → EndsAt old new from self.new result }
         ensures fewer { left self.new ≤ left self.old }
     {
         while let Some(piece) = self.piece() {

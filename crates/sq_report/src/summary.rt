@@ -41,7 +41,8 @@ impl Summary {
     /// Adds the receipts of the nodes of a stage, which are in the order of their partitions: a node has those of its own
     /// stage alone. Where there is no memory, nothing is added.
     pub fn add_nodes(&mut self, nodes: &[Node]) -> Result<(), AllocError>
-        ensures ok { OnOk result (self.new ≡ record self.old { parts = counts_after self.old.parts nodes.now }) }
+        ensures ok { OnOk result (self.new
+            ≡ record self.old { parts = counts_after self.old.parts nodes.now }) }
         ensures err { OnErr result (self.new ≡ self.old) }
     {
         self.parts = count_parts(&self.parts, nodes)?;
@@ -50,7 +51,11 @@ impl Summary {
 
     /// Adds what moved along the links of a stage, by what was gathered of it. Where there is no memory, nothing is added.
     pub fn add_links(&mut self, g: &Gathered) -> Result<(), AllocError>
-        ensures ok { OnOk result (self.new ≡ record self.old { links = self.old.links ++ map (link_count g.now.stores) g.now.links }) }
+        ensures ok { OnOk result (self.new
+            ≡ record self.old {
+              links = self.old.links ++ map
+                  (link_count g.now.stores) g.now.links;
+            }) }
         ensures err { OnErr result (self.new ≡ self.old) }
     {
         let mut counts = count_links(&g.stores, &g.links)?;

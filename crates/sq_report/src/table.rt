@@ -12,7 +12,8 @@ use std::io::Write;
 /// Writes a summary as a table: a heading and a line for each link, and a heading and a line for each partition, with how many
 /// jobs have waited there. An error is the writer's.
 pub fn write_summary<W: Write>(writer: &mut W, summary: &Summary, waited: &[u64]) -> io::Result<()>
-    ensures { OnOk result (Appends (W.contents writer.old) (W.contents writer.new) (summary_text summary.now waited.now)) }
+    ensures { OnOk result (Appends (W.contents writer.old) (W.contents writer.new)
+        (summary_text summary.now waited.now)) }
 {
     writeln!(writer, "link        root keys    families      chunks")?;
     write_links(writer, summary.links())?;
@@ -22,7 +23,8 @@ pub fn write_summary<W: Write>(writer: &mut W, summary: &Summary, waited: &[u64]
 
 // Writes the lines of links.
 fn write_links<W: Write>(writer: &mut W, links: &[LinkCount]) -> io::Result<()>
-    ensures { OnOk result (Appends (W.contents writer.old) (W.contents writer.new) (flat_map link_line links.now)) }
+    ensures { OnOk result (Appends (W.contents writer.old) (W.contents writer.new)
+        (flat_map link_line links.now)) }
 {
     for link in links {
         write_link(writer, *link)?;
@@ -32,7 +34,8 @@ fn write_links<W: Write>(writer: &mut W, links: &[LinkCount]) -> io::Result<()>
 
 // Writes the line of a link.
 fn write_link<W: Write>(writer: &mut W, link: LinkCount) -> io::Result<()>
-    ensures { OnOk result (Appends (W.contents writer.old) (W.contents writer.new) (link_line link)) }
+    ensures { OnOk result (Appends (W.contents writer.old) (W.contents writer.new)
+        (link_line link)) }
 {
     let LinkCount {
         src,
@@ -66,7 +69,8 @@ fn write_part<W: Write>(
     waited: &[u64],
     number: usize,
 ) -> io::Result<()>
-    ensures { OnOk result (Appends (W.contents writer.old) (W.contents writer.new) (part_line parts.now waited.now number)) }
+    ensures { OnOk result (Appends (W.contents writer.old) (W.contents writer.new)
+        (part_line parts.now waited.now number)) }
 {
     let PartCount { committed, aborted } = parts.get(number).copied().unwrap_or(PartCount::NONE);
     let waits = waited.get(number).copied().unwrap_or(0);

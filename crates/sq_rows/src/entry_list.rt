@@ -112,7 +112,8 @@ impl EntryList {
     /// Makes these writes in their order, or none where there is no memory.
     pub(crate) fn write_all(&mut self, writes: ShortList<RowWrite>) -> Result<(), AllocError>
         requires { is_sorted key_cmp (entries_of self.old) ≡ true }
-        ensures ok { OnOk result (entries_of self.new ≡ with_writes (entries_of self.old) (short_items writes)) }
+        ensures ok { OnOk result (entries_of self.new
+            ≡ with_writes (entries_of self.old) (short_items writes)) }
         ensures err { OnErr result (entries_of self.new ≡ entries_of self.old) }
     {
         match writes {
@@ -139,7 +140,8 @@ impl EntryList {
     // Makes these writes in their order, or none where there is no memory.
     fn write_many(&mut self, mut writes: Vec<RowWrite>) -> Result<(), AllocError>
         requires { is_sorted key_cmp (entries_of self.old) ≡ true }
-        ensures ok { OnOk result (entries_of self.new ≡ with_writes (entries_of self.old) writes.items) }
+        ensures ok { OnOk result (entries_of self.new
+            ≡ with_writes (entries_of self.old) writes.items) }
         ensures err { OnErr result (entries_of self.new ≡ entries_of self.old) }
     {
         if self.one_moves_many(&writes) {
@@ -155,7 +157,8 @@ impl EntryList {
     fn write_listed(&mut self, writes: Vec<RowWrite>) -> Result<(), AllocError>
         requires rising { is_sorted key_cmp (entries_of self.old) ≡ true }
         requires listed { IsListed self.old }
-        ensures ok { OnOk result (entries_of self.new ≡ with_writes (entries_of self.old) writes.items) }
+        ensures ok { OnOk result (entries_of self.new
+            ≡ with_writes (entries_of self.old) writes.items) }
         ensures err { OnErr result (entries_of self.new ≡ entries_of self.old) }
     {
         self.reserve(writes.len())?;

@@ -132,7 +132,8 @@ impl PartialEq for Rows {
 
     ghost eq = { rows_eq };
 
-    ghost laws = { lists_per (and_per (on_per (λ entry. entry.0) key.laws-law) (on_per (λ entry. entry.1) row.laws-law)) };
+    ghost laws = { lists_per (and_per (on_per (λ entry. entry.0) key.laws-law)
+        (on_per (λ entry. entry.1) row.laws-law)) };
 
     fn eq(&self, other: &Rows) -> bool {
         are_equal(self.iter(), other.iter())
@@ -145,7 +146,8 @@ impl Eq for Rows {
     ghost use Rattle.sq_rows.specs.contracts.row.RowKeyEq.TheImpl.Laws as key;
     ghost use Rattle.sq_rows.specs.contracts.row.RowEq.TheImpl.Laws as row;
 
-    ghost laws = { lists_equiv (and_equiv (on_equiv (λ entry. entry.0) key.laws-law) (on_equiv (λ entry. entry.1) row.laws-law)) };
+    ghost laws = { lists_equiv (and_equiv (on_equiv (λ entry. entry.0) key.laws-law)
+        (on_equiv (λ entry. entry.1) row.laws-law)) };
 }
 
 impl Clone for Rows {

@@ -55,7 +55,8 @@ impl Family {
     /// Where there is no memory for it they come back.
     pub fn opened(alloc: Global, root: Root, rows: Rows) -> Result<Family, Rows>
         requires { IsTrue (is_rooted rows) }
-        ensures ok { IfOk result (λ family. family ≡ record { root = root; base = rows; log = [] }) }
+        ensures ok { IfOk result (λ family. family
+            ≡ record { root = root; base = rows; log = [] }) }
         ensures err { IfErr result (λ back. back ≡ rows) }
     {
         Ok(Family {

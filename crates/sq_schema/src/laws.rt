@@ -31,7 +31,8 @@ pub fn worked_replies()
     ensures small { reply ten (checks 11) ≡ Aborted 0 Small }
     ensures equal { reply ten (checks 10) ≡ Committed (Done ∷ []) }
     ensures absent { reply ten deletes_absent ≡ Aborted 0 Absent }
-    ensures commit { reply ten puts_and_adds ≡ Committed (Done ∷ Found (Some hi) ∷ Found None ∷ Number (pos 7) ∷ []) }
+    ensures commit { reply ten puts_and_adds
+        ≡ Committed (Done ∷ Found (Some hi) ∷ Found None ∷ Number (pos 7) ∷ []) }
     ensures rows { effect ten puts_and_adds ≡ (root_key, plain (pos 7)) ∷ (key 1 7, hi) ∷ [] }
     ensures kept { effect ten deletes_parent ≡ ten }
     ensures no_row { reply [] adds_one ≡ Aborted 0 Absent }

@@ -23,7 +23,10 @@ impl Model for LoggedRows {
 
     ghost Value = { LoggedValue };
 
-    ghost view = { λ r. record { base = option_map_or (λ base. base.value) r.base r.rows; rows = r.rows } };
+    ghost view = { λ r. record {
+      base = option_map_or (λ base. base.value) r.base r.rows;
+      rows = r.rows;
+    } };
 }
 
 impl LoggedRows {

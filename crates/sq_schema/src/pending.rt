@@ -144,7 +144,8 @@ impl<'a> PendingRows<'a> {
     fn run(&mut self, op: &Op) -> Result<OpAnswer, Stop>
         requires { op_fault MAX_TABLES op.now ≡ None }
         ensures base { self.new.base ≡ self.old.base }
-        ensures outcome { ComesTo (op_outcome (pending_rows self.old) op.now) (pending_rows self.new) result }
+        ensures outcome { ComesTo (op_outcome (pending_rows self.old) op.now)
+            (pending_rows self.new) result }
     {
         match op {
             Op::Get(key) => self.find(*key),
@@ -156,7 +157,8 @@ impl<'a> PendingRows<'a> {
     }
 
     fn find(&self, key: RowKey) -> Result<OpAnswer, Stop>
-        ensures { ComesTo (op_outcome (pending_rows self.now) (Op.Get key)) (pending_rows self.now) result }
+        ensures { ComesTo (op_outcome (pending_rows self.now) (Op.Get key))
+            (pending_rows self.now) result }
     {
         match self.get(key) {
             Some(row) => Ok(OpAnswer::Found(Some(row.clone()?))),
@@ -167,7 +169,8 @@ impl<'a> PendingRows<'a> {
     fn put(&mut self, key: RowKey, row: &Row) -> Result<OpAnswer, Stop>
         requires { length row.now.note ≤ MAX_NOTE }
         ensures base { self.new.base ≡ self.old.base }
-        ensures outcome { ComesTo (op_outcome (pending_rows self.old) (Op.Put key row.now)) (pending_rows self.new) result }
+        ensures outcome { ComesTo (op_outcome (pending_rows self.old) (Op.Put key row.now))
+            (pending_rows self.new) result }
     {
         if key.table != 0 && self.get(RowKey::ROOT).is_none() {
             return Err(Stop::Abort(Cause::NoRoot));
@@ -179,7 +182,8 @@ impl<'a> PendingRows<'a> {
 
     fn add(&mut self, key: RowKey, by: i64) -> Result<OpAnswer, Stop>
         ensures base { self.new.base ≡ self.old.base }
-        ensures outcome { ComesTo (op_outcome (pending_rows self.old) (Op.Add key by)) (pending_rows self.new) result }
+        ensures outcome { ComesTo (op_outcome (pending_rows self.old) (Op.Add key by))
+            (pending_rows self.new) result }
     {
         let row = self.get(key).ok_or(Cause::Absent)?;
         let old = weight(Some(row));
@@ -191,7 +195,8 @@ impl<'a> PendingRows<'a> {
 
     fn del(&mut self, key: RowKey) -> Result<OpAnswer, Stop>
         ensures base { self.new.base ≡ self.old.base }
-        ensures outcome { ComesTo (op_outcome (pending_rows self.old) (Op.Del key)) (pending_rows self.new) result }
+        ensures outcome { ComesTo (op_outcome (pending_rows self.old) (Op.Del key))
+            (pending_rows self.new) result }
     {
         let old = weight(Some(self.get(key).ok_or(Cause::Absent)?));
         if key == RowKey::ROOT && self.count != 1 {
@@ -202,7 +207,8 @@ impl<'a> PendingRows<'a> {
     }
 
     fn check(&self, key: RowKey, least: i64) -> Result<OpAnswer, Stop>
-        ensures { ComesTo (op_outcome (pending_rows self.now) (Op.Check key least)) (pending_rows self.now) result }
+        ensures { ComesTo (op_outcome (pending_rows self.now) (Op.Check key least))
+            (pending_rows self.now) result }
     {
         let row = self.get(key).ok_or(Cause::Absent)?;
         if row.number() < least {

@@ -85,7 +85,8 @@ impl Table {
         ensures fault { MatchResult result
             (λ _. row_given_fault (rows_in self.old root) key ≡ None)
             (λ refused. RefusesBy (row_given_fault (rows_in self.old root) key) refused.0) }
-        ensures ok { OnOk result ((k : ℕ) → rows_in self.new k ≡ with_given (rows_in self.old) root key row k) }
+        ensures ok { OnOk result ((k : ℕ)
+            → rows_in self.new k ≡ with_given (rows_in self.old) root key row k) }
         ensures err { OnErr result (self.new ≡ self.old) }
         ensures row_returned { IfErr result (λ refused. refused.1 ≡ row) }
     {
@@ -120,7 +121,8 @@ impl Table {
         requires row { row_fault MAX_TABLES key row ≡ None }
         requires given { row_given_fault [] key ≡ None }
         requires absent { find nat_cmp root self.old ≡ None }
-        ensures ok { OnOk result ((k : ℕ) → rows_in self.new k ≡ with_given (rows_in self.old) root key row k) }
+        ensures ok { OnOk result ((k : ℕ)
+            → rows_in self.new k ≡ with_given (rows_in self.old) root key row k) }
         ensures err { OnErr result (self.new ≡ self.old) }
         ensures row_returned { IfErr result (λ refused. refused.value ≡ row) }
     {
@@ -139,7 +141,8 @@ impl Table {
         requires row { row_fault MAX_TABLES key row ≡ None }
         requires given { row_given_fault (rows_in self.old root) key ≡ None }
         requires present { IsSome (find nat_cmp root self.old) }
-        ensures ok { OnOk result ((k : ℕ) → rows_in self.new k ≡ with_given (rows_in self.old) root key row k) }
+        ensures ok { OnOk result ((k : ℕ)
+            → rows_in self.new k ≡ with_given (rows_in self.old) root key row k) }
         ensures err { OnErr result (self.new ≡ self.old) }
         ensures row_returned { IfErr result (λ refused. refused.value ≡ row) }
     {
@@ -150,7 +153,8 @@ impl Table {
     /// row. Where there is no memory nothing changes, and the rows come back.
     pub fn set(&mut self, root: Root, rows: Rows) -> Result<(), AllocFailed<Rows>>
         requires { is_opening rows ≡ true }
-        ensures ok { OnOk result ((k : ℕ) → rows_in self.new k ≡ with_rows (rows_in self.old) root rows k) }
+        ensures ok { OnOk result ((k : ℕ)
+            → rows_in self.new k ≡ with_rows (rows_in self.old) root rows k) }
         ensures err { OnErr result (self.new ≡ self.old) }
         ensures rows_returned { IfErr result (λ refused. refused.value ≡ rows) }
     {
@@ -175,7 +179,8 @@ impl Table {
     /// Runs transactions one after another, each on the rows of its root key. Where there is no memory nothing
     /// changes; all rows are copied first.
     pub fn replay(&mut self, txns: &[Txn]) -> Result<(), AllocError>
-        ensures ok { OnOk result ((k : ℕ) → rows_in self.new k ≡ replay (rows_in self.old) txns.now k) }
+        ensures ok { OnOk result ((k : ℕ)
+            → rows_in self.new k ≡ replay (rows_in self.old) txns.now k) }
         ensures err { OnErr result (self.new ≡ self.old) }
     {
         let mut rows = self.rows.to_map()?;
@@ -190,7 +195,8 @@ impl Table {
 // Runs one transaction. Where there is no memory the rows of its root key are lost.
 fn run(alloc: Global, table: &mut BTreeMap<Root, Rows>, txn: &Txn) -> Result<(), AllocError>
     requires { IsTable table.old.entries }
-    ensures ok { OnOk result ((k : ℕ) → rows_in table.new.entries k ≡ table_after (rows_in table.old.entries) txn.now k) }
+    ensures ok { OnOk result ((k : ℕ)
+        → rows_in table.new.entries k ≡ table_after (rows_in table.old.entries) txn.now k) }
     ensures table { OnOk result (IsTable table.new.entries) }
 {
     let root = txn.root();

@@ -196,7 +196,8 @@ impl Txn {
         root: u64,
         ops: Vec<Op>,
     ) -> Result<Txn, (TxnFault, Vec<Op>)>
-        ensures fault { option_map (λ refused. refused.0) (result_err result) ≡ txn_fault schema.now root ops.items }
+        ensures fault { option_map (λ refused. refused.0) (result_err result)
+            ≡ txn_fault schema.now root ops.items }
         ensures ok { IfOk result (λ txn. txn ≡ record { id = id; root = root; ops = ops.items }) }
         ensures ops_returned { IfErr result (λ refused. refused.1.items ≡ ops.items) }
     {
@@ -213,7 +214,8 @@ impl Txn {
     /// The same of operations that may be kept without a list, if there is one. They are dropped where it is refused.
     pub fn of(schema: &Schema, id: u64, root: u64, ops: ShortList<Op>) -> Result<Txn, TxnFault>
         ensures fault { result_err result ≡ txn_fault schema.now root (short_items ops) }
-        ensures ok { IfOk result (λ txn. txn ≡ record { id = id; root = root; ops = short_items ops }) }
+        ensures ok { IfOk result (λ txn. txn
+            ≡ record { id = id; root = root; ops = short_items ops }) }
     {
         Ok(Txn {
             id,
@@ -285,7 +287,8 @@ impl PartialEq for Txn {
     ghost eq = { txn_eq };
 
     ghost laws = { and_per (on_per (λ t. t.id) (partial_equiv_from_equiv nat_eq_equiv))
-        (and_per (on_per (λ t. t.root) (partial_equiv_from_equiv nat_eq_equiv)) (on_per (λ t. t.ops) (lists_per op.laws-law))) };
+        (and_per (on_per (λ t. t.root) (partial_equiv_from_equiv nat_eq_equiv))
+        (on_per (λ t. t.ops) (lists_per op.laws-law))) };
 
     fn eq(&self, other: &Txn) -> bool {
         self.id == other.id && self.root == other.root && self.ops() == other.ops()
@@ -298,7 +301,8 @@ impl Eq for Txn {
     ghost use Rattle.sq_schema.specs.contracts.txn.OpEq.TheImpl.Laws as op;
 
     ghost laws = { and_equiv (on_equiv (λ t. t.id) nat_eq_equiv)
-        (and_equiv (on_equiv (λ t. t.root) nat_eq_equiv) (on_equiv (λ t. t.ops) (lists_equiv op.laws-law))) };
+        (and_equiv (on_equiv (λ t. t.root) nat_eq_equiv)
+        (on_equiv (λ t. t.ops) (lists_equiv op.laws-law))) };
 }
 
 impl Clone for Txn {

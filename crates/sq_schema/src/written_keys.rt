@@ -32,7 +32,8 @@ impl WrittenKeys {
     /// The key was written too.
     pub(crate) fn add(&mut self, key: RowKey)
         ensures added { has_its_mark self.new.marks key ≡ true }
-        ensures kept { (other : RowKey) → has_its_mark self.old.marks other ≡ true → has_its_mark self.new.marks other ≡ true }
+        ensures kept { (other : RowKey) → has_its_mark self.old.marks other ≡ true
+            → has_its_mark self.new.marks other ≡ true }
     {
         self.marks[place(key)] = true;
     }

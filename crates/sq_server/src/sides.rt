@@ -140,7 +140,8 @@ impl<J: Drop> SideQueues<J> {
 
     // The next partition that has a job, and whose queue wasn't full.
     fn next_ready(&self) -> Option<usize>
-        ensures { IfSome result (λ at. (at < length self.now) × (0 < length (waiting_at self.now at))) }
+        ensures { IfSome result (λ at. (at < length self.now)
+            × (0 < length (waiting_at self.now at))) }
     {
         if self.waiting == 0 {
             return None;

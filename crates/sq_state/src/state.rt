@@ -65,7 +65,8 @@ impl Model for State {
 impl State {
     // Refuses where the move isn't under way.
     fn check_moving(&self) -> Result<(), Refusal>
-        ensures { result ≡ refuse_if (not (is_moving_phase (phase_of self.now.leader))) Refusal.NotMoving }
+        ensures { result ≡ refuse_if (not
+            (is_moving_phase (phase_of self.now.leader))) Refusal.NotMoving }
     {
         match &self.leader {
             Leader::Moving(_) => Ok(()),
@@ -86,7 +87,8 @@ impl State {
 
     // The segment of this number; a refusal where the running stage has none.
     fn segment(&self, number: u64) -> Result<SegId, Refusal>
-        ensures named { result ≡ unless (is_none (running_range self.now number)) Refusal.NoSuchSegment number }
+        ensures named { result ≡ unless
+            (is_none (running_range self.now number)) Refusal.NoSuchSegment number }
         ensures exists { IfOk result (λ seg. seg < length self.now.recon.segments) }
     {
         let count = self.recon.segments().len() as u64;

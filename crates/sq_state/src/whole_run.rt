@@ -20,8 +20,10 @@ pub fn run_world(
     steps: &[Step],
 ) -> Result<(World, Vec<Answer>), Opening>
     ensures each { IfOk result (λ ran. length ran.1.items ≡ length steps.now) }
-    ensures ran { IfOk result (λ ran. KeepsHeadline opening (history_of steps.now ran.1.items) ran.0) }
-    ensures finished { IfOk result (λ ran. phase_of ran.0.leader ≡ Phase.Ended → IsAsPlanned opening (history_of steps.now ran.1.items)) }
+    ensures ran { IfOk result (λ ran. KeepsHeadline opening
+        (history_of steps.now ran.1.items) ran.0) }
+    ensures finished { IfOk result (λ ran. phase_of ran.0.leader ≡ Phase.Ended
+        → IsAsPlanned opening (history_of steps.now ran.1.items)) }
     ensures back { IfErr result (λ back. back ≡ opening) }
 {
     let Ok(mut answers) = Vec::with_capacity(alloc, steps.len()) else {

@@ -61,8 +61,10 @@ impl World {
         config: Config,
         rows: Vec<GivenRow>,
     ) -> Result<World, NotOpened>
-        ensures faultless { IfOk result (λ _. opening_fault schema old new config rows.items ≡ None) }
-        ensures opened { IfOk result (λ world. (o : OpeningValue) × IsOpeningOf schema old new config rows.items o
+        ensures faultless { IfOk result (λ _. opening_fault schema old new config rows.items
+            ≡ None) }
+        ensures opened { IfOk result (λ world. (o : OpeningValue)
+            × IsOpeningOf schema old new config rows.items o
             × IsOpening o × Holds o [] world) }
         ensures refused { IfErr result (IsNotOpened schema old new config rows.items) }
     {
@@ -89,10 +91,13 @@ impl World {
     /// ends the move, each root key is at its owner by the new plan.
     pub fn step(&mut self, step: &Step) -> Answer
         ensures step_result { IsTransition self.old step.now result self.new }
-        ensures headline { (o : OpeningValue) (t : Trace) → IsOpening o → IsLegal o t → Holds o t self.old
+        ensures headline { (o : OpeningValue) (t : Trace) → IsOpening o → IsLegal o t
+            → Holds o t self.old
             → KeepsHeadline o ((step.now, result) ∷ t) self.new }
-        ensures finished { (o : OpeningValue) (t : Trace) → IsOpening o → IsLegal o t → Holds o t self.old
-            → step.now ≡ Step.Finish → result ≡ Answer.Done → IsAsPlanned o ((step.now, result) ∷ t) }
+        ensures finished { (o : OpeningValue) (t : Trace) → IsOpening o → IsLegal o t
+            → Holds o t self.old
+            → step.now ≡ Step.Finish → result ≡ Answer.Done
+            → IsAsPlanned o ((step.now, result) ∷ t) }
     {
         self.state.step(step)
     }
@@ -111,7 +116,8 @@ impl World {
     /// How far the leader is, as its history says.
     pub fn phase(&self) -> Phase
         ensures phase { result ≡ phase_of self.now.leader }
-        ensures by_history { (o : OpeningValue) (t : Trace) → Holds o t self.now → result ≡ phase_after t }
+        ensures by_history { (o : OpeningValue) (t : Trace) → Holds o t self.now
+            → result ≡ phase_after t }
     {
         self.state.phase()
     }
@@ -119,7 +125,8 @@ impl World {
     /// The stage that runs, as its history says: 0 before the start, and the last once the move has ended.
     pub fn stage(&self) -> u64
         ensures stage { result ≡ running_stage self.now }
-        ensures by_history { (o : OpeningValue) (t : Trace) → Holds o t self.now → result ≡ stage_after t }
+        ensures by_history { (o : OpeningValue) (t : Trace) → Holds o t self.now
+            → result ≡ stage_after t }
     {
         self.state.stage()
     }
@@ -128,7 +135,8 @@ impl World {
     /// partition.
     pub fn store(&self, part: u64) -> Option<&RunStore>
         ensures store { option_copied result ≡ store_at self.now part }
-        ensures by_history { (o : OpeningValue) (t : Trace) → Holds o t self.now → IsStoreAfter o t part (option_copied result) }
+        ensures by_history { (o : OpeningValue) (t : Trace) → Holds o t self.now
+            → IsStoreAfter o t part (option_copied result) }
     {
         self.state.store(part)
     }
@@ -137,7 +145,8 @@ impl World {
     /// oldest first, as the history says, with exactly the families that its note covers; `None` where there is none.
     pub fn under_way(&self, src: u64, dst: u64, i: u64) -> Option<&Chunk>
         ensures chunk { option_copied result ≡ chunk_at self.now src dst i }
-        ensures by_history { (o : OpeningValue) (t : Trace) → IsOpening o → IsLegal o t → Holds o t self.now
+        ensures by_history { (o : OpeningValue) (t : Trace) → IsOpening o → IsLegal o t
+            → Holds o t self.now
             → IsChunkAfter o t src dst i (option_copied result) }
     {
         self.state.under_way(src, dst, i)
@@ -146,14 +155,16 @@ impl World {
     /// The status of a node, as the history says; `None` where there is no such segment or node.
     pub fn status(&self, seg: u64, node: u64) -> Option<Status>
         ensures status { result ≡ status_there self.now seg node }
-        ensures by_history { (o : OpeningValue) (t : Trace) → Holds o t self.now → result ≡ status_after o t seg node }
+        ensures by_history { (o : OpeningValue) (t : Trace) → Holds o t self.now
+            → result ≡ status_after o t seg node }
     {
         self.state.status(seg, node)
     }
 
     /// Writes the phase, each partition with its families, and each link with what is under way on it.
     pub fn write_dump<W: Write>(&self, writer: &mut W) -> Result<(), WriteFault>
-        ensures { OnOk result (Appends (W.contents writer.old) (W.contents writer.new) (dump self.now)) }
+        ensures { OnOk result (Appends (W.contents writer.old) (W.contents writer.new)
+            (dump self.now)) }
     {
         self.state.write_dump(writer)
     }

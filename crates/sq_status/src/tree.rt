@@ -94,8 +94,10 @@ impl StatusTree {
     /// the first seat's lists name.
     pub fn close(self, seat: TreeSeat) -> [Status; NODES]
         requires tree { seat.tree ≡ self }
-        ensures rule { (id : ℕ) × (views : List View) × IsTreeOf result views × (get_elem? views id ≡ some seat.view) }
-        ensures all { seat.view.first ≡ true → seat.view.given ≡ seat.view.taken → IsTreeOf result (seat.view ∷ []) }
+        ensures rule { (id : ℕ) × (views : List View) × IsTreeOf result views
+            × (get_elem? views id ≡ some seat.view) }
+        ensures all { seat.view.first ≡ true → seat.view.given ≡ seat.view.taken
+            → IsTreeOf result (seat.view ∷ []) }
     {
         let StatusTree { table } = self;
         let TreeSeat { seat } = seat;

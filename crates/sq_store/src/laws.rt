@@ -8,27 +8,32 @@ ghost use Rattle.sq_store.specs.Laws.{IsFullest};
 
 /// The families between two root keys rise, and are what the store has at the root keys between these.
 pub fn takes_what_is_between()
-    ensures rising { (store : StoreValue) (lo hi : ℕ) → HoldsByRoot store → IsTrue (are_within lo hi (families_between store lo hi)) }
+    ensures rising { (store : StoreValue) (lo hi : ℕ) → HoldsByRoot store
+        → IsTrue (are_within lo hi (families_between store lo hi)) }
     ensures each { (store : StoreValue) (lo hi root : ℕ) → HoldsByRoot store
-        → family_in (families_between store lo hi) root ≡ (if nat_le lo root && nat_lt root hi then get store root else None) }
+        → family_in (families_between store lo hi) root
+        ≡ (if nat_le lo root && nat_lt root hi then get store root else None) }
 {}
 
 /// Without the families between two root keys a store is at each other root key as it was.
 pub fn keeps_what_is_not_between()
     ensures { (lo hi : ℕ) (store : StoreValue) (root : ℕ)
-        → get (without_between store lo hi) root ≡ (if nat_le lo root && nat_lt root hi then None else get store root) }
+        → get (without_between store lo hi) root
+        ≡ (if nat_le lo root && nat_lt root hi then None else get store root) }
 {}
 
 /// With families whose root keys differ a store has each of these, and is at each other root key as it was.
 pub fn gets_what_it_is_given()
-    ensures { (families : List FamilyValue) (store : StoreValue) (root : ℕ) → IsTrue (roots_differ families)
+    ensures { (families : List FamilyValue) (store : StoreValue) (root : ℕ)
+        → IsTrue (roots_differ families)
         → get (with_families store families) root
         ≡ (if is_some (family_in families root) then family_in families root else get store root) }
 {}
 
 /// With its logs folded a store has each family as it starts anew from its rows, and none of those without rows.
 pub fn folds_each_family()
-    ensures { (store : StoreValue) (root : ℕ) → get (folded_store store) root ≡ fold_of (get store root) }
+    ensures { (store : StoreValue) (root : ℕ)
+        → get (folded_store store) root ≡ fold_of (get store root) }
 {}
 
 /// What was taken of a store makes it again.
@@ -39,7 +44,8 @@ pub fn is_the_same_with_what_was_taken()
 
 /// Families may be given that were taken: root keys that rise differ, and none of them stands any more.
 pub fn has_none_of_what_was_taken()
-    ensures differ { (families : List FamilyValue) (lo hi : ℕ) → IsTrue (are_within lo hi families) → IsTrue (roots_differ families) }
+    ensures differ { (families : List FamilyValue) (lo hi : ℕ) → IsTrue (are_within lo hi families)
+        → IsTrue (roots_differ families) }
     ensures absent { (store : StoreValue) (lo hi : ℕ) → HoldsByRoot store
         → IsTrue (has_none_of (without_between store lo hi) (families_between store lo hi)) }
 {}
@@ -47,7 +53,8 @@ pub fn has_none_of_what_was_taken()
 /// A store has none of families exactly if none stands at any of their root keys.
 pub fn has_none_of_absent_families()
     ensures { (store : StoreValue) (families : List FamilyValue)
-        → IsTrue (has_none_of store families) ↔ All (λ family. get store family.root ≡ None) families }
+        → IsTrue (has_none_of store families)
+        ↔ All (λ family. get store family.root ≡ None) families }
 {}
 
 /// A cut takes as many families as fit, but at least one where there is one, and ends within its extent.

@@ -13,9 +13,11 @@ pub(crate) fn merge(into: &mut Vec<Family>, mut left: VecDeque<Family>, mut righ
     requires left { IsTrue (roots_rise (into.old.items ++ left.items)) }
     requires right { IsTrue (roots_rise (into.old.items ++ right.items)) }
     requires absent { IsTrue (has_none_of (store_of (into.old.items ++ left.items)) right.items) }
-    requires room { vec_len into.old + (length left.items + length right.items) ≤ vec_capacity into.old }
+    requires room { vec_len into.old +
+        (length left.items + length right.items) ≤ vec_capacity into.old }
     ensures rising { IsTrue (roots_rise into.new.items) }
-    ensures all { store_of into.new.items ≡ with_families (store_of (into.old.items ++ left.items)) right.items }
+    ensures all { store_of into.new.items
+        ≡ with_families (store_of (into.old.items ++ left.items)) right.items }
 {
     while let Some(family) = next(&mut left, &mut right) {
         into.push_reserved(family);

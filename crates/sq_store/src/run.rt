@@ -19,7 +19,8 @@ pub fn run_store<S: FamilyStore>(
     store: &mut S,
     commands: Vec<StoreCommand>,
 ) -> Result<Vec<StoreAnswer>, Vec<StoreCommand>>
-    ensures ok { IfOk result (λ answers. AreStoreAnswers (S.contents store.old) commands.items answers.items (S.contents store.new)) }
+    ensures ok { IfOk result (λ answers. AreStoreAnswers
+        (S.contents store.old) commands.items answers.items (S.contents store.new)) }
     ensures commands_returned { IfErr result (λ back. back.items ≡ commands.items) }
     ensures err { OnErr result (S.contents store.new ≡ S.contents store.old) }
 {

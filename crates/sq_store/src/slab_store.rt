@@ -153,7 +153,8 @@ impl SlabStore {
 
     // Folds the log of the family of a root key.
     fn fold_family(&mut self, root: Root)
-        ensures { (family : FamilyValue) → get self.old root ≡ Some family → self.new ≡ insert self.old root (folded family) }
+        ensures { (family : FamilyValue) → get self.old root ≡ Some family
+            → self.new ≡ insert self.old root (folded family) }
     {
         if let Some(key) = self.index.get(&root) {
             self.families[*key].fold();
@@ -196,7 +197,8 @@ impl SlabStore {
         requires absent { IsTrue (has_none_of self.old families.old.items) }
         requires none { roots.old.items ≡ [] }
         requires room { vec_len families.old ≤ vec_capacity roots.old }
-        ensures put { IsPutIn self.old families.old.items families.new.items roots.new.items self.new }
+        ensures put { IsPutIn self.old families.old.items families.new.items roots.new.items
+            self.new }
         ensures all { IsTrue result → families.new.items ≡ [] }
         ensures capacity { vec_capacity families.new ≡ vec_capacity families.old }
         ensures count { vec_len families.new + vec_len roots.new ≡ vec_len families.old }
@@ -216,8 +218,10 @@ impl SlabStore {
     // is room for them.
     fn take_back(&mut self, families: &mut Vec<Family>, mut roots: Vec<Root>)
         requires { vec_len families.old + vec_len roots ≤ vec_capacity families.old }
-        ensures { (before : StoreValue) (given : List FamilyValue) → IsTrue (roots_differ given) → IsTrue (has_none_of before given)
-            → IsPutIn before given families.old.items roots.items self.old → (self.new ≡ before) × (families.new.items ≡ given) }
+        ensures { (before : StoreValue) (given : List FamilyValue) → IsTrue (roots_differ given)
+            → IsTrue (has_none_of before given)
+            → IsPutIn before given families.old.items roots.items self.old → (self.new ≡ before)
+            × (families.new.items ≡ given) }
     {
         while let Some(root) = roots.pop() {
             if let Some(family) = self.remove(root) {

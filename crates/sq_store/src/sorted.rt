@@ -62,8 +62,10 @@ pub(crate) fn take_out(
     count: usize,
 ) -> Result<Vec<Family>, AllocError>
     requires { first + count ≤ vec_len families.old }
-    ensures taken { IfOk result (λ taken. taken.items ≡ slice_range families.old.items first (first + count)) }
-    ensures left { OnOk result (families.new.items ≡ take first families.old.items ++ drop (first + count) families.old.items) }
+    ensures taken { IfOk result (λ taken. taken.items
+        ≡ slice_range families.old.items first (first + count)) }
+    ensures left { OnOk result (families.new.items
+        ≡ take first families.old.items ++ drop (first + count) families.old.items) }
     ensures err { OnErr result (families.new.items ≡ families.old.items) }
     ensures keyed { IfOk result (λ taken. AreKeyed taken.items) }
 {

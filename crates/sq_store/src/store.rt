@@ -43,21 +43,25 @@ pub trait FamilyStore {
     /// it commits the family stands then, with the transaction at the end of its log; where it aborts, and on an
     /// error, the store stays as it was. A full log refuses before any operation is looked at.
     fn apply(&mut self, txn: &Txn) -> Result<Reply, ApplyFault>
-        ensures full { IsErrOf result ApplyFault.LogFull ↔ (MAX_LOG ≤ log_length (contents self.old) txn.now.root) }
+        ensures full { IsErrOf result ApplyFault.LogFull
+            ↔ (MAX_LOG ≤ log_length (contents self.old) txn.now.root) }
         ensures reply { IfOk result (λ reply. reply ≡ store_reply (contents self.old) txn.now) }
-        ensures store { IfOk result (λ reply. contents self.new ≡ store_after (contents self.old) txn.now reply) }
+        ensures store { IfOk result (λ reply. contents self.new
+            ≡ store_after (contents self.old) txn.now reply) }
         ensures err { OnErr result (contents self.new ≡ contents self.old) };
 
     /// Takes families of an extent out, by rising root key: the first, and then as many as fit with it into `limit`
     /// bytes. Where there is no memory for them the store stays as it was.
     fn take(&mut self, extent: Extent, limit: u64) -> Result<Cut, AllocError>
         ensures cut { IfOk result (IsCutOf (contents self.old) extent limit) }
-        ensures store { IfOk result (λ cut. contents self.new ≡ without_between (contents self.old) extent.lo cut.end) }
+        ensures store { IfOk result (λ cut. contents self.new
+            ≡ without_between (contents self.old) extent.lo cut.end) }
         ensures err { OnErr result (contents self.new ≡ contents self.old) }
 
         ensures from { extent.lo ≤ extent.hi → IfOk result (λ cut. extent.lo ≤ cut.end) }
         ensures upto { IfOk result (λ cut. cut.end ≤ extent.hi) }
-        ensures within { IfOk result (λ cut. IsTrue (are_within extent.lo cut.end cut.families.items)) }
+        ensures within { IfOk result (λ cut. IsTrue
+            (are_within extent.lo cut.end cut.families.items)) }
         ensures keyed { IfOk result (λ cut. AreKeyed cut.families.items) };
 
     /// Puts families in, in any order, whose root keys differ, and which don't stand there. Where there is no memory
@@ -65,7 +69,8 @@ pub trait FamilyStore {
     fn give(&mut self, families: Vec<Family>) -> Result<(), Vec<Family>>
         requires differ { IsTrue (roots_differ families.items) }
         requires absent { IsTrue (has_none_of (contents self.old) families.items) }
-        ensures ok { OnOk result (contents self.new ≡ with_families (contents self.old) families.items) }
+        ensures ok { OnOk result (contents self.new
+            ≡ with_families (contents self.old) families.items) }
         ensures families_returned { IfErr result (λ back. back.items ≡ families.items) }
         ensures err { OnErr result (contents self.new ≡ contents self.old) };
 

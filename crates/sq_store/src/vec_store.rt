@@ -117,7 +117,8 @@ pub fn fold_all(families: &mut Vec<Family>)
 
 // Drops the families without rows.
 fn keep_rowed(families: &mut Vec<Family>)
-    ensures { families.new.items ≡ filter (λ family. not (length (rows_of family) == 0)) families.old.items }
+    ensures { families.new.items ≡ filter
+        (λ family. not (length (rows_of family) == 0)) families.old.items }
 {
     families.retain(|family| !family.rows().is_empty());
 }
@@ -137,7 +138,8 @@ fn open(families: &mut Vec<Family>, at: usize, txn: &Txn) -> Result<Reply, Apply
     requires { at ≤ vec_len families.old }
     ensures memory { IfErr result (λ fault. fault ≡ ApplyFault.Memory) }
     ensures reply { IfOk result (λ r. r ≡ reply (rows_of (absent txn.now.root)) txn.now) }
-    ensures families { IfOk result (λ r. families.new.items ≡ opened families.old.items at txn.now r) }
+    ensures families { IfOk result (λ r. families.new.items
+        ≡ opened families.old.items at txn.now r) }
     ensures err { OnErr result (families.new.items ≡ families.old.items) }
 {
     families.reserve(1)?;

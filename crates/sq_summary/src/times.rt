@@ -19,7 +19,8 @@ pub struct Times {
 
 /// Writes the line of how long the parts of a run took, in milliseconds with three decimals. An error is the writer's.
 pub fn write_times<W: Write>(writer: &mut W, times: Times) -> io::Result<()>
-    ensures { OnOk result (Appends (W.contents writer.old) (W.contents writer.new) (times_text times)) }
+    ensures { OnOk result (Appends (W.contents writer.old) (W.contents writer.new)
+        (times_text times)) }
 {
     write_time(writer, "milliseconds: reading ", times.reading)?;
     write_time(writer, ", threads ", times.threads)?;
@@ -29,7 +30,8 @@ pub fn write_times<W: Write>(writer: &mut W, times: Times) -> io::Result<()>
 
 // Writes a time in milliseconds, behind its name.
 fn write_time<W: Write>(writer: &mut W, front: &str, micros: u64) -> io::Result<()>
-    ensures { OnOk result (Appends (W.contents writer.old) (W.contents writer.new) (time_text front.now micros)) }
+    ensures { OnOk result (Appends (W.contents writer.old) (W.contents writer.new)
+        (time_text front.now micros)) }
 {
     let millis = micros / 1000;
     let rest = micros % 1000;

@@ -48,7 +48,8 @@ fn write_short_commit<W: Write>(
     answer: &OpAnswer,
 ) -> Result<(), WriteFault>
     requires { has_note answer.now ≡ false }
-    ensures { OnOk result (Appends (W.contents writer.old) (W.contents writer.new) (line (commit_words id (answer.now ∷ [])))) }
+    ensures { OnOk result (Appends (W.contents writer.old) (W.contents writer.new)
+        (line (commit_words id (answer.now ∷ [])))) }
 {
     let mut text = TextOf::<64>::new();
     text.put_byte(b'\n');
@@ -61,7 +62,8 @@ fn write_short_commit<W: Write>(
 
 // Writes the line of a commit.
 fn write_commit<W: Write>(writer: &mut W, id: u64, answers: &[OpAnswer]) -> Result<(), WriteFault>
-    ensures { OnOk result (Appends (W.contents writer.old) (W.contents writer.new) (line (commit_words id answers.now))) }
+    ensures { OnOk result (Appends (W.contents writer.old) (W.contents writer.new)
+        (line (commit_words id answers.now))) }
 {
     match answers {
         [answer] if !has_note(answer) => write_short_commit(writer, id, answer),
@@ -78,7 +80,8 @@ fn write_commit<W: Write>(writer: &mut W, id: u64, answers: &[OpAnswer]) -> Resu
 
 // Writes the line of an abort.
 fn write_abort<W: Write>(writer: &mut W, id: u64, at: usize, cause: Cause) -> Result<(), WriteFault>
-    ensures { OnOk result (Appends (W.contents writer.old) (W.contents writer.new) (line (reply_words id (Aborted at cause)))) }
+    ensures { OnOk result (Appends (W.contents writer.old) (W.contents writer.new)
+        (line (reply_words id (Aborted at cause)))) }
 {
     let mut text = TextOf::<64>::new();
     text.put_byte(b'\n');
@@ -93,7 +96,8 @@ fn write_abort<W: Write>(writer: &mut W, id: u64, at: usize, cause: Cause) -> Re
 
 // Writes the line of what a transaction is answered.
 fn write_reply<W: Write>(writer: &mut W, id: u64, reply: &Reply) -> Result<(), WriteFault>
-    ensures { OnOk result (Appends (W.contents writer.old) (W.contents writer.new) (line (reply_words id reply.now))) }
+    ensures { OnOk result (Appends (W.contents writer.old) (W.contents writer.new)
+        (line (reply_words id reply.now))) }
 {
     match reply {
         Reply::Committed(answers) => write_commit(writer, id, answers.as_slice()),
@@ -137,7 +141,8 @@ fn write_note<W: Write>(
     families: u64,
 ) -> Result<(), WriteFault>
     requires { length front.now ≤ 5 }
-    ensures { OnOk result (Appends (W.contents writer.old) (W.contents writer.new) (front.now ++ line (note_words note.now families))) }
+    ensures { OnOk result (Appends (W.contents writer.old) (W.contents writer.new)
+        (front.now ++ line (note_words note.now families))) }
 {
     let mut text = Text::new();
     put_note(&mut text, note, families);
@@ -183,7 +188,8 @@ fn reading_text(reading: Reading) -> &'static [u8]
 
 // Writes the line of a node's status and of what the node reads as.
 fn write_node<W: Write>(writer: &mut W, status: Status, reading: Reading) -> Result<(), WriteFault>
-    ensures { OnOk result (Appends (W.contents writer.old) (W.contents writer.new) (line (node_words status reading))) }
+    ensures { OnOk result (Appends (W.contents writer.old) (W.contents writer.new)
+        (line (node_words status reading))) }
 {
     let mut text = TextOf::<64>::new();
     text.put_byte(b'\n');
@@ -196,7 +202,8 @@ fn write_node<W: Write>(writer: &mut W, status: Status, reading: Reading) -> Res
 
 // Writes the line of a transaction that is sent on.
 fn write_moved<W: Write>(writer: &mut W, id: u64, to: PartId) -> Result<(), WriteFault>
-    ensures { OnOk result (Appends (W.contents writer.old) (W.contents writer.new) (answer_line (Moved id to))) }
+    ensures { OnOk result (Appends (W.contents writer.old) (W.contents writer.new)
+        (answer_line (Moved id to))) }
 {
     let mut text = TextOf::<64>::new();
     text.put_byte(b'\n');
@@ -209,7 +216,8 @@ fn write_moved<W: Write>(writer: &mut W, id: u64, to: PartId) -> Result<(), Writ
 
 // Writes the line of a transaction that waits.
 fn write_waits<W: Write>(writer: &mut W, id: u64, seg: SegId, leaf: Leaf) -> Result<(), WriteFault>
-    ensures { OnOk result (Appends (W.contents writer.old) (W.contents writer.new) (answer_line (Waits id seg leaf))) }
+    ensures { OnOk result (Appends (W.contents writer.old) (W.contents writer.new)
+        (answer_line (Waits id seg leaf))) }
 {
     let mut text = TextOf::<80>::new();
     text.put_byte(b'\n');
@@ -224,7 +232,8 @@ fn write_waits<W: Write>(writer: &mut W, id: u64, seg: SegId, leaf: Leaf) -> Res
 
 /// Writes the line that a step is answered. An error is a write that failed.
 pub fn write_answer<W: Write>(writer: &mut W, answer: &Answer) -> Result<(), WriteFault>
-    ensures { OnOk result (Appends (W.contents writer.old) (W.contents writer.new) (answer_line answer.now)) }
+    ensures { OnOk result (Appends (W.contents writer.old) (W.contents writer.new)
+        (answer_line answer.now)) }
 {
     match answer {
         Answer::Done => write_bytes(writer, b"ok\n"),
@@ -242,7 +251,8 @@ pub fn write_answer<W: Write>(writer: &mut W, answer: &Answer) -> Result<(), Wri
 /// Writes the line of a refusal with this number. An error is a write that failed.
 #[inline(always)]
 pub fn write_refused<W: Write>(writer: &mut W, number: u16) -> Result<(), WriteFault>
-    ensures { OnOk result (Appends (W.contents writer.old) (W.contents writer.new) (refused_line number)) }
+    ensures { OnOk result (Appends (W.contents writer.old) (W.contents writer.new)
+        (refused_line number)) }
 {
     let mut text = TextOf::<32>::new();
     text.put_byte(b'\n');
@@ -253,7 +263,8 @@ pub fn write_refused<W: Write>(writer: &mut W, number: u16) -> Result<(), WriteF
 
 /// Writes the line of a fault with this number. An error is a write that failed.
 pub fn write_fault<W: Write>(writer: &mut W, number: u16) -> Result<(), WriteFault>
-    ensures { OnOk result (Appends (W.contents writer.old) (W.contents writer.new) (fault_line number)) }
+    ensures { OnOk result (Appends (W.contents writer.old) (W.contents writer.new)
+        (fault_line number)) }
 {
     writeln!(writer, "fault {number}")?;
     Ok(())

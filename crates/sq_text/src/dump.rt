@@ -28,7 +28,8 @@ fn phase_text(phase: Phase) -> &'static str
 
 /// Writes the first line of a dump. An error is a write that failed.
 pub fn write_end<W: Write>(writer: &mut W, phase: Phase) -> Result<(), WriteFault>
-    ensures { OnOk result (Appends (W.contents writer.old) (W.contents writer.new) (end_line phase)) }
+    ensures { OnOk result (Appends (W.contents writer.old) (W.contents writer.new)
+        (end_line phase)) }
 {
     let phase = phase_text(phase);
     writeln!(writer, "end {phase}")?;
@@ -64,7 +65,8 @@ fn write_before_rows<W: Write>(
     family: &Family,
 ) -> Result<(), WriteFault>
     ensures { OnOk result (Appends (W.contents writer.old) (W.contents writer.new)
-        (text.now ++ (flat_map (λ entry. 32 ∷ entry_text entry) (rows_of family.now) ++ (10 ∷ [])))) }
+        (text.now ++ (flat_map (λ entry. 32 ∷ entry_text entry) (rows_of family.now) ++
+        (10 ∷ [])))) }
 {
     write_bytes(writer, text.as_bytes())?;
     write_entries(writer, family.rows().iter())?;
@@ -73,7 +75,8 @@ fn write_before_rows<W: Write>(
 
 /// Writes the line of a family in the store of a partition. An error is a write that failed.
 pub fn write_at<W: Write>(writer: &mut W, part: PartId, family: &Family) -> Result<(), WriteFault>
-    ensures { OnOk result (Appends (W.contents writer.old) (W.contents writer.new) (at_line part family.now)) }
+    ensures { OnOk result (Appends (W.contents writer.old) (W.contents writer.new)
+        (at_line part family.now)) }
 {
     let mut text = Text::new();
     put_family(&mut text, family);
@@ -85,7 +88,8 @@ pub fn write_at<W: Write>(writer: &mut W, part: PartId, family: &Family) -> Resu
 
 // Writes the line of a family in a chunk.
 fn write_in<W: Write>(writer: &mut W, family: &Family) -> Result<(), WriteFault>
-    ensures { OnOk result (Appends (W.contents writer.old) (W.contents writer.new) (in_line family.now)) }
+    ensures { OnOk result (Appends (W.contents writer.old) (W.contents writer.new)
+        (in_line family.now)) }
 {
     let mut text = Text::new();
     put_family(&mut text, family);

@@ -25,7 +25,8 @@ use std::io::Read;
 
 // Reads the next line, whose bytes the reader then has.
 fn next_line<R: Read>(lines: &mut LineReader<R>) -> Result<(), InputFault>
-    ensures line { Leaves lines.old lines.new (λ all left. IsRead (λ _. (lines.new.piece, left)) result (next_line all)) }
+    ensures line { Leaves lines.old lines.new
+        (λ all left. IsRead (λ _. (lines.new.piece, left)) result (next_line all)) }
     ensures one_line { lines.old.lines_left ≤ lines.new.lines_left + 1 }
     ensures fewer { OnOk result (lines.old.lines_left ≡ lines.new.lines_left + 1) }
 {
@@ -69,7 +70,8 @@ fn plan_line<R: Read>(
     lines: &mut LineReader<R>,
 ) -> Result<Plan, InputFault>
     ensures plan { Leaves lines.old lines.new
-        (λ all left. IsReadGivenMemory (λ plan. (plan, left)) result (line_as (plan_behind front.now) all)) }
+        (λ all left. IsReadGivenMemory (λ plan. (plan, left)) result
+        (line_as (plan_behind front.now) all)) }
     ensures one_line { lines.old.lines_left ≤ lines.new.lines_left + 1 }
 {
     next_line(lines)?;
@@ -149,7 +151,8 @@ fn row(alloc: Global, line: &[u8]) -> Result<GivenRow, InputFault>
 // The opening row of the next line.
 fn row_line<R: Read>(alloc: Global, lines: &mut LineReader<R>) -> Result<GivenRow, InputFault>
     ensures row { Leaves lines.old lines.new
-        (λ all left. IsReadGivenMemory (λ row. (value_of row, left)) result (line_as given_of all)) }
+        (λ all left. IsReadGivenMemory (λ row. (value_of row, left)) result
+        (line_as given_of all)) }
     ensures one_line { lines.old.lines_left ≤ lines.new.lines_left + 1 }
     ensures fewer { OnOk result (lines.old.lines_left ≡ lines.new.lines_left + 1) }
 {
@@ -170,7 +173,8 @@ fn first_lines<R: Read>(
     alloc: Global,
     lines: &mut LineReader<R>,
 ) -> Result<FirstLines, LocatedFault>
-    ensures first { Leaves lines.old lines.new (λ all left. IsReadBefore (λ first. first) result left (first_lines all)) }
+    ensures first { Leaves lines.old lines.new
+        (λ all left. IsReadBefore (λ first. first) result left (first_lines all)) }
     ensures stops { IfErr result (λ refused. StopsAt refused lines.old lines.new) }
     ensures three_lines { lines.old.lines_left ≤ lines.new.lines_left + 3 }
 {
@@ -201,7 +205,8 @@ fn take_row<R: Read>(
     ensures kept { opening.new ≡ record opening.old { table = opening.new.table } }
     ensures one_line { lines.old.lines_left ≤ lines.new.lines_left + 1 }
     ensures fewer { OnOk result (lines.old.lines_left ≡ lines.new.lines_left + 1) }
-    ensures line { IfErr result (λ refused. IfSome refused.line (λ line. line_number line ≡ at + 4)) }
+    ensures line { IfErr result (λ refused. IfSome refused.line (λ line. line_number line
+        ≡ at + 4)) }
 {
     let given = match row_line(alloc, lines) {
         Ok(given) => given,
@@ -249,7 +254,8 @@ pub fn read_header<R: Read>(
     schema: Schema,
     lines: &mut LineReader<R>,
 ) -> Result<Opening, LocatedFault>
-    ensures header { Leaves lines.old lines.new (λ all left. Opens schema result left (header_of schema all)) }
+    ensures header { Leaves lines.old lines.new
+        (λ all left. Opens schema result left (header_of schema all)) }
     ensures stops { IfErr result (λ refused. StopsAt refused lines.old lines.new) }
 {
     let mut opening = read_plans(alloc, schema, lines)?;
@@ -265,7 +271,8 @@ pub fn read_plans<R: Read>(
     schema: Schema,
     lines: &mut LineReader<R>,
 ) -> Result<Opening, LocatedFault>
-    ensures plans { Leaves lines.old lines.new (λ all left. Opens schema result left (plans_of all)) }
+    ensures plans { Leaves lines.old lines.new
+        (λ all left. Opens schema result left (plans_of all)) }
     ensures stops { IfErr result (λ refused. StopsAt refused lines.old lines.new) }
     ensures three_lines { lines.old.lines_left ≤ lines.new.lines_left + 3 }
 {

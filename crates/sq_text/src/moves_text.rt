@@ -11,7 +11,8 @@ use std::io::Write;
 
 // Writes the line of a reconfiguration range.
 fn write_range<W: Write>(writer: &mut W, range: Range) -> io::Result<()>
-    ensures { OnOk result (Appends (W.contents writer.old) (W.contents writer.new) (range_line range)) }
+    ensures { OnOk result (Appends (W.contents writer.old) (W.contents writer.new)
+        (range_line range)) }
 {
     let Range { lo, hi, src, dst } = range;
     let (src, dst) = (src.number(), dst.number());
@@ -25,7 +26,8 @@ fn write_segment<W: Write>(
     segment: Range,
     stage: Option<u64>,
 ) -> io::Result<()>
-    ensures { OnOk result (Appends (W.contents writer.old) (W.contents writer.new) (segment_line seg segment stage)) }
+    ensures { OnOk result (Appends (W.contents writer.old) (W.contents writer.new)
+        (segment_line seg segment stage)) }
 {
     let Range { lo, hi, src, dst } = segment;
     let (src, dst) = (src.number(), dst.number());
@@ -37,7 +39,8 @@ fn write_segment<W: Write>(
 
 // Writes the lines of reconfiguration ranges.
 fn write_ranges<W: Write>(writer: &mut W, ranges: &[Range]) -> io::Result<()>
-    ensures { OnOk result (Appends (W.contents writer.old) (W.contents writer.new) (flat_map range_line ranges.now)) }
+    ensures { OnOk result (Appends (W.contents writer.old) (W.contents writer.new)
+        (flat_map range_line ranges.now)) }
 {
     for range in ranges {
         write_range(writer, *range)?;
@@ -59,7 +62,8 @@ fn told_stage(recon: &Recon, several: bool, segment: Range) -> Option<u64>
 
 // Writes the lines of the segments, which are numbered from 0.
 fn write_segments<W: Write>(writer: &mut W, recon: &Recon) -> io::Result<()>
-    ensures { OnOk result (Appends (W.contents writer.old) (W.contents writer.new) (segment_lines recon.now 0 recon.now.segments)) }
+    ensures { OnOk result (Appends (W.contents writer.old) (W.contents writer.new)
+        (segment_lines recon.now 0 recon.now.segments)) }
 {
     let several = recon.stages() > 1;
     let segments = recon.segments();
@@ -73,7 +77,8 @@ fn write_segments<W: Write>(writer: &mut W, recon: &Recon) -> io::Result<()>
 /// Writes what moves: a line for each reconfiguration range, in key order, and then one for each segment, with its stage
 /// where there is more than one. An error is the writer's.
 pub fn write_moves<W: Write>(writer: &mut W, recon: &Recon) -> io::Result<()>
-    ensures { OnOk result (Appends (W.contents writer.old) (W.contents writer.new) (moves_text recon.now)) }
+    ensures { OnOk result (Appends (W.contents writer.old) (W.contents writer.new)
+        (moves_text recon.now)) }
 {
     write_ranges(writer, recon.ranges())?;
     write_segments(writer, recon)

@@ -38,7 +38,8 @@ fn put_hex(bytes: &[u8], text: &mut [u8; 2 * PART])
 
 // Writes the digits of bytes, two a byte.
 fn write_hex<W: Write>(writer: &mut W, bytes: &[u8]) -> Result<(), WriteFault>
-    ensures { OnOk result (Appends (W.contents writer.old) (W.contents writer.new) (flat_map hex_byte_text bytes.now)) }
+    ensures { OnOk result (Appends (W.contents writer.old) (W.contents writer.new)
+        (flat_map hex_byte_text bytes.now)) }
 {
     let mut text = [0; 2 * PART];
     let mut rest = bytes;
@@ -55,7 +56,8 @@ fn write_hex<W: Write>(writer: &mut W, bytes: &[u8]) -> Result<(), WriteFault>
 fn put_row<const ROOM: usize>(text: &mut TextOf<ROOM>, row: &Row)
     requires { length text.old + 23 ≤ ROOM }
     ensures whole { row.now.note ≡ [] → text.new ≡ row_text row.now ++ text.old }
-    ensures before_note { text.old ≡ [] → text.new ++ flat_map hex_byte_text row.now.note ≡ row_text row.now }
+    ensures before_note { text.old ≡ []
+        → text.new ++ flat_map hex_byte_text row.now.note ≡ row_text row.now }
     ensures size { length text.new ≤ length text.old + 23 }
 {
     if row.note().is_empty() {
@@ -67,7 +69,8 @@ fn put_row<const ROOM: usize>(text: &mut TextOf<ROOM>, row: &Row)
 
 // Writes a text, and then the digits of a note.
 fn write_before_note<W: Write>(writer: &mut W, text: &Text, note: &[u8]) -> Result<(), WriteFault>
-    ensures { OnOk result (Appends (W.contents writer.old) (W.contents writer.new) (text.now ++ flat_map hex_byte_text note.now)) }
+    ensures { OnOk result (Appends (W.contents writer.old) (W.contents writer.new)
+        (text.now ++ flat_map hex_byte_text note.now)) }
 {
     write_bytes(writer, text.as_bytes())?;
     write_hex(writer, note)
@@ -75,7 +78,8 @@ fn write_before_note<W: Write>(writer: &mut W, text: &Text, note: &[u8]) -> Resu
 
 // Writes a row behind a space.
 fn write_row<W: Write>(writer: &mut W, row: &Row) -> Result<(), WriteFault>
-    ensures { OnOk result (Appends (W.contents writer.old) (W.contents writer.new) (32 ∷ row_text row.now)) }
+    ensures { OnOk result (Appends (W.contents writer.old) (W.contents writer.new)
+        (32 ∷ row_text row.now)) }
 {
     let mut text = Text::new();
     put_row(&mut text, row);
@@ -85,7 +89,8 @@ fn write_row<W: Write>(writer: &mut W, row: &Row) -> Result<(), WriteFault>
 
 // Writes a number behind a space.
 fn write_signed<W: Write>(writer: &mut W, number: i64) -> Result<(), WriteFault>
-    ensures { OnOk result (Appends (W.contents writer.old) (W.contents writer.new) (32 ∷ signed_decimal number)) }
+    ensures { OnOk result (Appends (W.contents writer.old) (W.contents writer.new)
+        (32 ∷ signed_decimal number)) }
 {
     let mut text = Text::new();
     text.put_signed(number);
@@ -95,7 +100,8 @@ fn write_signed<W: Write>(writer: &mut W, number: i64) -> Result<(), WriteFault>
 
 // Writes what an operation is answered, behind a space.
 pub(crate) fn write_op_answer<W: Write>(writer: &mut W, answer: &OpAnswer) -> Result<(), WriteFault>
-    ensures { OnOk result (Appends (W.contents writer.old) (W.contents writer.new) (32 ∷ op_answer_text answer.now)) }
+    ensures { OnOk result (Appends (W.contents writer.old) (W.contents writer.new)
+        (32 ∷ op_answer_text answer.now)) }
 {
     match answer {
         OpAnswer::Found(None) => write_bytes(writer, b" none"),
@@ -136,7 +142,8 @@ pub(crate) fn write_entry<W: Write>(
     key: RowKey,
     row: &Row,
 ) -> Result<(), WriteFault>
-    ensures { OnOk result (Appends (W.contents writer.old) (W.contents writer.new) (32 ∷ entry_text (key, row.now))) }
+    ensures { OnOk result (Appends (W.contents writer.old) (W.contents writer.new)
+        (32 ∷ entry_text (key, row.now))) }
 {
     let mut text = Text::new();
     put_row(&mut text, row);

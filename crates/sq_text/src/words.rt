@@ -32,7 +32,8 @@ impl<'a> Words<'a> {
 
     /// The next word, if one is left. Most words are short.
     pub fn next(&mut self) -> Option<&'a [u8]>
-        ensures { MatchOption result ((self.old ≡ []) × (self.new ≡ [])) (λ word. self.old ≡ word.now ∷ self.new) }
+        ensures { MatchOption result ((self.old ≡ [])
+            × (self.new ≡ [])) (λ word. self.old ≡ word.now ∷ self.new) }
     {
         let rest = self.rest?;
         Some(self.take(rest, near_place_of(b' ', rest)))
@@ -40,7 +41,8 @@ impl<'a> Words<'a> {
 
     /// The same, for a word that may be long.
     pub fn next_long(&mut self) -> Option<&'a [u8]>
-        ensures { MatchOption result ((self.old ≡ []) × (self.new ≡ [])) (λ word. self.old ≡ word.now ∷ self.new) }
+        ensures { MatchOption result ((self.old ≡ [])
+            × (self.new ≡ [])) (λ word. self.old ≡ word.now ∷ self.new) }
     {
         let rest = self.rest?;
         Some(self.take(rest, place_of(b' ', rest)))

@@ -47,7 +47,8 @@ pub fn write_all_come<W: Write>(
     consumers: &mut [Consumer<Receipt>],
 ) -> Result<(), WriteFault>
     ensures written { OnOk result (WritesAllThatCame (map (λ ring. received ring) consumers.old)
-        (map (λ ring. received ring) consumers.new) (W.contents writer.old) (W.contents writer.new)) }
+        (map (λ ring. received ring) consumers.new) (W.contents writer.old)
+        (W.contents writer.new)) }
     ensures none_known { OnOk result (All (λ ring. known_items ring ≡ []) consumers.new) }
 {
     for consumer in consumers {

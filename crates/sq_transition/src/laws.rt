@@ -18,10 +18,12 @@ pub fn each_step_keeps_the_headline()
 /// What one history says of a chunk and of a partition is all that they hold: two chunks of it that have one note are
 /// one chunk, and two partitions of it of one number have the same families and the same transactions that wait.
 pub fn a_history_tells_what_each_holds()
-    ensures chunks { (o : OpeningValue) (t : Trace) (one other : ChunkValue) → ChunkHolds o t one → ChunkHolds o t other
+    ensures chunks { (o : OpeningValue) (t : Trace) (one other : ChunkValue) → ChunkHolds o t one
+        → ChunkHolds o t other
         → one.note ≡ other.note → one ≡ other }
     ensures families { (o : OpeningValue) (t : Trace) (part : ℕ) (one other : CoreValue) (root : ℕ)
-        → CoreHolds o t part one → CoreHolds o t part other → get one.store root ≡ get other.store root }
+        → CoreHolds o t part one → CoreHolds o t part other
+        → get one.store root ≡ get other.store root }
     ensures waiting { (o : OpeningValue) (t : Trace) (part : ℕ) (one other : CoreValue)
         → CoreHolds o t part one → CoreHolds o t part other → one.waiting ≡ other.waiting }
 {}

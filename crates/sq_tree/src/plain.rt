@@ -49,7 +49,8 @@ impl PlainTree {
     /// live, and one that isn't free. A refusal changes nothing.
     pub fn split(&mut self, node: NodeId) -> Result<(), SplitFault>
         ensures answer { result ≡ split_answer (status_at self.old) node }
-        ensures after { self.new ≡ (if is_ok result then with_status self.old node Status.Split else self.old) }
+        ensures after { self.new ≡
+            (if is_ok result then with_status self.old node Status.Split else self.old) }
     {
         if node.is_leaf() {
             return Err(SplitFault::IsLeaf);
@@ -70,7 +71,8 @@ impl PlainTree {
     /// free. A refusal changes nothing.
     pub fn claim(&mut self, node: NodeId, pull: u32) -> Result<(), ClaimFault>
         ensures answer { result ≡ claim_answer (status_at self.old) node pull }
-        ensures after { self.new ≡ (if is_ok result then with_status self.old node (Status.Claimed pull) else self.old) }
+        ensures after { self.new ≡ (if is_ok result then with_status self.old node
+            (Status.Claimed pull) else self.old) }
     {
         if !self.is_live(node) {
             return Err(ClaimFault::NotLive);
@@ -88,7 +90,8 @@ impl PlainTree {
     /// node that isn't claimed, and one that another pull claimed. A refusal changes nothing.
     pub fn begin(&mut self, node: NodeId, pull: u32) -> Result<(), BeginFault>
         ensures answer { result ≡ begin_answer (status_at self.old) node pull }
-        ensures after { self.new ≡ (if is_ok result then with_status self.old node (Status.Partial pull) else self.old) }
+        ensures after { self.new ≡ (if is_ok result then with_status self.old node
+            (Status.Partial pull) else self.old) }
     {
         match self.status(node) {
             Status::Claimed(by) if by == pull => {
@@ -104,7 +107,8 @@ impl PlainTree {
     /// that another pull began. A refusal changes nothing.
     pub fn complete(&mut self, node: NodeId, pull: u32) -> Result<(), CompleteFault>
         ensures answer { result ≡ complete_answer (status_at self.old) node pull }
-        ensures after { self.new ≡ (if is_ok result then with_status self.old node (Status.Complete pull) else self.old) }
+        ensures after { self.new ≡ (if is_ok result then with_status self.old node
+            (Status.Complete pull) else self.old) }
     {
         match self.status(node) {
             Status::Partial(by) if by == pull => {
@@ -143,14 +147,16 @@ impl PlainTree {
     pub fn all_complete(&self) -> bool
         ensures reading { IsTrue result ↔ (reading (status_at self.now) 1 ≡ Reading.Complete) }
         ensures leaves { IsTrue result
-            ↔ ((leaf : ℕ) → leaf < LEAVES → IsTrue (is_complete (status_at self.now (covering (status_at self.now) leaf)))) }
+            ↔ ((leaf : ℕ) → leaf < LEAVES → IsTrue
+            (is_complete (status_at self.now (covering (status_at self.now) leaf)))) }
     {
         self.reads_live(NodeId::WHOLE) == Reading::Complete
     }
 
     // What a live node reads as, looked for at any depth that reaches the leaves.
     fn reads_live(&self, node: NodeId) -> Reading
-        ensures reading { (depth : ℕ) → 32 ≤ node * 2 ^ depth → result ≡ reading_within depth (status_at self.now) node }
+        ensures reading { (depth : ℕ) → 32 ≤ node * 2 ^ depth
+            → result ≡ reading_within depth (status_at self.now) node }
         ensures grown { IsGrown (status_at self.now) }
     {
         match self.status(node) {
@@ -185,7 +191,8 @@ impl PlainTree {
 
     // Gives a live node that isn't split another status.
     fn set(&mut self, node: NodeId, status: Status)
-        requires live { is_free (status_at self.old node) ≡ true → IsTrue (is_live (status_at self.old) node) }
+        requires live { is_free (status_at self.old node) ≡ true
+            → IsTrue (is_live (status_at self.old) node) }
         requires whole { is_split (status_at self.old node) ≡ false }
         requires leaf { IsTrue (is_leaf node) → is_split status ≡ false }
         ensures { self.new ≡ with_status self.old node status }

@@ -19,7 +19,8 @@ pub(crate) fn enter(
 ) -> Result<(), AllocError>
     requires new { has_entry by_root.old root number ≡ false }
     requires not_due { contains nat_cmp due.old number ≡ false }
-    ensures ok { OnOk result (SetsEntry root number true is_due by_root.old due.old by_root.new due.new) }
+    ensures ok { OnOk result (SetsEntry root number true is_due by_root.old due.old by_root.new
+        due.new) }
     ensures err { OnErr result (HasSameEntries by_root.old due.old by_root.new due.new) }
 {
     by_root.insert(IndexEntry { root, number })?;

@@ -32,7 +32,10 @@ impl Model for Waiting {
 
     ghost Value = { WaitingValue };
 
-    ghost view = { λ w. record { arrivals = arrivals_of w.txns.entries (is_due_in w.due_below w.due); next = w.next } };
+    ghost view = { λ w. record {
+      arrivals = arrivals_of w.txns.entries (is_due_in w.due_below w.due);
+      next = w.next;
+    } };
 
     ghost invariant = { λ w. IsIndexed w.txns w.by_root w.due w.due_below w.next };
 }

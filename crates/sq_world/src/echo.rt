@@ -21,7 +21,8 @@ pub(crate) fn write_told<W: Write>(
     echoes: bool,
 ) -> Result<Option<u16>, WriteFault>
     ensures text { OnOk result
-        (Appends (W.contents writer.old) (W.contents writer.new) (answer_text echoes line.now answer.now)) }
+        (Appends (W.contents writer.old) (W.contents writer.new)
+        (answer_text echoes line.now answer.now)) }
     ensures refused { IfOk result (λ refused. refused ≡ refusal_in answer.now) }
 {
     if let Answer::Refused(refusal) = answer {
@@ -46,7 +47,8 @@ pub(crate) fn write_refusal<W: Write>(
     number: u16,
     echoes: bool,
 ) -> Result<(), WriteFault>
-    ensures { OnOk result (Appends (W.contents writer.old) (W.contents writer.new) (refused_text echoes line.now number)) }
+    ensures { OnOk result (Appends (W.contents writer.old) (W.contents writer.new)
+        (refused_text echoes line.now number)) }
 {
     if !echoes {
         return write_refused(writer, number);
@@ -58,7 +60,8 @@ pub(crate) fn write_refusal<W: Write>(
 
 // Writes a refusal with what its number means. An error is a write that failed.
 fn write_reason<W: Write>(writer: &mut W, number: u16) -> Result<(), WriteFault>
-    ensures { OnOk result (Appends (W.contents writer.old) (W.contents writer.new) (reason_line number (meaning_of number))) }
+    ensures { OnOk result (Appends (W.contents writer.old) (W.contents writer.new)
+        (reason_line number (meaning_of number))) }
 {
     match entry(number) {
         Some(entry) => {

@@ -74,7 +74,8 @@ pub fn run_in_manner<R: Read, W: Write>(
     kept: &mut Option<World>,
 ) -> Result<Ending, WriteFault>
     ensures { IfOk result
-        (Runs manner MAX_TABLES (R.remaining reader.old) (W.contents writer.old) (W.contents writer.new)) }
+        (Runs manner MAX_TABLES (R.remaining reader.old) (W.contents writer.old)
+        (W.contents writer.new)) }
 {
     let ending = run_unflushed(alloc, reader, writer, manner, kept)?;
     writer.flush()?;
@@ -90,7 +91,8 @@ fn run_unflushed<R: Read, W: Write>(
     kept: &mut Option<World>,
 ) -> Result<Ending, WriteFault>
     ensures { IfOk result
-        (Runs manner MAX_TABLES (R.remaining reader.old) (W.contents writer.old) (W.contents writer.new)) }
+        (Runs manner MAX_TABLES (R.remaining reader.old) (W.contents writer.old)
+        (W.contents writer.new)) }
 {
     match LineReader::new(alloc, reader) {
         Ok(mut lines) => run_lines(alloc, &mut lines, writer, manner, kept),
@@ -106,7 +108,8 @@ fn run_lines<R: Read, W: Write>(
     manner: ScriptManner,
     kept: &mut Option<World>,
 ) -> Result<Ending, WriteFault>
-    ensures { IfOk result (RunsLines manner MAX_TABLES lines.old (W.contents writer.old) (W.contents writer.new)) }
+    ensures { IfOk result (RunsLines manner MAX_TABLES lines.old (W.contents writer.old)
+        (W.contents writer.new)) }
 {
     let Some(schema) = Schema::new(MAX_TABLES) else {
         unreachable!()

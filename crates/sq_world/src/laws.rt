@@ -8,5 +8,6 @@ ghost use Rattle.sq_state.specs.Dump.{dump};
 
 /// A history has one dump: two worlds to which it leads are dumped alike.
 pub fn a_history_has_one_dump()
-    ensures { (o : OpeningValue) (t : Trace) (one other : WorldValue) → Holds o t one → Holds o t other → dump one ≡ dump other }
+    ensures { (o : OpeningValue) (t : Trace) (one other : WorldValue) → Holds o t one
+        → Holds o t other → dump one ≡ dump other }
 {}

@@ -25,7 +25,8 @@ pub fn ranges<R: Read, W: Write>(
     reader: &mut R,
     writer: &mut W,
 ) -> Result<Ending, WriteFault>
-    ensures { IfOk result (Lists MAX_TABLES (R.remaining reader.old) (W.contents writer.old) (W.contents writer.new)) }
+    ensures { IfOk result (Lists MAX_TABLES (R.remaining reader.old) (W.contents writer.old)
+        (W.contents writer.new)) }
 {
     list(alloc, reader, writer, &Lines)
 }
@@ -38,7 +39,8 @@ pub fn list<R: Read, W: Write, T: Telling>(
     telling: &T,
 ) -> Result<Ending, WriteFault>
     ensures { IfOk result
-        (Tells (T.tells telling.now) MAX_TABLES (R.remaining reader.old) (W.contents writer.old) (W.contents writer.new)) }
+        (Tells (T.tells telling.now) MAX_TABLES (R.remaining reader.old) (W.contents writer.old)
+        (W.contents writer.new)) }
 {
     let ending = list_unflushed(alloc, reader, writer, telling)?;
     writer.flush()?;
@@ -65,7 +67,8 @@ fn list_unflushed<R: Read, W: Write, T: Telling>(
     telling: &T,
 ) -> Result<Ending, WriteFault>
     ensures { IfOk result
-        (Tells (T.tells telling.now) MAX_TABLES (R.remaining reader.old) (W.contents writer.old) (W.contents writer.new)) }
+        (Tells (T.tells telling.now) MAX_TABLES (R.remaining reader.old) (W.contents writer.old)
+        (W.contents writer.new)) }
 {
     match LineReader::new(alloc, reader) {
         Ok(mut lines) => list_moves(alloc, &mut lines, writer, telling),
@@ -81,7 +84,8 @@ fn list_moves<R: Read, W: Write, T: Telling>(
     telling: &T,
 ) -> Result<Ending, WriteFault>
     ensures { IfOk result
-        (TellsLines (T.tells telling.now) MAX_TABLES lines.old (W.contents writer.old) (W.contents writer.new)) }
+        (TellsLines (T.tells telling.now) MAX_TABLES lines.old (W.contents writer.old)
+        (W.contents writer.new)) }
 {
     let Some(schema) = Schema::new(MAX_TABLES) else {
         unreachable!()
@@ -100,7 +104,8 @@ fn tell<W: Write, T: Telling>(
     recon: &Recon,
 ) -> Result<Ending, WriteFault>
     ensures { IfOk result
-        (TellsOrRefuses (T.tells telling.now) recon.now (W.contents writer.old) (W.contents writer.new)) }
+        (TellsOrRefuses (T.tells telling.now) recon.now (W.contents writer.old)
+        (W.contents writer.new)) }
 {
     match telling.tell(alloc, writer, recon)? {
         Told::Written => Ok(Ending::Done),

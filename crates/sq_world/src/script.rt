@@ -28,7 +28,8 @@ pub(crate) fn run_script<R: Read, W: Write>(
     manner: ScriptManner,
 ) -> Result<Ending, WriteFault>
     ensures { IfOk result
-        (RunsScript manner schema.now world.old lines.old (W.contents writer.old) (W.contents writer.new)) }
+        (RunsScript manner schema.now world.old lines.old (W.contents writer.old)
+        (W.contents writer.new)) }
 {
     loop {
         let line = lines.next_line_number();
@@ -87,7 +88,8 @@ fn ending_at(stop: Option<u16>, line: u32) -> Ending
 // Writes the dump, which ends the run so.
 fn end<W: Write>(world: &World, writer: &mut W, ending: Ending) -> Result<Ending, WriteFault>
     ensures ending { IfOk result (λ ended. ended ≡ ending) }
-    ensures dumped { OnOk result (Appends (W.contents writer.old) (W.contents writer.new) (dump world.now)) }
+    ensures dumped { OnOk result (Appends (W.contents writer.old) (W.contents writer.new)
+        (dump world.now)) }
 {
     world.write_dump(writer)?;
     Ok(ending)

@@ -24,5 +24,6 @@ pub trait Telling {
 
     /// Writes its text of a reconfiguration, and gives whether there was memory for it. An error is the writer's.
     fn tell<W: Write>(&self, alloc: Global, writer: &mut W, recon: &Recon) -> io::Result<Told>
-        ensures { IfOk result (IsTold (tells self.now) recon.now (W.contents writer.old) (W.contents writer.new)) };
+        ensures { IfOk result (IsTold (tells self.now) recon.now (W.contents writer.old)
+            (W.contents writer.new)) };
 }

@@ -17,7 +17,8 @@ pub fn explanation<W: Write>(
     number: Option<u16>,
     is_closed: &Cell<bool>,
 ) -> u8
-    ensures { EndsAs (Explains number (W.contents writer.old) (W.contents writer.new)) explain_status result }
+    ensures { EndsAs (Explains number (W.contents writer.old)
+        (W.contents writer.new)) explain_status result }
 {
     let told = explain(writer, number).map_err(WriteFault::from);
     explain_told(rt, told, number, is_closed.get());

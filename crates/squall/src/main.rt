@@ -82,7 +82,8 @@ where
     // file can't be read, or is one that the task would write.
     fn carry_out<R: Read, W: Write>(&self, reader: &mut R, writer: &mut W) -> u8
         requires { IsWithin self.now.task }
-        ensures { EndsInput self.now.task self.now.input (R.remaining reader.old) (W.contents writer.old) (W.contents writer.new) result }
+        ensures { EndsInput self.now.task self.now.input (R.remaining reader.old)
+            (W.contents writer.old) (W.contents writer.new) result }
     {
         if let Some(status) = refuse_outputs(self.rt, self.task, self.input) {
             return status;
@@ -101,7 +102,8 @@ where
     // plans or of the rows can't be read.
     fn work_on_parts<R: Read + Drop, W: Write>(&self, main: R, writer: &mut W) -> u8
         requires { IsWithin self.now.task }
-        ensures { EndsParts self.now.task self.now.input.plans (R.remaining main) (W.contents writer.old) (W.contents writer.new) result }
+        ensures { EndsParts self.now.task self.now.input.plans (R.remaining main)
+            (W.contents writer.old) (W.contents writer.new) result }
     {
         let rows = Cell::new(None);
         let records = RecordLines::new(self.rt.alloc());
@@ -139,7 +141,8 @@ where
         writer: &mut W,
     ) -> u8
         requires { IsWithin self.now.task }
-        ensures { EndsWithRows self.now.task lines.now (M.remaining main) (W.contents writer.old) (W.contents writer.new) result }
+        ensures { EndsWithRows self.now.task lines.now (M.remaining main) (W.contents writer.old)
+            (W.contents writer.new) result }
     {
         if !is_table(name) {
             let behind = Inserting::new(main, RowLines::new(file), source.rows);
@@ -157,7 +160,8 @@ where
     // Does the task with what a reader gives, which comes from there, and gives the exit status.
     fn work<R: Read + Drop, W: Write>(&self, source: &Source<'_>, reader: R, writer: &mut W) -> u8
         requires { IsWithin self.now.task }
-        ensures { EndsTask self.now.task (R.remaining reader) (W.contents writer.old) (W.contents writer.new) result }
+        ensures { EndsTask self.now.task (R.remaining reader) (W.contents writer.old)
+            (W.contents writer.new) result }
     {
         let rt = self.rt;
         // A faulty line is looked at once more.
@@ -225,7 +229,8 @@ fn obey<
 where
     T::File: Send + 'static,
     T::Reader: Send + 'static,
-    ensures { EndsWith (map S.text words.now) (R.remaining reader.old) (W.contents writer.old) (W.contents writer.new) result }
+    ensures { EndsWith (map S.text words.now) (R.remaining reader.old) (W.contents writer.old)
+        (W.contents writer.new) result }
 {
     match line_of(rt.alloc(), words) {
         Ok(Line::Work { task, input }) => {
@@ -282,7 +287,8 @@ fn obey_buffered<
 where
     T::File: Send + 'static,
     T::Reader: Send + 'static,
-    ensures { EndsBuffered (map S.text words.now) (R.remaining reader.old) (W.contents writer) result }
+    ensures { EndsBuffered (map S.text words.now) (R.remaining reader.old)
+        (W.contents writer) result }
 {
     let is_closed = Cell::new(false);
     let output = PipeEnd::new(writer, &is_closed);

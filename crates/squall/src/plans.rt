@@ -15,7 +15,8 @@ pub fn lines_of_plans<T: Print + Eprint + Files + AllocGlobal>(
     rt: &T,
     plans: Plans<'_>,
 ) -> Result<Vec<u8>, u8>
-    ensures { MatchResult result (λ lines. (old : List ℕ) × (new : List ℕ) × (lines.items ≡ plan_lines old new)) (λ status. status ≡ 2) }
+    ensures { MatchResult result (λ lines. (old : List ℕ) × (new : List ℕ)
+        × (lines.items ≡ plan_lines old new)) (λ status. status ≡ 2) }
 {
     let old = text_of(rt, plans.old)?;
     let new = text_of(rt, plans.new)?;

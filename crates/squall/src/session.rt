@@ -42,7 +42,8 @@ pub fn script<T: Eprint + Files + AllocGlobal, R: Read, W: Write>(
     source: &Source<'_>,
 ) -> u8
     ensures { EndsAs
-        (Runs manner MAX_TABLES (recalling_remaining R.remaining reader.old) (W.contents writer.old) (W.contents writer.new))
+        (Runs manner MAX_TABLES (recalling_remaining R.remaining reader.old) (W.contents writer.old)
+        (W.contents writer.new))
         exit_status result }
 {
     let mut world = None;
@@ -96,7 +97,8 @@ pub fn listing<T: Eprint + Files + AllocGlobal, R: Read, W: Write>(
     source: &Source<'_>,
 ) -> u8
     ensures { EndsAs
-        (ListsAs form sizes (recalling_remaining R.remaining reader.old) (W.contents writer.old) (W.contents writer.new))
+        (ListsAs form sizes (recalling_remaining R.remaining reader.old) (W.contents writer.old)
+        (W.contents writer.new))
         exit_status result }
 {
     let listed = if sizes {

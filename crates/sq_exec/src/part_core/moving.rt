@@ -83,7 +83,8 @@ impl<S: FamilyStore> PartCore<S> {
     /// Takes the chunk for a partition that isn't sent; `None` where there is none.
     pub fn take_outbox(&mut self, dst: PartId) -> Option<Chunk>
         ensures chunk { result ≡ (out_at self.old.core dst).outbox }
-        ensures core { self.new.core ≡ with_out self.old.core dst (record (out_at self.old.core dst) { outbox = None }) }
+        ensures core { self.new.core ≡ with_out self.old.core dst
+            (record (out_at self.old.core dst) { outbox = None }) }
         ensures room { self.new.has_room ≡ self.old.has_room }
         ensures numbering { self.new.numbering ≡ self.old.numbering }
     {
@@ -98,7 +99,8 @@ impl<S: FamilyStore> PartCore<S> {
     pub fn put_outbox(&mut self, dst: PartId, chunk: Chunk)
         requires exists { dst < length self.old.core.outs }
         requires empty { (out_at self.old.core dst).outbox ≡ None }
-        ensures core { self.new.core ≡ with_out self.old.core dst (record (out_at self.old.core dst) { outbox = Some chunk }) }
+        ensures core { self.new.core ≡ with_out self.old.core dst
+            (record (out_at self.old.core dst) { outbox = Some chunk }) }
         ensures room { self.new.has_room ≡ self.old.has_room }
         ensures numbering { self.new.numbering ≡ self.old.numbering }
     {
@@ -137,7 +139,8 @@ impl<S: FamilyStore> PartCore<S> {
     /// Loads the chunk that came from a partition: all its families, or where there is no memory none. Refused with
     /// [`LoadFault::InboxEmpty`] where none came. A refusal leaves all as it was.
     pub fn load(&mut self, src: PartId) -> Result<Note, LoadFault>
-        requires { (chunk : ChunkValue) → inbox_at self.old.core src ≡ Some chunk → IsTrue (can_load self.old.core src chunk) }
+        requires { (chunk : ChunkValue) → inbox_at self.old.core src ≡ Some chunk
+            → IsTrue (can_load self.old.core src chunk) }
         ensures ok { IfOk result (λ note. LoadsFrom self.old.core src note self.new.core) }
         ensures refusal { IfErr result (λ fault. fault ≡ load_fault self.old.core src) }
         ensures err { OnErr result (self.new.core ≡ self.old.core) }
@@ -217,13 +220,16 @@ fn reserve_work(outs: &mut [OutLink]) -> Result<(), AllocError>
 
 // Gives the families of the chunk in an inbox to the store. Where there is no memory the chunk stays.
 fn give<S: FamilyStore>(store: &mut S, inbox: &mut Option<Chunk>) -> Result<Note, LoadFault>
-    requires { (chunk : ChunkValue) → inbox.old ≡ Some chunk → IsTrue (has_none_of (S.contents store.old) chunk.families) }
+    requires { (chunk : ChunkValue) → inbox.old ≡ Some chunk
+        → IsTrue (has_none_of (S.contents store.old) chunk.families) }
     ensures ok { IfOk result (λ note. (families : List FamilyValue)
         × (inbox.old ≡ Some (record { note = note; families = families }))
         × (inbox.new ≡ None)
         × (S.contents store.new ≡ with_families (S.contents store.old) families)) }
-    ensures refusal { IfErr result (λ fault. fault ≡ (if is_some inbox.old then LoadFault.Memory else LoadFault.InboxEmpty)) }
-    ensures err { OnErr result ((inbox.new ≡ inbox.old) × (S.contents store.new ≡ S.contents store.old)) }
+    ensures refusal { IfErr result (λ fault. fault
+        ≡ (if is_some inbox.old then LoadFault.Memory else LoadFault.InboxEmpty)) }
+    ensures err { OnErr result ((inbox.new ≡ inbox.old)
+        × (S.contents store.new ≡ S.contents store.old)) }
 {
     let Some(chunk) = inbox.take() else {
         return Err(LoadFault::InboxEmpty);

@@ -30,8 +30,10 @@ struct Places {
 impl<S: FamilyStore> PartCore<S> {
     /// A partition before the move, with these families. Where there is no memory they come back.
     pub fn open(alloc: Global, opening: &Opening, part: PartId, store: S) -> Result<PartCore<S>, S>
-        ensures ok { IfOk result (λ opened. opened.core ≡ opened_core opening.now part (S.contents store)) }
-        ensures numbering { IfOk result (λ opened. opened.numbering ≡ record { numbers = []; next = 0 }) }
+        ensures ok { IfOk result (λ opened. opened.core
+            ≡ opened_core opening.now part (S.contents store)) }
+        ensures numbering { IfOk result (λ opened. opened.numbering
+            ≡ record { numbers = []; next = 0 }) }
         ensures store_returned { IfErr result (λ back. S.contents back ≡ S.contents store) }
     {
         PartCore::open_at(alloc, opening, part, store, 0)
@@ -46,8 +48,10 @@ impl<S: FamilyStore> PartCore<S> {
         store: S,
         next: u64,
     ) -> Result<PartCore<S>, S>
-        ensures ok { IfOk result (λ opened. opened.core ≡ opened_core opening.now part (S.contents store)) }
-        ensures numbering { IfOk result (λ opened. opened.numbering ≡ record { numbers = []; next = next }) }
+        ensures ok { IfOk result (λ opened. opened.core
+            ≡ opened_core opening.now part (S.contents store)) }
+        ensures numbering { IfOk result (λ opened. opened.numbering
+            ≡ record { numbers = []; next = next }) }
         ensures store_returned { IfErr result (λ back. S.contents back ≡ S.contents store) }
     {
         let Ok(places) = Places::new(alloc, opening) else {
@@ -78,8 +82,10 @@ impl<S: FamilyStore> PartCore<S> {
         stage: u64,
         store: S,
     ) -> Result<PartCore<S>, S>
-        ensures ok { IfOk result (λ opened. opened.core ≡ entered_core stage (opened_core opening.now part (S.contents store))) }
-        ensures numbering { IfOk result (λ opened. opened.numbering ≡ record { numbers = []; next = 0 }) }
+        ensures ok { IfOk result (λ opened. opened.core
+            ≡ entered_core stage (opened_core opening.now part (S.contents store))) }
+        ensures numbering { IfOk result (λ opened. opened.numbering
+            ≡ record { numbers = []; next = 0 }) }
         ensures store_returned { IfErr result (λ back. S.contents back ≡ S.contents store) }
     {
         let mut opened = PartCore::open(alloc, opening, part, store)?;
@@ -93,10 +99,14 @@ impl Places {
     fn new(alloc: Global, opening: &Opening) -> Result<Places, AllocError>
         ensures plan { IfOk result (λ places. places.plan ≡ opening.now.old) }
         ensures recon { IfOk result (λ places. places.recon ≡ opening.now.recon) }
-        ensures outs { IfOk result (λ places. map (λ out. out.link) places.outs.items ≡ replicate opening.now.old.parts new_out_link) }
-        ensures inboxes { IfOk result (λ places. places.inboxes.items ≡ replicate opening.now.old.parts None) }
-        ensures given_up { IfOk result (λ places. places.given_up.items ≡ replicate (length opening.now.recon.segments) none_given_up) }
-        ensures ends { IfOk result (λ _. list_all (has_ends opening.now.old.parts) opening.now.recon.segments ≡ true) }
+        ensures outs { IfOk result (λ places. map (λ out. out.link) places.outs.items
+            ≡ replicate opening.now.old.parts new_out_link) }
+        ensures inboxes { IfOk result (λ places. places.inboxes.items
+            ≡ replicate opening.now.old.parts None) }
+        ensures given_up { IfOk result (λ places. places.given_up.items
+            ≡ replicate (length opening.now.recon.segments) none_given_up) }
+        ensures ends { IfOk result (λ _. list_all
+            (has_ends opening.now.old.parts) opening.now.recon.segments ≡ true) }
         ensures loaded { IfOk result (λ places. map (λ runs. runs.items) places.loaded.items
             ≡ replicate (length opening.now.recon.segments) []) }
     {
@@ -115,7 +125,8 @@ impl Places {
 
 // The ends of this many links that nothing was begun for.
 fn out_links(alloc: Global, count: usize) -> Result<Vec<OutLink>, AllocError>
-    ensures { IfOk result (λ outs. map (λ out. out.link) outs.items ≡ replicate count new_out_link) }
+    ensures { IfOk result (λ outs. map (λ out. out.link) outs.items
+        ≡ replicate count new_out_link) }
 {
     let mut outs = Vec::new(alloc);
     for _made in 0..count {

@@ -25,10 +25,13 @@ impl<S: FamilyStore> PartCore<S> {
         ensures refused { MatchResult result
             (λ _. submit_refusal self.old.core txn.now ≡ None)
             (λ fault. fault ≡ unwrap_or (submit_refusal self.old.core txn.now) SubmitFault.Memory) }
-        ensures memory { result ≡ Err SubmitFault.Memory → IsTrue (submit_takes_memory self.old.core txn.now) }
-        ensures ok { IfOk result (λ outcome. IsTaken (must_wait self.old.core txn.now.root) self.old.core txn.now outcome self.new.core) }
+        ensures memory { result ≡ Err SubmitFault.Memory
+            → IsTrue (submit_takes_memory self.old.core txn.now) }
+        ensures ok { IfOk result (λ outcome. IsTaken
+            (must_wait self.old.core txn.now.root) self.old.core txn.now outcome self.new.core) }
         ensures err { OnErr result (self.new.core ≡ self.old.core) }
-        ensures numbered { IfOk result (λ outcome. self.new.numbering ≡ numbered outcome self.old.numbering) }
+        ensures numbered { IfOk result (λ outcome. self.new.numbering
+            ≡ numbered outcome self.old.numbering) }
         ensures same_numbers { OnErr result (self.new.numbering ≡ self.old.numbering) }
         ensures room { self.new.has_room ≡ self.old.has_room }
     {
@@ -52,7 +55,8 @@ impl<S: FamilyStore> PartCore<S> {
         ensures refused { MatchResult result
             (λ _. resume_refusal self.old.core ≡ None)
             (λ fault. fault ≡ unwrap_or (resume_refusal self.old.core) ResumeFault.Memory) }
-        ensures memory { result ≡ Err ResumeFault.Memory → IsTrue (resume_takes_memory self.old.core) }
+        ensures memory { result ≡ Err ResumeFault.Memory
+            → IsTrue (resume_takes_memory self.old.core) }
         ensures ok { IfOk result (λ resumed. IsResumed self.old.core resumed self.new.core) }
         ensures err { OnErr result (self.new.core ≡ self.old.core) }
         ensures number { OnOk result (TakesNumber self.old self.new) }
@@ -144,9 +148,11 @@ impl<S: FamilyStore> PartCore<S> {
         ensures refused { MatchResult result
             (λ _. submit_refusal self.old.core txn.now ≡ None)
             (λ fault. fault ≡ unwrap_or (submit_refusal self.old.core txn.now) SubmitFault.Memory) }
-        ensures ok { IfOk result (λ outcome. IsMadeToWait self.old.core txn.now outcome self.new.core) }
+        ensures ok { IfOk result
+            (λ outcome. IsMadeToWait self.old.core txn.now outcome self.new.core) }
         ensures err { OnErr result (self.new.core ≡ self.old.core) }
-        ensures numbered { IfOk result (λ outcome. self.new.numbering ≡ numbered outcome self.old.numbering) }
+        ensures numbered { IfOk result (λ outcome. self.new.numbering
+            ≡ numbered outcome self.old.numbering) }
         ensures same_numbers { OnErr result (self.new.numbering ≡ self.old.numbering) }
         ensures room { self.new.has_room ≡ self.old.has_room }
     {
@@ -169,7 +175,8 @@ impl<S: FamilyStore> PartCore<S> {
         ensures ready { IfOk result (λ _. is_ready_here self.now.core txn.now ≡ true) }
         ensures goes { IfOk result (λ who. who ≡ route self.now.core txn.now.root) }
         ensures stays { IfErr result (λ _. is_ready_here self.now.core txn.now ≡ false) }
-        ensures why { IfErr result (λ fault. fault ≡ stays_by (is_coming_here self.now.core txn.now.root)) }
+        ensures why { IfErr result (λ fault. fault
+            ≡ stays_by (is_coming_here self.now.core txn.now.root)) }
     {
         let root = txn.root();
         let found = self.location(root);
@@ -220,10 +227,13 @@ fn serve<S: FamilyStore>(
     who: PartId,
     txn: &Txn,
 ) -> Result<Outcome, ApplyFault>
-    ensures full { IsErrOf result ApplyFault.LogFull ↔ IsTrue (is_stuck here who (S.contents store.old) txn.now) }
+    ensures full { IsErrOf result ApplyFault.LogFull
+        ↔ IsTrue (is_stuck here who (S.contents store.old) txn.now) }
     ensures runs { OnErr result (who ≡ here) }
-    ensures outcome { IfOk result (λ outcome. outcome ≡ (served here who (S.contents store.old) txn.now).0) }
-    ensures store { IfOk result (λ _. S.contents store.new ≡ (served here who (S.contents store.old) txn.now).1) }
+    ensures outcome { IfOk result (λ outcome. outcome
+        ≡ (served here who (S.contents store.old) txn.now).0) }
+    ensures store { IfOk result (λ _. S.contents store.new
+        ≡ (served here who (S.contents store.old) txn.now).1) }
     ensures err { OnErr result (S.contents store.new ≡ S.contents store.old) }
 {
     if who == here {

@@ -33,7 +33,8 @@ impl Fabric {
         pumps: u32,
     ) -> Result<(Fabric, Vec<Node>, Vec<Pump>), AllocError>
         requires { pumps ≤ MAX_PUMPS }
-        ensures { IfOk result (λ opened. IsOpened opening.now pumps opened.0 opened.1.items opened.2.items) }
+        ensures { IfOk result
+            (λ opened. IsOpened opening.now pumps opened.0 opened.1.items opened.2.items) }
     {
         let stores = open_stores(alloc, opening)?;
         open_with(alloc, opening, stores, pumps)
@@ -47,7 +48,8 @@ impl Fabric {
         pumps: u32,
     ) -> Result<(Fabric, Vec<Node>, Vec<Pump>), AllocError>
         requires { pumps ≤ MAX_PUMPS }
-        ensures { IfOk result (λ opened. IsOpened opening.now pumps opened.0 opened.1.items opened.2.items) }
+        ensures { IfOk result
+            (λ opened. IsOpened opening.now pumps opened.0 opened.1.items opened.2.items) }
     {
         let stores = open_stores_in_threads(rt, alloc, opening)?;
         open_with(alloc, opening, stores, pumps)
@@ -122,7 +124,8 @@ fn open_with(
     requires stores { stores.items ≡ opened_stores opening.now }
     requires owned { HaveOwned opening.now }
     requires pumps { pumps ≤ MAX_PUMPS }
-    ensures { IfOk result (λ opened. IsOpened opening.now pumps opened.0 opened.1.items opened.2.items) }
+    ensures { IfOk result
+        (λ opened. IsOpened opening.now pumps opened.0 opened.1.items opened.2.items) }
 {
     match open_run(alloc, opening, FIRST_STAGE, stores, pumps) {
         Ok((fabric, nodes, pumps)) => Ok((fabric, nodes, pumps)),
@@ -141,7 +144,8 @@ pub(super) fn open_run(
 ) -> Result<(Fabric, Vec<Node>, Vec<Pump>), Vec<RunStore>>
     requires stores { length stores.items ≡ opening.now.old.parts }
     requires pumps { pumps ≤ MAX_PUMPS }
-    ensures run { IfOk result (λ run. IsReopened opening.now stage stores.items [] pumps run.0 run.1.items run.2.items) }
+    ensures run { IfOk result
+        (λ run. IsReopened opening.now stage stores.items [] pumps run.0 run.1.items run.2.items) }
     ensures back { IfErr result (λ back. back.items ≡ stores.items) }
 {
     let Ok((mut fabric, mut ends)) = open_fabric(alloc, opening, stage) else {
@@ -220,7 +224,8 @@ fn stage_links(
     stage: u64,
     links: &[Link],
 ) -> Result<Vec<Link>, AllocError>
-    ensures { IfOk result (λ kept. kept.items ≡ filter (λ link. stage_on recon.now link.src link.dst == stage) links.now) }
+    ensures { IfOk result (λ kept. kept.items
+        ≡ filter (λ link. stage_on recon.now link.src link.dst == stage) links.now) }
 {
     links
         .iter()

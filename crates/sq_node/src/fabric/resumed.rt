@@ -47,10 +47,12 @@ impl Fabric {
         pumps: u32,
     ) -> Result<(Fabric, Vec<Node>, Vec<Pump>), Unresumed>
         requires { pumps ≤ MAX_PUMPS }
-        ensures run { IfOk result (λ run. IsReopened opening.now stage stores.items receipts.items pumps run.0 run.1.items run.2.items) }
+        ensures run { IfOk result (λ run. IsReopened opening.now stage stores.items receipts.items
+            pumps run.0 run.1.items run.2.items) }
         ensures holds { IfOk result (λ run. (table : TableValue)
             → AllHoldAsBegun (folded_opening opening.now table) run.0 stores.items run.1.items) }
-        ensures fits { OnOk result (HasStageFor opening.now stage (length stores.items) (length left.items)) }
+        ensures fits { OnOk result (HasStageFor opening.now stage (length stores.items)
+            (length left.items)) }
         ensures stores { IfErr result (λ back. back.stores.items ≡ stores.items) }
         ensures left { IfErr result (λ back. back.left.items ≡ left.items) }
         ensures receipts { IfErr result (λ back. back.receipts.items ≡ receipts.items) }

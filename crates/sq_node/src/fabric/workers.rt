@@ -67,11 +67,14 @@ pub(super) fn open_nodes(
 ) -> Result<Vec<Node>, AllocError>
     requires fabric { IsFabricOf opening.now fabric.old }
     requires stores { length stores.old.items ≤ opening.now.old.parts }
-    requires sends { (part : ℕ) → part < length stores.old.items → HasEnds src_of fabric.old.links ends.old.sends.items part }
-    requires recvs { (part : ℕ) → part < length stores.old.items → HasEnds dst_of fabric.old.links ends.old.recvs.items part }
+    requires sends { (part : ℕ) → part < length stores.old.items
+        → HasEnds src_of fabric.old.links ends.old.sends.items part }
+    requires recvs { (part : ℕ) → part < length stores.old.items
+        → HasEnds dst_of fabric.old.links ends.old.recvs.items part }
     ensures same { fabric.new ≡ record fabric.old { seats = fabric.new.seats } }
     ensures seats { OnOk result (GivesOut (length stores.old.items) fabric.old fabric.new) }
-    ensures nodes { IfOk result (λ nodes. AreNewNodes opening.now fabric.new stores.old.items nodes.items) }
+    ensures nodes { IfOk result
+        (λ nodes. AreNewNodes opening.now fabric.new stores.old.items nodes.items) }
     ensures room { IfOk result (λ nodes. opening.now.old.parts ≤ vec_capacity nodes) }
     ensures back { OnErr result (stores.new.items ≡ stores.old.items) }
     ensures capacity { vec_capacity stores.new ≡ vec_capacity stores.old }
@@ -115,9 +118,12 @@ fn open_node(
     requires recvs { HasEnds dst_of fabric.old.links ends.old.recvs.items part }
     ensures same { fabric.new ≡ record fabric.old { seats = fabric.new.seats } }
     ensures gave { OnOk result (GaveEach fabric.old.seats fabric.new.seats) }
-    ensures node { IfOk result (IsNewNode fabric.old (running_core opening.now fabric.old.stage part store)) }
-    ensures sends { OnOk result (LeavesEnds src_of fabric.old.links ends.old.sends.items part ends.new.sends.items) }
-    ensures recvs { OnOk result (LeavesEnds dst_of fabric.old.links ends.old.recvs.items part ends.new.recvs.items) }
+    ensures node { IfOk result (IsNewNode fabric.old
+        (running_core opening.now fabric.old.stage part store)) }
+    ensures sends { OnOk result (LeavesEnds src_of fabric.old.links ends.old.sends.items part
+        ends.new.sends.items) }
+    ensures recvs { OnOk result (LeavesEnds dst_of fabric.old.links ends.old.recvs.items part
+        ends.new.recvs.items) }
     ensures back { IfErr result (λ back. back ≡ store) }
 {
     let Ok(place) = open_place(alloc, fabric, ends, part) else {
@@ -139,11 +145,16 @@ fn open_place(
     ensures same { fabric.new ≡ record fabric.old { seats = fabric.new.seats } }
     ensures gave { OnOk result (GaveEach fabric.old.seats fabric.new.seats) }
     ensures seats { IfOk result (λ place. AreNewSeats fabric.old.trees place.seats.items) }
-    ensures sends { IfOk result (λ place. AreNewEnds src_of dst_of fabric.old.links fabric.old.parts part place.sends.items) }
-    ensures recvs { IfOk result (λ place. AreNewEnds dst_of src_of fabric.old.links fabric.old.parts part place.recvs.items) }
-    ensures flags { IfOk result (λ place. place.complete.items ≡ replicate (length fabric.old.recon.segments) false) }
-    ensures left_sends { OnOk result (LeavesEnds src_of fabric.old.links ends.old.sends.items part ends.new.sends.items) }
-    ensures left_recvs { OnOk result (LeavesEnds dst_of fabric.old.links ends.old.recvs.items part ends.new.recvs.items) }
+    ensures sends { IfOk result (λ place.
+        AreNewEnds src_of dst_of fabric.old.links fabric.old.parts part place.sends.items) }
+    ensures recvs { IfOk result (λ place.
+        AreNewEnds dst_of src_of fabric.old.links fabric.old.parts part place.recvs.items) }
+    ensures flags { IfOk result (λ place. place.complete.items
+        ≡ replicate (length fabric.old.recon.segments) false) }
+    ensures left_sends { OnOk result
+        (LeavesEnds src_of fabric.old.links ends.old.sends.items part ends.new.sends.items) }
+    ensures left_recvs { OnOk result
+        (LeavesEnds dst_of fabric.old.links ends.old.recvs.items part ends.new.recvs.items) }
 {
     let seats = fabric.share_seats(alloc)?;
     let parts = fabric.parts();

@@ -42,7 +42,8 @@ impl Node {
     // The first partition for which a chunk can be cut.
     fn next_cut(&self) -> Option<PartId>
         ensures some { IfSome result (λ dst. may_cut (out_at self.now.core dst) ≡ true) }
-        ensures first { IfSome result (λ dst. (lower : ℕ) → lower < dst → HasNoneToCut self.now.core lower) }
+        ensures first { IfSome result (λ dst. (lower : ℕ) → lower < dst
+            → HasNoneToCut self.now.core lower) }
         ensures none { IfNone result ((dst : ℕ) → HasNoneToCut self.now.core dst) }
     {
         for number in 0..self.core.parts() {
@@ -71,7 +72,8 @@ impl Node {
     fn send_to<R: Wait>(&mut self, rt: &R, fabric: &Fabric, dst: PartId) -> bool
         requires node { IsNodeOf fabric.now self.old }
         requires part { dst < fabric.now.parts }
-        ensures { MatchBool result (SendsChunk self.old dst self.new) ((self.new ≡ self.old) × HasNoneToSend fabric.now self.old dst) }
+        ensures { MatchBool result (SendsChunk self.old dst self.new) ((self.new ≡ self.old)
+            × HasNoneToSend fabric.now self.old dst) }
     {
         if self.core.outbox(dst).is_none() {
             return false;
@@ -105,7 +107,8 @@ impl Node {
     fn recv_from<R: Wait>(&mut self, rt: &R, fabric: &Fabric, src: PartId) -> bool
         requires node { IsNodeOf fabric.now self.old }
         requires part { src < fabric.now.parts }
-        ensures { MatchBool result (Receives self.old src self.new) ((self.new ≡ self.old) × HasNoneToReceive self.old src) }
+        ensures { MatchBool result (Receives self.old src self.new) ((self.new ≡ self.old)
+            × HasNoneToReceive self.old src) }
     {
         if self.core.inbox(src).is_some() {
             return false;
@@ -143,7 +146,8 @@ impl Node {
     fn next_load(&self, fabric: &Fabric) -> Option<PartId>
         requires { IsNodeOf fabric.now self.now }
         ensures some { IfSome result (λ src. may_load_now self.now.core src ≡ true) }
-        ensures first { IfSome result (λ src. (lower : ℕ) → lower < src → may_load_now self.now.core lower ≡ false) }
+        ensures first { IfSome result (λ src. (lower : ℕ) → lower < src
+            → may_load_now self.now.core lower ≡ false) }
         ensures chunk { IfSome result (λ src. IfSome (inbox_at self.now.core src) IsChunk) }
         ensures chunks { IfNone result ((src : ℕ) → IfSome (inbox_at self.now.core src) IsChunk) }
         ensures each { length self.now.core.loaded ≡ length self.now.core.recon.segments }

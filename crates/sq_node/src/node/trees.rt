@@ -117,7 +117,8 @@ fn begin(
     ensures { MatchBool result
         (StepsAt at.seg (λ v w. Won v at.node (Partial pull) w) seats.old.items seats.new.items
         × (core.new.core ≡ begun_core core.old.core at.seg at.node pull))
-        (StepsAt at.seg OnlyLooked seats.old.items seats.new.items × (core.new.core ≡ core.old.core)) }
+        (StepsAt at.seg OnlyLooked seats.old.items seats.new.items
+        × (core.new.core ≡ core.old.core)) }
 {
     if !begin_at(trees, seats, &at, pull) {
         return false;
@@ -132,7 +133,8 @@ fn begin_at(trees: &[StatusTree], seats: &mut Vec<TreeSeat>, at: &TreeNode, pull
     requires segment { at.now.seg < length trees.now }
     ensures seats { AreSeatsOf trees.now seats.new.items }
     ensures step { MatchBool result
-        (StepsAt at.now.seg (λ v w. Won v at.now.node (Partial pull) w) seats.old.items seats.new.items)
+        (StepsAt at.now.seg (λ v w. Won v at.now.node
+        (Partial pull) w) seats.old.items seats.new.items)
         (StepsAt at.now.seg OnlyLooked seats.old.items seats.new.items) }
 {
     let index = at.seg.index();
@@ -178,7 +180,8 @@ fn complete_at(trees: &[StatusTree], seats: &mut Vec<TreeSeat>, at: TreeNode) ->
 fn complete(tree: &StatusTree, seat: &mut TreeSeat, node: NodeId) -> bool
     requires { seat.old.tree ≡ tree.now }
     ensures seat { IsSameSeat seat.old seat.new }
-    ensures step { MatchBool result (LooksAndCompletes seat.old.view node seat.new.view) (LooksOnly seat.old.view node seat.new.view) }
+    ensures step { MatchBool result (LooksAndCompletes seat.old.view node seat.new.view)
+        (LooksOnly seat.old.view node seat.new.view) }
 {
     let Status::Partial(pull) = tree.look(seat, node) else {
         return false;

@@ -88,7 +88,8 @@ impl Node {
     // Whether no transaction waits here and each job that was posted is answered. Before the last stage this isn't
     // asked: what is left continues in the next one.
     fn has_answered(&self, fabric: &Fabric) -> bool
-        ensures { IsTrue result → stages fabric.now.recon ≤ fabric.now.stage + 1 → self.now.core.waiting ≡ [] }
+        ensures { IsTrue result → stages fabric.now.recon ≤ fabric.now.stage + 1
+            → self.now.core.waiting ≡ [] }
     {
         !fabric.is_last_stage() || (fabric.is_answered() && !self.core.has_waiting())
     }
@@ -138,8 +139,10 @@ fn see_all_complete(
     requires flags { length complete.old.items ≡ length fabric.now.recon.segments }
     ensures looked { SeatsLooked seats.old.items seats.new.items }
     ensures flags { length complete.new.items ≡ length complete.old.items }
-    ensures seen { AreSeen seats.old.items complete.old.items → AreSeen seats.new.items complete.new.items }
-    ensures complete { IsTrue result → AreFlagged fabric.now.recon fabric.now.stage part complete.new.items }
+    ensures seen { AreSeen seats.old.items complete.old.items
+        → AreSeen seats.new.items complete.new.items }
+    ensures complete { IsTrue result
+        → AreFlagged fabric.now.recon fabric.now.stage part complete.new.items }
 {
     let trees = fabric.trees();
     let segments = fabric.recon().segments();
@@ -175,9 +178,11 @@ pub(super) fn see_complete_at(
     ensures seats { AreSeatsOf trees.now seats.new.items }
     ensures looked { StepsAt at OnlyLooked seats.old.items seats.new.items }
     ensures flags { length complete.new.items ≡ length complete.old.items }
-    ensures seen { AreSeen seats.old.items complete.old.items → AreSeen seats.new.items complete.new.items }
+    ensures seen { AreSeen seats.old.items complete.old.items
+        → AreSeen seats.new.items complete.new.items }
     ensures set { IsTrue result → slice_get complete.new.items at ≡ Some true }
-    ensures kept { (seg : ℕ) → slice_get complete.old.items seg ≡ Some true → slice_get complete.new.items seg ≡ Some true }
+    ensures kept { (seg : ℕ) → slice_get complete.old.items seg ≡ Some true
+        → slice_get complete.new.items seg ≡ Some true }
 {
     let reads = read_complete_at(trees, seats, at);
     if reads {

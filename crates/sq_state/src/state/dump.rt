@@ -21,7 +21,8 @@ impl State {
     /// Writes the phase, each partition with its families, and each link with what is under way on it.
     pub fn write_dump<W: Write>(&self, writer: &mut W) -> Result<(), WriteFault>
         requires { IsSound self.now }
-        ensures { OnOk result (Appends (W.contents writer.old) (W.contents writer.new) (dump self.now)) }
+        ensures { OnOk result (Appends (W.contents writer.old) (W.contents writer.new)
+            (dump self.now)) }
     {
         write_end(writer, self.phase())?;
         self.write_parts(writer)?;
@@ -54,7 +55,8 @@ impl State {
 
     // Writes what is under way from a partition to each.
     fn write_source<W: Write>(&self, writer: &mut W, src: u64) -> Result<(), WriteFault>
-        ensures { OnOk result (Appends (W.contents writer.old) (W.contents writer.new) (source_lines self.now src)) }
+        ensures { OnOk result (Appends (W.contents writer.old) (W.contents writer.new)
+            (source_lines self.now src)) }
     {
         for dst in 0..self.old_plan.parts() {
             self.write_link(writer, src, u64::from(dst))?;
@@ -90,7 +92,8 @@ fn write_families<W: Write>(
     part: PartId,
     store: &RunStore,
 ) -> Result<(), WriteFault>
-    ensures { OnOk result (Appends (W.contents writer.old) (W.contents writer.new) (flat_map (at_line part) (families_in store.now))) }
+    ensures { OnOk result (Appends (W.contents writer.old) (W.contents writer.new)
+        (flat_map (at_line part) (families_in store.now))) }
 {
     for family in store.families() {
         write_at(writer, part, family)?;
@@ -111,7 +114,8 @@ fn write_slot<W: Write>(writer: &mut W, slot: Option<&Chunk>) -> Result<(), Writ
 
 // Writes the chunks of a queue, the oldest first.
 fn write_queue<W: Write>(writer: &mut W, queue: &Queue) -> Result<(), WriteFault>
-    ensures { OnOk result (Appends (W.contents writer.old) (W.contents writer.new) (flat_map way_lines queue.now.chunks)) }
+    ensures { OnOk result (Appends (W.contents writer.old) (W.contents writer.new)
+        (flat_map way_lines queue.now.chunks)) }
 {
     let (front, back) = queue.as_slices();
     write_chunks(writer, front)?;
@@ -120,7 +124,8 @@ fn write_queue<W: Write>(writer: &mut W, queue: &Queue) -> Result<(), WriteFault
 
 // Writes chunks, the first one first.
 fn write_chunks<W: Write>(writer: &mut W, chunks: &[Chunk]) -> Result<(), WriteFault>
-    ensures { OnOk result (Appends (W.contents writer.old) (W.contents writer.new) (flat_map way_lines chunks.now)) }
+    ensures { OnOk result (Appends (W.contents writer.old) (W.contents writer.new)
+        (flat_map way_lines chunks.now)) }
 {
     for chunk in chunks {
         write_way(writer, &chunk.note(), chunk.families())?;

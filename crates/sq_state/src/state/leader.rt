@@ -138,7 +138,10 @@ impl State {
     // Takes the leader out for a call; an idle one stands there meanwhile.
     fn take_leader(&mut self) -> Leader
         ensures leader { result ≡ self.old.leader }
-        ensures after { self.new ≡ record self.old { leader = Leader.Idle (record { parts = (self.old).old.parts; recon = no_moves }) } }
+        ensures after { self.new ≡ record self.old {
+          leader = Leader.Idle
+              (record { parts = (self.old).old.parts; recon = no_moves });
+        } }
     {
         let meanwhile = Leader::Idle(Idle::new(&self.old_plan, Recon::nothing(self.alloc)));
         mem::replace(&mut self.leader, meanwhile)
@@ -165,7 +168,8 @@ impl State {
 
 // Tells each partition that the move has started.
 fn start_all(cores: &mut [PartCore<RunStore>])
-    ensures { map (λ part. part.core) cores.new ≡ map started_core (map (λ part. part.core) cores.old) }
+    ensures { map (λ part. part.core) cores.new
+        ≡ map started_core (map (λ part. part.core) cores.old) }
 {
     for core in cores.iter_mut() {
         core.start();
@@ -174,7 +178,8 @@ fn start_all(cores: &mut [PartCore<RunStore>])
 
 // Tells each partition which stage runs.
 fn enter_all(cores: &mut [PartCore<RunStore>], stage: u64)
-    ensures { map (λ part. part.core) cores.new ≡ map (entered_core stage) (map (λ part. part.core) cores.old) }
+    ensures { map (λ part. part.core) cores.new
+        ≡ map (entered_core stage) (map (λ part. part.core) cores.old) }
 {
     for core in cores.iter_mut() {
         core.enter(stage);
@@ -185,7 +190,8 @@ fn enter_all(cores: &mut [PartCore<RunStore>], stage: u64)
 fn whole_segments(trees: &[PlainTree]) -> [bool; SEGMENTS]
     requires { length trees.now ≤ SEGMENT_LIMIT }
     ensures { (seg : ℕ) → seg < length trees.now
-        → is_told_whole result seg ≡ is_complete_reading (reading (status_at (slice_index_or trees.now seg [])) 1) }
+        → is_told_whole result seg ≡ is_complete_reading
+        (reading (status_at (slice_index_or trees.now seg [])) 1) }
 {
     let mut whole = [false; SEGMENTS];
     for (seg, tree) in trees.iter().enumerate() {

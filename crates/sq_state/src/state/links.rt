@@ -65,7 +65,8 @@ impl State {
     /// A chunk of the work that is done next is cut for its link. Where there is no memory nothing changes.
     pub(crate) fn cut(&mut self, src: u64, dst: u64) -> Result<Answer, Refusal>
         requires { IsSound self.old }
-        ensures { IsResult (Step.Cut src dst) self.old (cut_result self.old src dst) (answer_of result) self.new }
+        ensures { IsResult (Step.Cut src dst) self.old (cut_result self.old src dst)
+            (answer_of result) self.new }
     {
         self.check_moving()?;
         let link = self.running_link(src, dst)?;
@@ -82,7 +83,8 @@ impl State {
     /// The chunk that came to a destination is loaded. Where there is no memory nothing changes.
     pub(crate) fn load(&mut self, src: u64, dst: u64) -> Result<Answer, Refusal>
         requires { IsSound self.old }
-        ensures { IsResult (Step.Load src dst) self.old (load_result self.old src dst) (answer_of result) self.new }
+        ensures { IsResult (Step.Load src dst) self.old (load_result self.old src dst)
+            (answer_of result) self.new }
     {
         self.check_moving()?;
         let link = self.running_link(src, dst)?;

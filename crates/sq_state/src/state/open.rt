@@ -56,8 +56,10 @@ fn fresh_state(alloc: Global, opening: &Opening) -> Result<Fresh, AllocError>
     ensures cores { IfOk result (λ fresh. map (λ part. part.core) fresh.cores.items
         ≡ map (opened_part opening.now) (range_with_len 0 opening.now.old.parts)) }
     ensures moves { IfOk result (λ fresh. fresh.moves ≡ opening.now.recon) }
-    ensures trees { IfOk result (λ fresh. AreNewTrees opening.now.recon.segments fresh.trees.items) }
-    ensures queues { IfOk result (λ fresh. AreNewQueues opening.now.recon.ranges fresh.queues.items) }
+    ensures trees { IfOk result
+        (λ fresh. AreNewTrees opening.now.recon.segments fresh.trees.items) }
+    ensures queues { IfOk result
+        (λ fresh. AreNewQueues opening.now.recon.ranges fresh.queues.items) }
 {
     Ok(Fresh {
         moves: opening.recon().clone()?,

@@ -16,7 +16,8 @@ impl State {
     /// A transaction is submitted at a partition. Where there is no memory nothing changes.
     pub(crate) fn submit(&mut self, part: u64, txn: &Txn) -> Result<Answer, Refusal>
         requires { IsSound self.old }
-        ensures { IsResult (Step.Submit part txn.now) self.old (submit_result self.old part txn.now) (answer_of result) self.new }
+        ensures { IsResult (Step.Submit part txn.now) self.old (submit_result self.old part txn.now)
+            (answer_of result) self.new }
     {
         self.check_part(part)?;
         match self.cores[part as usize].submit(txn) {
@@ -28,7 +29,8 @@ impl State {
     /// The first transaction that waits at a partition and can run is run. Where there is no memory nothing changes.
     pub(crate) fn resume(&mut self, part: u64) -> Result<Answer, Refusal>
         requires { IsSound self.old }
-        ensures { IsResult (Step.Resume part) self.old (resume_result self.old part) (answer_of result) self.new }
+        ensures { IsResult (Step.Resume part) self.old (resume_result self.old part)
+            (answer_of result) self.new }
     {
         self.check_part(part)?;
         match self.cores[part as usize].resume() {

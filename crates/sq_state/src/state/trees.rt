@@ -43,7 +43,8 @@ impl State {
     /// no memory nothing changes.
     pub(crate) fn begin(&mut self, seg: u64, node: u64, pull: u32) -> Result<Answer, Refusal>
         requires { IsSound self.old }
-        ensures { IsResult (Step.Begin seg node pull) self.old (begin_result self.old seg node pull) (answer_of result) self.new }
+        ensures { IsResult (Step.Begin seg node pull) self.old (begin_result self.old seg node pull)
+            (answer_of result) self.new }
     {
         self.check_moving()?;
         let seg = self.segment(seg)?;
@@ -99,14 +100,16 @@ impl State {
 
 fn split_node(tree: &mut PlainTree, node: NodeId) -> Result<(), Refusal>
     ensures answer { done_or result ≡ split_answered (split_answer (status_at tree.old) node) }
-    ensures after { tree.new ≡ (if is_ok result then with_status tree.old node Status.Split else tree.old) }
+    ensures after { tree.new ≡
+        (if is_ok result then with_status tree.old node Status.Split else tree.old) }
 {
     tree.split(node).map_err(split_refusal)
 }
 
 fn claim_node(tree: &mut PlainTree, node: NodeId, pull: u32) -> Result<(), Refusal>
     ensures answer { done_or result ≡ claim_answered (claim_answer (status_at tree.old) node pull) }
-    ensures after { tree.new ≡ (if is_ok result then with_status tree.old node (Status.Claimed pull) else tree.old) }
+    ensures after { tree.new ≡ (if is_ok result then with_status tree.old node
+        (Status.Claimed pull) else tree.old) }
 {
     tree.claim(node, pull).map_err(claim_refusal)
 }
@@ -134,8 +137,10 @@ fn begin_node(tree: &mut PlainTree, node: NodeId, pull: u32)
 
 // Completes a node that a pull began, if its last chunk is loaded.
 fn complete_node(tree: &mut PlainTree, node: NodeId, pull: u32, loaded: bool) -> Result<(), Refusal>
-    ensures answer { done_or result ≡ complete_answered loaded (complete_answer (status_at tree.old) node pull) }
-    ensures after { tree.new ≡ (if is_ok result then with_status tree.old node (Status.Complete pull) else tree.old) }
+    ensures answer { done_or result
+        ≡ complete_answered loaded (complete_answer (status_at tree.old) node pull) }
+    ensures after { tree.new ≡ (if is_ok result then with_status tree.old node
+        (Status.Complete pull) else tree.old) }
 {
     match tree.status(node) {
         Status::Partial(by) if by == pull && !loaded => Err(Refusal::NotLoaded),

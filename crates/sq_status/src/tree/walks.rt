@@ -30,7 +30,8 @@ impl StatusTree {
         requires live { 1 < node → KnowsSplit seat.old.view (parent node) }
         ensures seat { IsSameSeat seat.old seat.new }
         ensures passed { MatchResult result
-            (λ _. Won seat.old.view node Split seat.new.view ⊎ Found seat.old.view node Split seat.new.view)
+            (λ _. Won seat.old.view node Split seat.new.view ⊎ Found seat.old.view node Split
+            seat.new.view)
             (λ found. IsTrue (is_taken found) × Found seat.old.view node found seat.new.view) }
     {
         match self.advance(seat, node, Status::Free, Status::Split) {

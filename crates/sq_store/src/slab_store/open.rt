@@ -20,7 +20,8 @@ impl SlabStore {
         part: PartId,
         table: &Table,
     ) -> Result<SlabStore, AllocError>
-        ensures { IfOk result (λ store. store ≡ with_families empty (opened_families plan.now part table.now)) }
+        ensures { IfOk result (λ store. store
+            ≡ with_families empty (opened_families plan.now part table.now)) }
     {
         let count = owned(plan, part, table);
         let mut families = Slab::with_capacity(alloc, count)?;

@@ -159,7 +159,8 @@ fn fresh_trees(
     count: usize,
 ) -> Result<(Vec<StatusTree>, Vec<TreeSeat>, Vec<TreeSeat>), AllocError>
     ensures trees { IfOk result (λ made. length made.0.items ≡ count) }
-    ensures seats { IfOk result (λ made. AreSeatsOf made.0.items made.1.items × AreSeatsOf made.0.items made.2.items) }
+    ensures seats { IfOk result (λ made. AreSeatsOf made.0.items made.1.items
+        × AreSeatsOf made.0.items made.2.items) }
     ensures count { IfOk result (λ made. length made.2.items ≡ count) }
 {
     let mut trees = Vec::new(alloc);

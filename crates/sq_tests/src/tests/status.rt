@@ -214,11 +214,13 @@ fn four<R: Threads + Sync>(
         rt,
         move ||
             requires { (a.tree ≡ shared.now) × (b.tree ≡ shared.now) }
-            ensures { IfOk result (λ r. (r.0.tree ≡ shared.entry.now) × (r.1.tree ≡ shared.entry.now)) }
+            ensures { IfOk result (λ r. (r.0.tree ≡ shared.entry.now)
+                × (r.1.tree ≡ shared.entry.now)) }
         { pair(rt, alloc, shared, a, b, 1) },
         move ||
             requires { (c.tree ≡ shared.now) × (d.tree ≡ shared.now) }
-            ensures { IfOk result (λ r. (r.0.tree ≡ shared.entry.now) × (r.1.tree ≡ shared.entry.now)) }
+            ensures { IfOk result (λ r. (r.0.tree ≡ shared.entry.now)
+                × (r.1.tree ≡ shared.entry.now)) }
         { pair(rt, alloc, shared, c, d, 3) },
     );
     let (a, b, mut wins) = left?;
