@@ -49,7 +49,12 @@ pub enum WorkerEvent {
     Answered(NodeStep),
     /// A segment is complete: the partition that it moves to has completed the last of its tree nodes.
     SegmentComplete,
-    /// The worker has made this step, in which it did neither of these.
+    /// A node has loaded a chunk.
+    Loaded {
+        /// How many families the chunk had.
+        families: u64,
+    },
+    /// The worker has made this step, in which it did none of these.
     Made(NodeStep),
 }
 

@@ -215,10 +215,11 @@ fn try_step<T: Teller, R: Wait, G: Gate>(
         return Turn::Ended;
     }
     let receipts = node.receipts().len();
+    let loaded = node.effort().loaded;
     if step_and_tell(rt, fabric, node, teller, step) != Stepped::Did {
         return Turn::Rested;
     }
-    gate.did(who, event_of(node, step, receipts));
+    gate.did(who, event_of(node, step, receipts, loaded));
     Turn::Worked
 }
 
@@ -242,13 +243,18 @@ fn step_and_tell<T: Teller, R: Wait>(
     stepped
 }
 
-// What the gate hears of a step in which a node did something, which had this many receipts before.
-fn event_of(node: &Node, step: NodeStep, receipts: usize) -> WorkerEvent {
+// What the gate hears of a step in which a node did something. Before the step the node had so many receipts, and had
+// loaded so many families.
+fn event_of(node: &Node, step: NodeStep, receipts: usize, loaded: u64) -> WorkerEvent {
     if node.receipts().len() != receipts {
         return WorkerEvent::Answered(step);
     }
     if step == NodeStep::Complete && node.completes_segment() {
         return WorkerEvent::SegmentComplete;
+    }
+    if step == NodeStep::Load {
+        let families = node.effort().loaded.saturating_sub(loaded);
+        return WorkerEvent::Loaded { families };
     }
     WorkerEvent::Made(step)
 }

@@ -86,7 +86,7 @@ impl Gate for EpochGate {
                     self.end();
                 }
             }
-            WorkerEvent::Made(_) => {}
+            WorkerEvent::Loaded { .. } | WorkerEvent::Made(_) => {}
         }
     }
 

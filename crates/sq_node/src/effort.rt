@@ -1,18 +1,24 @@
 // What a node has done, by which a turn is shared out.
 
-/// What a node has done since its stage began, counted in operations of transactions. To cut or to load a family takes about
-/// as long as one operation does, so that both counts can be weighed against each other.
+/// What a node has done since its stage began. Work for jobs and for chunks is counted in operations of transactions: to
+/// cut or to load a family takes about as long as one operation, so that both counts can be weighed against each other.
 #[derive(Clone, Copy, Debug, PartialEq, Eq)]
 pub struct Effort {
     /// For jobs that it took or resumed.
     pub jobs: u64,
     /// For chunks that it cut or loaded.
     pub chunks: u64,
+    /// How many families it loaded.
+    pub loaded: u64,
 }
 
 impl Effort {
     /// Nothing.
-    pub(crate) const NONE: Effort = Effort { jobs: 0, chunks: 0 };
+    pub(crate) const NONE: Effort = Effort {
+        jobs: 0,
+        chunks: 0,
+        loaded: 0,
+    };
 
     /// Counts a job that was answered after so many operations, and two more, for its way there and its receipt.
     pub(crate) fn add_answer(&mut self, operations: usize) {
@@ -31,12 +37,18 @@ impl Effort {
         self.add_jobs(2);
     }
 
-    /// Counts a chunk of so many families that was cut or loaded, and four more, for the chunk itself.
+    /// Counts a chunk of so many families that was cut, and four more, for the chunk itself.
     pub(crate) fn add_chunk(&mut self, families: usize) {
         self.chunks = self
             .chunks
             .saturating_add(families as u64)
             .saturating_add(4);
+    }
+
+    /// Counts a chunk of so many families that was loaded, like one that was cut.
+    pub(crate) fn add_load(&mut self, families: usize) {
+        self.add_chunk(families);
+        self.loaded = self.loaded.saturating_add(families as u64);
     }
 
     fn add_jobs(&mut self, operations: u64) {

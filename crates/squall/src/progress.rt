@@ -6,14 +6,14 @@ use std::sync::atomic::{AtomicBool, AtomicU64, Ordering};
 use std::time::Clock;
 
 // Takes the place of the longest line of progress.
-const BLANK: &str = "\r                                                            \r";
+const BLANK: &str = "\r                                                                        \r";
 
 // For how many microseconds the line stays as it is, at least.
 const PAUSE: u64 = 100_000;
 
-/// A gate that lets each worker pass, and says on standard error how many jobs are answered, how many chunks are loaded and how
-/// many segments are complete: on one line, which is written again as they grow, never falls, and is gone once the threads have
-/// ended.
+/// A gate that lets each worker pass, and says on standard error how many jobs are answered, how many families have moved and
+/// how many segments are complete: on one line, which is written again as they grow. No count falls. The line is gone once the
+/// threads have ended.
 #[derive(Drop)]
 pub struct Progress<'a, E> {
     to: &'a E,
@@ -21,7 +21,7 @@ pub struct Progress<'a, E> {
     jobs: AtomicU64,
     segments: AtomicU64,
     answered: AtomicU64,
-    loaded: AtomicU64,
+    moved: AtomicU64,
     complete: AtomicU64,
     /// When it may be said again, in microseconds.
     due: AtomicU64,
@@ -38,16 +38,16 @@ impl<'a, E: Eprint + Clock> Progress<'a, E> {
             jobs: AtomicU64::new(0),
             segments: AtomicU64::new(0),
             answered: AtomicU64::new(0),
-            loaded: AtomicU64::new(0),
+            moved: AtomicU64::new(0),
             complete: AtomicU64::new(0),
             due: AtomicU64::new(0),
             busy: AtomicBool::new(false),
         }
     }
 
-    // Adds one to a count, and says how far the run is, unless another worker is at it.
-    fn count(&self, count: &AtomicU64) {
-        count.fetch_add(1, Ordering::SeqCst);
+    // Adds to a count, and says how far the run is, unless another worker is at it.
+    fn add(&self, count: &AtomicU64, more: u64) {
+        count.fetch_add(more, Ordering::SeqCst);
         if !self.busy.swap(true, Ordering::SeqCst) {
             self.go_on();
             self.busy.store(false, Ordering::SeqCst);
@@ -67,11 +67,11 @@ impl<'a, E: Eprint + Clock> Progress<'a, E> {
     fn say(&self) {
         let answered = self.answered.load(Ordering::SeqCst);
         let jobs = self.jobs.load(Ordering::SeqCst);
-        let loaded = self.loaded.load(Ordering::SeqCst);
+        let moved = self.moved.load(Ordering::SeqCst);
         let complete = self.complete.load(Ordering::SeqCst);
         let segments = self.segments.load(Ordering::SeqCst);
         let _ = eprint!(self.to;
-            "\r{answered} of {jobs} jobs, {loaded} chunks, {complete} of {segments} segments"
+            "\r{answered} of {jobs} jobs, {moved} families moved, {complete} of {segments} segments"
         );
     }
 }
@@ -83,9 +83,9 @@ impl<E: Eprint + Clock + Sync> Gate for Progress<'_, E> {
 
     fn did(&self, _who: WorkerId, event: WorkerEvent) {
         match event {
-            WorkerEvent::Answered(_) => self.count(&self.answered),
-            WorkerEvent::SegmentComplete => self.count(&self.complete),
-            WorkerEvent::Made(NodeStep::Load) => self.count(&self.loaded),
+            WorkerEvent::Answered(_) => self.add(&self.answered, 1),
+            WorkerEvent::SegmentComplete => self.add(&self.complete, 1),
+            WorkerEvent::Loaded { families } => self.add(&self.moved, families),
             WorkerEvent::Made(_) => {}
         }
     }

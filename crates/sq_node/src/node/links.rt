@@ -135,7 +135,7 @@ impl Node {
         let Ok(note) = self.core.load(src) else {
             return Stepped::Memory;
         };
-        self.effort.add_chunk(families);
+        self.effort.add_load(families);
         if note.last {
             self.to_complete.push_reserved((note.seg, note.node));
         }
