@@ -208,6 +208,16 @@ fail_before old new ps was_open failed lines held can =
       are = can.are ∙ rw (lines, held, is.0, is.1) refl;
     }
 
+-- a piece takes one line at most
+pub takes_one_line : (most : ℕ) (old new : LinesValue) (told_next : NextPiece) → Gives most old told_next new → old.lines_left ≤ new.lines_left + 1
+takes_one_line most old new next.Line gives = omega (arith, gives.1)
+takes_one_line most old new next.Rest gives = omega (arith, gives.1)
+takes_one_line most old new next.Failed gives = omega (arith, ap (λ (v : LinesValue). v.lines_left) gives.2)
+takes_one_line most old new next.Long gives = omega (arith, ap (λ (v : LinesValue). v.lines_left) gives.1)
+takes_one_line most old new next.TooMany gives = omega (arith, ap (λ (v : LinesValue). v.lines_left) gives.1)
+takes_one_line most old new next.End gives = omega (arith, ap (λ (v : LinesValue). v.lines_left) gives.1)
+takes_one_line most old new next.Unread gives = omega (arith, ap (λ (v : LinesValue). v.lines_left) gives.1)
+
 -- ---- as much as is needed to know what comes next
 
 pub found : (most : ℕ) (first old new : LinesValue) (told_next : NextPiece) → ReadsOn first old → Gives most old told_next new → (told_next ≡ next.Unread → ⊥) → Finds most first told_next new
@@ -215,7 +225,7 @@ found most first old new next.Line on gives told =
     ((λ ps can. subst (λ n. CanCome first (Line (next_line_number n) new.piece ∷ ps)) on.1 (on.0 (Line (next_line_number old.lines_left) new.piece ∷ ps) (gives.0 ps can))), sym on.1 ∙ gives.1, gives.2)
 found most first old new next.Rest on gives told = (subst (λ n. CanCome first (Rest (next_line_number n) new.piece ∷ [])) on.1 (on.0 _ gives.0), gives.2)
 found most first old new next.Failed on gives told =
-    (old.held, subst (λ n. CanCome first (Failed (next_line_number n) old.held ∷ [])) on.1 (on.0 _ gives.0), gives.1)
+    (old.held, subst (λ n. CanCome first (Failed (next_line_number n) old.held ∷ [])) on.1 (on.0 _ gives.0), gives.1, ap (λ (v : LinesValue). v.reading) gives.2 ∙ gives.3)
 found most first old new next.Long on gives told = record { piece = gives.0.piece; others = gives.0.others; can_come = on.0 _ gives.0.can_come; long = gives.0.long }
 found most first old new next.TooMany on gives told = on.0 _ gives.0
 found most first old new next.End on gives told = on.0 _ gives.0

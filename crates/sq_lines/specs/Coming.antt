@@ -64,7 +64,8 @@ CanEndIn v piece bytes = CanCome v (piece (next_line_number v.lines_left) bytes 
 abbrev pub Gives : ℕ → LinesValue → NextPiece → LinesValue → Type 0
 Gives most old next.Line new = GivesLine old new
 Gives most old next.Rest new = CanEndIn old Rest new.piece × (new.lines_left ≡ old.lines_left) × (length new.piece ≤ most)
-Gives most old next.Failed new = CanEndIn old Failed old.held × (length old.held ≤ most) × (new ≡ old)
+Gives most old next.Failed new =
+    CanEndIn old Failed old.held × (length old.held ≤ most) × (new ≡ old) × (old.reading ≡ reading.Failed)
 Gives most old next.Long new = IsLong most old × (new ≡ old)
 Gives most old next.TooMany new = CanCome old (TooMany ∷ []) × (new ≡ old)
 Gives most old next.End new = CanCome old [] × (new ≡ old)
@@ -88,7 +89,8 @@ ReadsOn old new = ((ps : List PieceValue) → CanCome new ps → CanCome old ps)
 abbrev pub Finds : ℕ → LinesValue → NextPiece → LinesValue → Type 0
 Finds most old next.Line new = GivesLine old new
 Finds most old next.Rest new = CanEndIn old Rest new.piece × (length new.piece ≤ most)
-Finds most old next.Failed new = (bytes : List ℕ) × CanEndIn old Failed bytes × (length bytes ≤ most)
+Finds most old next.Failed new =
+    (bytes : List ℕ) × CanEndIn old Failed bytes × (length bytes ≤ most) × (new.reading ≡ reading.Failed)
 Finds most old next.Long new = IsLong most old
 Finds most old next.TooMany new = CanCome old (TooMany ∷ [])
 Finds most old next.End new = CanCome old []

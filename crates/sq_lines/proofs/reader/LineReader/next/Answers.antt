@@ -16,7 +16,7 @@ pub returns-in-Failed : goal.returns-in-Failed
 returns-in-Failed g c =
     let s = c.self.inside in
     let none = empty_range s.buffer.items s.start s.end (omega (arith, c.if-self.true)) in
-    (subst (λ (v : LinesValue). CanCome v (Failed (next_line_number v.lines_left) v.held ∷ [])) c.self.view_is (failed_comes _ c.in-Failed.is (rw none refl) (inl none) (omega (arith, ap length none))), omega (arith, ap length none, ap (λ (v : LinesValue). length v.held) c.self.view_is), refl)
+    (subst (λ (v : LinesValue). CanCome v (Failed (next_line_number v.lines_left) v.held ∷ [])) c.self.view_is (failed_comes _ c.in-Failed.is (rw none refl) (inl none) (omega (arith, ap length none))), omega (arith, ap length none, ap (λ (v : LinesValue). length v.held) c.self.view_is), refl, sym (ap (λ (v : LinesValue). v.reading) c.self.view_is) ∙ c.in-Failed.is)
 
 pub returns-then-self-eq0 : goal.returns-then-self-eq0
 returns-then-self-eq0 g c =
@@ -46,7 +46,7 @@ invariant_of-self-in-Failed-reading g c = all_searched _ _ _ _ c.self.inside.sea
 pub returns-in-Failed-reading : goal.returns-in-Failed-reading
 returns-in-Failed-reading g c =
     let held = none_held c.self.invariant (rw (← c.deref.ensures.value) (sym c.place_of.ensures ∙ c.in_default.is)) in
-    (subst (λ (v : LinesValue). CanCome v (Failed (next_line_number v.lines_left) v.held ∷ [])) c.self.view_is (failed_comes _ c.in-Failed-reading.is held.unended (inr (omega (arith, c.if-self-eq0.false))) (omega (arith, held.count, c.if-self-most.false, c.requires))), omega (arith, held.count, c.if-self-most.false, ap (λ (v : LinesValue). length v.held) c.self.view_is), c.self.view_is)
+    (subst (λ (v : LinesValue). CanCome v (Failed (next_line_number v.lines_left) v.held ∷ [])) c.self.view_is (failed_comes _ c.in-Failed-reading.is held.unended (inr (omega (arith, c.if-self-eq0.false))) (omega (arith, held.count, c.if-self-most.false, c.requires))), omega (arith, held.count, c.if-self-most.false, ap (λ (v : LinesValue). length v.held) c.self.view_is), c.self.view_is, sym (ap (λ (v : LinesValue). v.reading) c.self.view_is) ∙ c.in-Failed-reading.is)
 
 pub returns-in-Ended-reading : goal.returns-in-Ended-reading
 returns-in-Ended-reading g c =
