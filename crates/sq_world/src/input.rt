@@ -1,6 +1,6 @@
 // Inputs: bytes in, bytes out.
-ghost use Rattle.std.specs.Prelude.{false, IfOk, IfErr};
-ghost use Rattle.sq_world.specs.Run.{Runs, RunsLines, in_manner};
+ghost use Rattle.std.specs.Prelude.{IfOk, IfErr};
+ghost use Rattle.sq_world.specs.Run.{Runs, RunsLines};
 ghost use Rattle.sq_world.specs.Script.{OpensWorld, RefusesHeader};
 
 use crate::ending::{Ending, ScriptManner};
@@ -20,53 +20,14 @@ use std::io::{Read, Write};
 /// line or the world, the fault is all that is written; where a read of the script fails, or it has too many lines or
 /// one without end, the fault comes in place of the dump. The writer is flushed before more of the script is read, and
 /// at the end. An error is a write or a flush that failed.
+///
+/// By its manner it `echoes` each line of the script before its answer, as `LINE -> ANSWER`, and adds to the number of a
+/// refusal what it means, as `LINE -> refused 216: the node's last chunk isn't loaded`. Where it is `strict`, it ends
+/// behind the first line that is refused.
+///
+/// The world that the header opens comes into `kept`, in place of what is there: a caller may free it later or leave it to
+/// the system.
 pub fn run<R: Read, W: Write>(
-    alloc: Global,
-    reader: &mut R,
-    writer: &mut W,
-) -> Result<Ending, WriteFault>
-    ensures { IfOk result (Runs (in_manner false false) MAX_TABLES
-        (R.remaining reader.old) (W.contents writer.old) (W.contents writer.new)) }
-{
-    run_and_keep(alloc, reader, writer, &mut None)
-}
-
-/// The same as [`run`], but the world that the header opens isn't freed: it comes into `kept`, in place of what is there,
-/// for a caller who frees it later or leaves it to the system.
-pub fn run_and_keep<R: Read, W: Write>(
-    alloc: Global,
-    reader: &mut R,
-    writer: &mut W,
-    kept: &mut Option<World>,
-) -> Result<Ending, WriteFault>
-    ensures { IfOk result (Runs (in_manner false false) MAX_TABLES
-        (R.remaining reader.old) (W.contents writer.old) (W.contents writer.new)) }
-{
-    run_and_echo(alloc, reader, writer, false, kept)
-}
-
-/// The same as [`run_and_keep`], but where it `echoes` each line of the script stands before its answer, as `LINE -> ANSWER`,
-/// and behind the number of a refusal is what it means, as `LINE -> refused 216: the node's last chunk isn't loaded`.
-pub fn run_and_echo<R: Read, W: Write>(
-    alloc: Global,
-    reader: &mut R,
-    writer: &mut W,
-    echoes: bool,
-    kept: &mut Option<World>,
-) -> Result<Ending, WriteFault>
-    ensures { IfOk result (Runs (in_manner echoes false) MAX_TABLES
-        (R.remaining reader.old) (W.contents writer.old) (W.contents writer.new)) }
-{
-    let manner = ScriptManner {
-        echoes,
-        strict: false,
-    };
-    run_in_manner(alloc, reader, writer, manner, kept)
-}
-
-/// The same as [`run_and_keep`], in this manner: with echoes as [`run_and_echo`] writes them or without, and to the end of the
-/// script, or where it is strict no further than behind the first line that is refused.
-pub fn run_in_manner<R: Read, W: Write>(
     alloc: Global,
     reader: &mut R,
     writer: &mut W,

@@ -12,7 +12,7 @@ mod script;
 mod telling;
 
 pub use ending::{Ending, RefusedLine, ScriptManner};
-pub use input::{run, run_and_echo, run_and_keep, run_in_manner};
+pub use input::run;
 pub use listing::{list, ranges};
 pub use sq_chunk::{Chunk, Note};
 pub use sq_model::{Answer, Phase, Refusal, Step};

@@ -19,7 +19,7 @@ use sq_picture::{AsJson, AsSvg};
 use sq_results::write_world_rows;
 use sq_sizes::{SizesAsJson, SizesAsLines, SizesAsSvg, tell_opening};
 use sq_text::{InputFault, InputLine, LocatedFault, Meaning, WriteFault};
-use sq_world::{Ending, RefusedLine, ScriptManner, World, list, ranges, run_in_manner};
+use sq_world::{Ending, RefusedLine, ScriptManner, World, list, ranges, run};
 use std::alloc::Global;
 use std::fs::OpenFile;
 use std::io::{ErrorKind, Read, Write};
@@ -47,7 +47,7 @@ pub fn script<T: Eprint + Files + AllocGlobal, R: Read, W: Write>(
         exit_status result }
 {
     let mut world = None;
-    let ran = run_in_manner(rt.alloc(), reader, writer, manner, &mut world);
+    let ran = run(rt.alloc(), reader, writer, manner, &mut world);
     explain_end(rt, source, reader, ran);
     let is_saved = save_rows(rt, rows_out, ran, &world);
     // The program ends, and the system takes its memory back sooner than it could be freed.

@@ -2,7 +2,7 @@
 // `tests/cases/run`.
 use super::readers::{Drip, SIZES};
 use sq_text::{InputFault, InputLine, WriteFault};
-use sq_world::{Ending, run};
+use sq_world::{Ending, ScriptManner, run};
 use std::alloc::Global;
 use std::io;
 use std::io::{ErrorKind, Read, Write};
@@ -57,6 +57,19 @@ way 0 1 1 0 1 5 8 last 1
 in 5 1 0.0=11/-
 ";
 
+// Runs an input without echoes, to its end.
+fn run_plainly<R: Read, W: Write>(
+    alloc: Global,
+    reader: &mut R,
+    writer: &mut W,
+) -> Result<Ending, WriteFault> {
+    let manner = ScriptManner {
+        echoes: false,
+        strict: false,
+    };
+    run(alloc, reader, writer, manner, &mut None)
+}
+
 // A writer that takes three bytes a call, and fails after this many calls.
 #[derive(Drop)]
 struct Narrow {
@@ -100,7 +113,7 @@ fn short_reads_and_writes(rt: HostRuntime) -> Result<(), Fail> {
             got: Vec::new(rt.alloc()),
             calls: OUTPUT.len() * 2,
         };
-        let ending = run(rt.alloc(), &mut reader, &mut writer)?;
+        let ending = run_plainly(rt.alloc(), &mut reader, &mut writer)?;
         assert!(rt; ending == Ending::Done && ending.status() == 0);
         assert!(rt; writer.got.as_slice() == OUTPUT, "by {most}");
     }
@@ -110,7 +123,7 @@ fn short_reads_and_writes(rt: HostRuntime) -> Result<(), Fail> {
 // What is written for what a reader gives, and how the run ends.
 fn run_of<R: Read>(alloc: Global, reader: &mut R) -> Result<(Vec<u8>, Ending), Fail> {
     let mut output = Vec::new(alloc);
-    let ending = run(alloc, reader, &mut output)?;
+    let ending = run_plainly(alloc, reader, &mut output)?;
     Ok((output, ending))
 }
 
@@ -281,7 +294,7 @@ fn run_narrowly(
         got: Vec::new(alloc),
         calls,
     };
-    let ending = run(alloc, &mut input, &mut writer);
+    let ending = run_plainly(alloc, &mut input, &mut writer);
     (ending, writer.got)
 }
 
