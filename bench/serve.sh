@@ -3,8 +3,8 @@
 #
 #   SQUALL=PROGRAM bash bench/serve.sh FOLDER
 #
-# writes into FOLDER the tables serve.md and the picture serve.svg, in some three minutes. bench/load.c says what is posted and
-# what the figures are. There are four partitions; a job adds one to a number.
+# writes into FOLDER the tables serve.md, the series of the runs (NAME.series) and the picture serve.svg (bench/serve_picture.sh), in some
+# four minutes. bench/load.c says what is posted and what the figures are. There are four partitions; a job adds one to a number.
 #
 # First, a hot partition: half of the jobs are for root keys of partition 0, by a Zipf law, and in the middle the hotter half of
 # its root keys goes to the other partitions. There are ROOTS families (100000 if left out); a third of JOBS jobs (1200000) is
@@ -14,7 +14,7 @@
 # move.
 #
 # Then jobs for any root key, of MANY families (999000, since a header has a million lines at most), half of which move, in the same two
-# ways.
+# ways; and with a stop.
 #
 # The program is crates/squall/out/squall, which `rt run` leaves in crates/squall; SQUALL=PATH takes another. A C compiler, cc,
 # has to be there.
@@ -84,6 +84,8 @@ run many-64k "${many_words[@]}" chunk=65536
 many_rate=$(half_of "$(rate_of many-64k before)")
 run many-8k-half "${many_words[@]}" chunk=8192 "rate=$many_rate"
 run many-64k-half "${many_words[@]}" chunk=65536 "rate=$many_rate"
+run many-stop "${many_words[@]}" chunk=65536 manner=stop
+run many-stop-half "${many_words[@]}" chunk=65536 manner=stop "rate=$many_rate"
 
 figure() { awk -v phase="$2" -v at="$3" '$1 == phase { print $at }' "$room/$1"; }
 {
@@ -102,11 +104,11 @@ figure() { awk -v phase="$2" -v at="$3" '$1 == phase { print $at }' "$room/$1"; 
     echo
     echo "## Half of $many families move, as many jobs as the engine takes"
     echo
-    table 'many-8k:chunks of 8 KiB' 'many-64k:chunks of 64 KiB'
+    table 'many-8k:chunks of 8 KiB' 'many-64k:chunks of 64 KiB' 'many-stop:64 KiB, no job while rows move'
     echo
     echo "## The same at $many_rate jobs a second"
     echo
-    table 'many-8k-half:chunks of 8 KiB' 'many-64k-half:chunks of 64 KiB'
+    table 'many-8k-half:chunks of 8 KiB' 'many-64k-half:chunks of 64 KiB' 'many-stop-half:64 KiB, no job while rows move'
     echo
     echo "## Goals"
     echo
@@ -119,64 +121,6 @@ figure() { awk -v phase="$2" -v at="$3" '$1 == phase { print $at }' "$room/$1"; 
     goal '99 of 100 waiting times while they move, at half the rate' "$(figure many-64k-half during 6) ms" '5 ms'
 } > "$folder/serve.md"
 
-# The picture: for each form of the move at half the rate, answers in each 10 milliseconds and the 99th part in a hundred of their
-# waiting times.
-panel='
-function y_of_count(count) { return bottom - 200 * (count > most ? most : count) / most }
-function y_of_wait(micros) { if (micros < 10) micros = 10; if (micros > 1e7) micros = 1e7; return bottom - 200 * log(micros / 10) / log(1e6) }
-function x_of(ms) { return left + 660 * ms / span }
-FNR == 1 { moved_from = $2; moved_to = $3; next }
-{ count[n] = $2; wait[n] = $4; n++ }
-END {
-    span = n * 10; if (span < 1) span = 1
-    printf "<g><text class=\"ink\" x=\"%d\" y=\"%d\">%s</text>\n", left, bottom - 214, form
-    printf "<rect class=\"move\" x=\"%.1f\" y=\"%d\" width=\"%.1f\" height=\"200\"/>\n", x_of(moved_from), bottom - 200, x_of(moved_to) - x_of(moved_from)
-    for (line = 0; line <= 3; line++) {
-        y = y_of_wait(10 ^ (2 * line) * 10)
-        printf "<path class=\"grid\" d=\"M%d %.1fh660\"/><text class=\"soft\" x=\"%d\" y=\"%.1f\">%s</text>\n", left, y, left + 666, y + 6,
-            line == 0 ? "10 us" : line == 1 ? "1 ms" : line == 2 ? "100 ms" : "10 s"
-    }
-    printf "<text class=\"soft\" x=\"%d\" y=\"%d\" text-anchor=\"end\">%d</text><text class=\"soft\" x=\"%d\" y=\"%d\" text-anchor=\"end\">0</text>\n",
-        left - 8, bottom - 192, most * 100, left - 8, bottom + 6
-    printf "<path class=\"rate\" d=\"M%d %d", left, bottom
-    for (i = 0; i < n; i++) printf "L%.1f %.1fH%.1f", x_of(i * 10), y_of_count(count[i]), x_of(i * 10 + 10)
-    printf "V%dZ\"/>\n<path class=\"wait\" d=\"", bottom
-    joined = 0
-    for (i = 0; i < n; i++) {
-        if (count[i] == 0) { joined = 0; continue }
-        printf "%s%.1f %.1f", joined ? "L" : "M", x_of(i * 10 + 5), y_of_wait(wait[i])
-        joined = 1
-    }
-    printf "\"/>\n<path class=\"axis\" d=\"M%d %dh660\"/>\n", left, bottom
-    for (tick = 0; tick <= span; tick += span > 8000 ? 2000 : span > 4000 ? 1000 : 500)
-        printf "<text class=\"soft\" x=\"%.1f\" y=\"%d\" text-anchor=\"middle\">%.1f s</text>\n", x_of(tick), bottom + 22, tick / 1000
-    print "</g>"
-}'
-{
-    cat <<END
-<svg xmlns="http://www.w3.org/2000/svg" viewBox="0 0 1700 960" width="1020" height="576" font-family="system-ui, sans-serif" font-size="18">
-<style>
-.back { fill: #fcfcfb } .ink { fill: #0b0b0b } .soft { fill: #52514e }
-.grid { stroke: #e1e0d9; stroke-width: 1.5 } .axis { stroke: #a09f95; stroke-width: 2 }
-.rate { fill: #2a78d6; fill-opacity: 0.35 } .wait { fill: none; stroke: #eb6834; stroke-width: 2; stroke-linejoin: round }
-.move { fill: #52514e; fill-opacity: 0.12 }
-@media (prefers-color-scheme: dark) {
-.back { fill: #1a1a19 } .ink { fill: #ffffff } .soft { fill: #c3c2b7 }
-.grid { stroke: #2c2c2a } .axis { stroke: #73726b }
-.rate { fill: #3987e5 } .wait { stroke: #d95926 } .move { fill: #c3c2b7 }
-}
-</style>
-<rect class="back" width="1700" height="960"/>
-<text class="ink" x="90" y="40" font-size="24">An engine at $rate jobs a second, before, during and after a move of its hot root keys</text>
-<path class="rate" d="M90 62h40v14h-40Z"/><text class="ink" x="140" y="76">answers a second</text>
-<path class="wait" d="M340 70h40"/><text class="ink" x="390" y="76">waiting time, 99 of 100</text>
-<path class="move" d="M640 62h40v14h-40Z"/><text class="ink" x="690" y="76">rows move</text>
-END
-    at=0
-    most=$(awk 'FNR > 1 && $2 > most { most = $2 } END { print (most > 0 ? most : 1) }' "$room/half-64k.series")
-    while IFS='|' read -r name form words; do
-        awk -v left=$((90 + at % 2 * 830)) -v bottom=$((340 + at / 2 * 290)) -v most="$most" -v form="$form" "$panel" "$room/half-$name.series"
-        at=$((at + 1))
-    done <<< "$forms"
-    echo '</svg>'
-} > "$folder/serve.svg"
+# The picture, from the series that stay beside it.
+cp "$room"/*.series "$folder"
+bash "$top/bench/serve_picture.sh" "$folder" > "$folder/serve.svg"
