@@ -31,7 +31,6 @@ use Rattle.sq_audit.specs.declared.folded.Folded.{Folded}
 use Rattle.sq_audit.specs.declared.folding.Ready.{Ready}
 use Rattle.sq_audit.specs.Answers.{IdsDiffer}
 use Rattle.sq_audit.specs.ById.{ListsIds, is_listed}
-use Rattle.sq_audit.specs.Counts.{Counts, is_counted}
 use Rattle.sq_audit.specs.Rows.{rows_among}
 use Rattle.sq_audit.specs.Folding.{has_receipt, answered_jobs, jobs_left, IsReadyToFold, IsFold}
 use Rattle.sq_audit.proofs.Lists.{nothing_there}
@@ -72,18 +71,7 @@ some_differ p (job ∷ jobs) differ = by (some_differ p jobs (λ i j one other a
     by rest true = differ_behind job (filter p jobs) apart rest
     by rest false = rest
 
--- the counts say which jobs have a receipt
-module _ (receipts : List ReceiptValue) (counts : _) (is : Counts receipts counts) where
-  counted : (job : Job) → is_counted counts job ≡ has_receipt receipts job
-  counted job = ap (nat_lt 0) (is job.txn.id job.txn.root)
-
-  pub answered_are : (jobs : List Job) → filter (is_counted counts) jobs ≡ answered_jobs receipts jobs
-  answered_are jobs = filter_agree (is_counted counts) (has_receipt receipts) counted jobs
-
-  pub left_are : (jobs : List Job) → filter (λ job. not (is_counted counts job)) jobs ≡ jobs_left receipts jobs
-  left_are jobs = filter_agree (λ job. not (is_counted counts job)) (λ job. not (has_receipt receipts job)) (λ job. ap not (counted job)) jobs
-
--- their ids tell it too
+-- their ids say which jobs have a receipt
 module _ (receipts : List ReceiptValue) (ids : List (ℕ × ℕ)) (lists : ListsIds receipts ids) where
   pub listed : (job : Job) → is_listed ids job ≡ has_receipt receipts job
   listed job = ap (nat_lt 0) (listed_count receipts ids lists job.txn.id job.txn.root)

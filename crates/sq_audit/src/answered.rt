@@ -45,7 +45,7 @@ pub fn count_answered(
     Ok(answered)
 }
 
-/// The ids of receipts, each with its root key, by id. By them jobs that have a receipt are told from the others.
+/// The ids of receipts, each with its root key, by id. They show which jobs have a receipt.
 pub fn list_ids(alloc: Global, receipts: &[Receipt]) -> Result<Vec<(u64, u64)>, AllocError>
     ensures { IfOk result (λ ids. ListsIds receipts.now ids.items) }
 {

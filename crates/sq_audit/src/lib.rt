@@ -23,7 +23,7 @@ mod tiles;
 mod told;
 mod verdict;
 
-pub use answered::count_answered;
+pub use answered::{copy_answered, count_answered, leave_unanswered, list_ids};
 pub use folded::{Folded, Unchanged, Unfolded};
 pub use folding::fold;
 pub use job::Job;

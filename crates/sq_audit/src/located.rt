@@ -46,7 +46,7 @@ fn list(alloc: Global, g: &Gathered) -> Result<Vec<Located<'_>>, AllocError>
     Ok(all)
 }
 
-// Those in stores.
+// The families in stores.
 fn list_stored(alloc: Global, g: &Gathered) -> Result<Vec<Located<'_>>, AllocError>
     ensures { IfOk result (λ all. ListsStored g.now (entries_in all.items)) }
 {

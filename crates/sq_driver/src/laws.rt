@@ -64,7 +64,7 @@ pub fn nodes_with_tellers_are_driven<T: Teller>()
 {}
 
 /// The list of a teller that didn't break off has grown by just the receipts that its node wrote, each once, in their
-/// order. `told` is its list, and `goes_on` whether it didn't break off: of one that never does that is always so.
+/// order. `told` is its list, and `goes_on` whether it didn't break off; of one that never does, this is always true.
 pub fn what_is_told_is_what_is_written<T: Teller>()
     ensures { (told : T → List ReceiptValue) (goes_on : T → Bool)
         → ((before after : T) (receipt : ReceiptValue)

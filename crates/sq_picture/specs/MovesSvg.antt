@@ -18,7 +18,6 @@ light_of part = 34 - part / 21 * 6
 abbrev pub width_of : ℕ → ℕ
 width_of count = 96 + max 3 (min count ACROSS) * 160
 
--- its height
 abbrev pub height_of : ℕ → ℕ
 height_of count = 40 + (count + (ACROSS - 1)) / ACROSS * 196
 
@@ -112,7 +111,6 @@ abbrev pub open_column_text : ReconValue → ℕ × Range → List ℕ
 open_column_text recon (i, range) =
     place_text i ++ (keys_text range ++ (owners_text range ++ marks_text recon range))
 
--- the end of a column
 abbrev pub column_end : List ℕ
 column_end = codes "</g>\n"
 

@@ -55,7 +55,6 @@ words_at x y n status = number_text (codes "start") x y (codes "") n ++ status_l
 abbrev pub said_text : ℕ → Status → List ℕ
 said_text n status = words_at (left_of n + 5) (top_of n + 13) n status
 
--- a node
 abbrev pub node_text : (ℕ → Status) → ℕ → List ℕ
 node_text status n = box_text (class_of (is_live status n) (status n)) n ++ (said_text n (status n) ++ codes "</g>\n")
 

@@ -143,7 +143,6 @@ fn write_said<W: Write>(writer: &mut W, node: NodeId, status: Status) -> io::Res
     write_at(writer, left + 5, top + 13, node.number(), status)
 }
 
-// Writes a node.
 fn write_node<W: Write>(writer: &mut W, tree: &PlainTree, node: NodeId) -> io::Result<()>
     ensures { OnOk result (Appends (W.contents writer.old) (W.contents writer.new)
         (node_text (status_at tree.now) node)) }

@@ -18,7 +18,6 @@ IsByte byte = byte < 2 ^ 8
 abbrev Entry : Type 0
 Entry = RowKey × RowValue
 
--- the rows
 abbrev plain_row : Entry
 plain_row = (root_key, example_row (pos 10) [])
 

@@ -4,7 +4,6 @@ use Rattle.sq_rows.specs.RowList.{root_key}
 use Rattle.sq_rows.specs.Values.{RowValue}
 use Rattle.sq_schema.specs.Family.{FamilyValue}
 
--- a row
 abbrev pub example_row : ℤ → List ℕ → RowValue
 example_row number note = record { number = number; note = note }
 

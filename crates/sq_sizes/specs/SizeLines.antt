@@ -10,7 +10,6 @@ use Rattle.sq_sizes.specs.declared.size.Size.{Size}
 use Rattle.sq_sizes.specs.declared.size.MovePart.TheVariants.{RangePart, StagePart}
 use Rattle.sq_sizes.specs.Sizes.{segment_size, part_size, size_in_64_bits}
 
--- the words of a size
 abbrev pub size_words : Size → List Word
 size_words size =
     codes "families" ∷ decimal size.families ∷ codes "rows" ∷ decimal size.rows
@@ -56,6 +55,5 @@ sizes_text o =
     ++ (flat_map (sized_segment_line o) (enumerate_from 0 o.recon.segments)
     ++ flat_map (sized_stage_line o) (range_with_len 0 (stages o.recon)))
 
--- these lines
 abbrev pub TellsSizesAsLines : OpeningValue → List ℕ → Type 0
 TellsSizesAsLines o out = out ≡ sizes_text o

@@ -15,7 +15,6 @@ pub(crate) enum NoScript {
 }
 
 impl NoScript {
-    /// Its fault.
     pub(crate) fn fault(self) -> LocatedFault
         ensures { result ≡ fault_of self }
     {

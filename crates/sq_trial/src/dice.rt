@@ -8,7 +8,7 @@ pub struct Dice {
 }
 
 impl Dice {
-    /// Those of a seed.
+    /// The dice of a seed.
     pub fn new(seed: u64) -> Dice {
         Dice { state: seed }
     }

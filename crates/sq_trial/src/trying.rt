@@ -10,9 +10,9 @@ use std::alloc::Global;
 use std::sync::Wait;
 use std::thread::Threads;
 
-/// Opens an engine at rest, does these deeds with it while a client has these jobs, and closes it. Nothing is wrong with what the
-/// client hears: each job that was posted is answered once, the numbers of each root key are 1, 2, 3 and so on, those that one
-/// partition tells are in order, and each page is sound.
+/// Opens an engine at rest, does these deeds with it while a client has these jobs, and closes it. Nothing is wrong
+/// with what the client hears: each job that was posted is answered once, the numbers of each root key are 1, 2, 3
+/// and so on, those from one partition are in order, and each page is sound.
 pub fn try_engine<R: Threads + Wait + Sync>(
     rt: &R,
     alloc: Global,

@@ -128,7 +128,7 @@ struct Carried {
     // The chunk that found no place.
     unsent: Option<Chunk>,
     received: Vec<Chunk>,
-    // Those that were left when the link was closed.
+    // The chunks that were left when the link was closed.
     left: Vec<Chunk>,
 }
 

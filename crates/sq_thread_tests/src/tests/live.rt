@@ -27,7 +27,7 @@ new {"version":1,"partitions":16,"ranges":[[0,16,1],[16,4294967296,0]]}
 config 1 64 1
 "#;
 
-// Two partitions; the first gives 100 root keys, four segments, to the second, and jobs at both. Those at the second
+// Two partitions; the first gives 100 root keys, four segments, to the second, and jobs at both. Jobs at the second
 // pull what they wait for, so that trees are split.
 const HUNDRED: &str = r#"old {"version":1,"partitions":2,"ranges":[[0,4294967296,0]]}
 new {"version":1,"partitions":2,"ranges":[[0,100,1],[100,4294967296,0]]}
