@@ -3,7 +3,6 @@ use Rattle.std.proofs.Common.{◌≡◌, ℕ, zero, suc, ◌<◌, ◌==◌, Bool
 use Rattle.std.specs.Prelude.{◌||◌, IfOk, cond, not, is_some, is_none}
 use Rattle.std.specs.Ordering.{nat_cmp}
 use Rattle.std.specs.FinMap.{get, empty, get-empty, entries, get-entries}
-use Rattle.std.specs.BTreeSet.{BTreeSet}
 use Rattle.std.proofs.lemmas.Bool.{and_from}
 use Rattle.std.specs.declared.alloc.AllocError.{AllocError}
 use Rattle.std.proofs.lemmas.List.{length-map, get_or-map}
@@ -41,7 +40,7 @@ filter_differ p (family ∷ families) differ = by (p family) (filter_differ p fa
     by false rest = rest
 
 -- what is found among those that are wanted is what is found among all, where it is wanted
-wanted_found : (named : BTreeSet ℕ) (families : List FamilyValue) (root : ℕ) → roots_differ families ≡ true
+wanted_found : (named : List ℕ) (families : List FamilyValue) (root : ℕ) → roots_differ families ≡ true
     → family_in (filter (is_wanted named) families) root ≡ wanted_of named (family_in families root)
 wanted_found named [] root differ = refl
 wanted_found named (family ∷ families) root differ = by (is_wanted named family) (family.root == root) refl refl (wanted_found named families root first.rest)
@@ -73,7 +72,7 @@ found_or_none None = refl
 found_or_none (Some family) = refl
 
 -- the families of a store that are wanted can be given to an empty one, which is a copy then
-module _ (named : BTreeSet ℕ) (store : StoreValue) (families : List FamilyValue) (by : HoldsByRoot store) (are : families ≡ filter (is_wanted named) (families_in store)) where
+module _ (named : List ℕ) (store : StoreValue) (families : List FamilyValue) (by : HoldsByRoot store) (are : families ≡ filter (is_wanted named) (families_in store)) where
   all_differ : roots_differ (families_in store) ≡ true
   all_differ = rising_differ (families_in store) (rising_in store by)
 
@@ -97,10 +96,10 @@ module _ (named : BTreeSet ℕ) (store : StoreValue) (families : List FamilyValu
   }
 
 -- the families so far are copied, and the others are left
-abbrev pub AreCopiedTo : BTreeSet ℕ → StoreValue → List FamilyValue → List FamilyValue → Type 0
+abbrev pub AreCopiedTo : List ℕ → StoreValue → List FamilyValue → List FamilyValue → Type 0
 AreCopiedTo named store left copies = copies ++ filter (is_wanted named) left ≡ filter (is_wanted named) (families_in store)
 
-module _ (named : BTreeSet ℕ) (store : StoreValue) (left rest copies : List FamilyValue) (family : FamilyValue) (so_far : AreCopiedTo named store left copies) (next : left ≡ family ∷ rest) where
+module _ (named : List ℕ) (store : StoreValue) (left rest copies : List FamilyValue) (family : FamilyValue) (so_far : AreCopiedTo named store left copies) (next : left ≡ family ∷ rest) where
   as_left : copies ++ filter (is_wanted named) (family ∷ rest) ≡ filter (is_wanted named) (families_in store)
   as_left = ap (λ (fs : List FamilyValue). copies ++ filter (is_wanted named) fs) (sym next) ∙ so_far
 
@@ -120,7 +119,7 @@ at_within [] i low = absurd (omega (arith, low))
 at_within (x ∷ xs) zero low = (x, refl)
 at_within (x ∷ xs) (suc i) low = at_within xs i (omega (arith, low))
 
-pub wanted_is : (named : BTreeSet ℕ) (found : Option FamilyValue) (family : FamilyValue) → wanted_of named found ≡ Some family → found ≡ Some family
+pub wanted_is : (named : List ℕ) (found : Option FamilyValue) (family : FamilyValue) → wanted_of named found ≡ Some family → found ≡ Some family
 wanted_is named None family e = e
 wanted_is named (Some other) family e = by (is_wanted named other) e
   where
@@ -129,7 +128,7 @@ wanted_is named (Some other) family e = by (is_wanted named other) e
     by false f = absurd (let e = f in cc)
 
 -- what was copied in threads are the copies of all stores
-module _ (named : BTreeSet ℕ) (stores : List StoreValue) (results : List (Result StoreValue AllocError)) (copies : List StoreValue) (all : map Ok copies ≡ results) (long : length results ≡ length stores)
+module _ (named : List ℕ) (stores : List StoreValue) (results : List (Result StoreValue AllocError)) (copies : List StoreValue) (all : map Ok copies ≡ results) (long : length results ≡ length stores)
     (each : (i : ℕ) (d : Result StoreValue AllocError) → i < length results → IfOk (get_or results i d) (IsCopyAt named stores i)) where
   as_many : length copies ≡ length stores
   as_many = sym (length-map copies Ok) ∙ ap length all ∙ long

@@ -3,7 +3,6 @@ use Rattle.std.proofs.Common.{◌≡◌, ⊎_elim, ℕ, zero, suc, ◌+◌, ◌<
 use Rattle.std.specs.Prelude.{◌≢◌, option_and_then}
 use Rattle.std.specs.Ordering.{nat_cmp}
 use Rattle.std.specs.FinMap.{get, empty, get-empty}
-use Rattle.std.specs.BTreeSet.{BTreeSet}
 use Rattle.std.proofs.lemmas.Bool.{cases_eq, ne_eqb}
 use Rattle.std.proofs.lemmas.Option.{slice_get_within}
 use Rattle.sq_schema.specs.Family.{FamilyValue}
@@ -35,7 +34,7 @@ longer [] y = refl
 longer (x ∷ xs) y = let rest = longer xs y in omega (arith, rest)
 
 -- one store more is copied, or an empty one stands for it
-module _ (named : BTreeSet ℕ) (stores : List StoreValue) (part : ℕ) (copies : List StoreValue) (so_far : AreCopiesOrEmpty named stores part copies)
+module _ (named : List ℕ) (stores : List StoreValue) (part : ℕ) (copies : List StoreValue) (so_far : AreCopiesOrEmpty named stores part copies)
     (store copy : StoreValue) (at : slice_get stores (length copies) ≡ Some store) (is : IsCopyOrEmpty (length copies == part) named store copy) where
   pub copied_more : (now : List StoreValue) → now ≡ copies ++ copy ∷ [] → AreCopiesOrEmpty named stores part now
   copied_more now pushed place other again there here =
@@ -58,7 +57,7 @@ module _ (named : BTreeSet ℕ) (stores : List StoreValue) (part : ℕ) (copies 
       in_all = ap (λ (cs : List StoreValue). slice_get cs place) (sym pushed) ∙ here
 
 -- the copies of one store of a page are those of its partition
-module _ (receipts : List ReceiptValue) (named : BTreeSet ℕ) (has : AreNamed receipts named) (stores copies : List StoreValue) (n : ℕ) (are : AreCopiesAlone named stores n copies) where
+module _ (receipts : List ReceiptValue) (named : List ℕ) (has : AreNamed receipts named) (stores copies : List StoreValue) (n : ℕ) (are : AreCopiesAlone named stores n copies) where
   is_copy : (store copy : StoreValue) → slice_get stores n ≡ Some store → slice_get copies n ≡ Some copy → IsCopyOf named store copy
   is_copy store copy at here = subst (λ (b : Bool). IsCopyOrEmpty b named store copy) (eq-eqb n n refl) (are.each n store copy at here)
 

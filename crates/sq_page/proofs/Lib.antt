@@ -4,6 +4,7 @@ pub mod Pages
 pub mod Leaving
 pub mod Parting
 pub mod Copying
+pub mod Naming
 pub mod Paging
 pub mod Basing
 pub mod Resting

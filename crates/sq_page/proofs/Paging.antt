@@ -3,9 +3,6 @@ use Rattle.std.proofs.Common.{◌≡◌, ⊎_elim, ℕ, ◌+◌, ◌<◌, ◌≤
 use Rattle.std.specs.Prelude.{◌||◌, cond, not, option_and_then}
 use Rattle.std.specs.Ordering.{nat_cmp}
 use Rattle.std.specs.FinMap.{get}
-use Rattle.std.specs.BTreeSet.{BTreeSet, contains, Updates}
-use Rattle.std.specs.BTreeMap.{is_at}
-use Rattle.std.specs.Cmp.{unsigned_tied}
 use Rattle.std.proofs.lemmas.Bool.{cases_eq, eq-eqb}
 use Rattle.std.proofs.lemmas.Option.{slice_get_within}
 use Rattle.sq_schema.specs.Family.{FamilyValue}
@@ -19,7 +16,7 @@ use Rattle.sq_node_model.specs.Spots.{StandsAt}
 use Rattle.sq_node_model.proofs.Stands.{of_some}
 use Rattle.sq_page.specs.Pages.{AllStored, IsStill, IsPageOf}
 use Rattle.sq_page.specs.Copies.{is_wanted, wanted_of, IsCopyOf, AreCopiesOf}
-use Rattle.sq_page.specs.Named.{AreNamed, stored, AreCopies}
+use Rattle.sq_page.specs.Named.{is_named, AreNamed, stored, AreCopies}
 use Rattle.sq_page.proofs.Copying.{at_within, wanted_is}
 
 or_true : (b : Bool) → (b || true) ≡ true
@@ -27,7 +24,7 @@ or_true true = refl
 or_true false = refl
 
 -- a copy of a store, whose root keys that receipts name are among those that are wanted
-module _ (receipts : List ReceiptValue) (named : BTreeSet ℕ) (has : AreNamed receipts named) (store copy : StoreValue) (is : IsCopyOf named store copy) where
+module _ (receipts : List ReceiptValue) (named : List ℕ) (has : AreNamed receipts named) (store copy : StoreValue) (is : IsCopyOf named store copy) where
   pub copy_same : (root : ℕ) (family : FamilyValue) → get copy root ≡ Some family → get store root ≡ Some family
   copy_same root family stands = wanted_is named (get store root) family (sym (is.each root) ∙ stands)
 
@@ -36,11 +33,11 @@ module _ (receipts : List ReceiptValue) (named : BTreeSet ℕ) (has : AreNamed r
     where
       wanted : is_wanted named family ≡ true
       wanted =
-          ap (λ b. not (length family.log == 0) || b) (ap (contains nat_cmp named) (is.rooted receipt.root family stands) ∙ has receipt there)
+          ap (λ b. not (length family.log == 0) || b) (ap (is_named named) (is.rooted receipt.root family stands) ∙ has receipt there)
           ∙ or_true (not (length family.log == 0))
 
 -- the copies of all stores
-module _ (receipts : List ReceiptValue) (named : BTreeSet ℕ) (has : AreNamed receipts named) (stores copies : List StoreValue) (are : AreCopiesOf named stores copies) where
+module _ (receipts : List ReceiptValue) (named : List ℕ) (has : AreNamed receipts named) (stores copies : List StoreValue) (are : AreCopiesOf named stores copies) where
   same : (part root : ℕ) (family : FamilyValue) → stored copies part root ≡ Some family → stored stores part root ≡ Some family
   same part root family stands =
       let copy = of_some (λ (s : StoreValue). get s root) (slice_get copies part) family stands in
@@ -79,29 +76,3 @@ module _ (g page : GatheredValue) (all : AllStored g) (still : IsStill (length g
       named : (receipt : ReceiptValue) (spot : Spot) (family : FamilyValue) → Contains g.receipts receipt → StandsAt g spot receipt.root family → StandsAt page spot receipt.root family
       named receipt (Store part) family has stands = are.copied receipt part family has stands
       named receipt (Chunk link chunk) family has stands = absurd (all link chunk receipt.root family stands)
-
--- the root keys of the receipts before this place are there
-abbrev pub AreNamedTo : List ReceiptValue → ℕ → BTreeSet ℕ → Type 0
-AreNamedTo receipts i named = (k : ℕ) (receipt : ReceiptValue) → k < i → slice_get receipts k ≡ Some receipt → contains nat_cmp named receipt.root ≡ true
-
-pub named_next : (receipts : List ReceiptValue) (i : ℕ) (old new : BTreeSet ℕ) (here : ReceiptValue) → AreNamedTo receipts i old → slice_get receipts i ≡ Some here
-    → Updates nat_cmp old new here.root true → AreNamedTo receipts (i + 1) new
-named_next receipts i old new here so_far at updates k receipt low there =
-    updates.0 receipt.root
-    ∙ ⊎_elim
-    (λ (same : k ≡ i).
-    let both : Some here ≡ Some receipt = sym at ∙ ap (slice_get receipts) (sym same) ∙ there in
-    let is : here ≡ receipt = cc in
-    ap (λ b. cond b true (contains nat_cmp old receipt.root)) (unsigned_tied here.root receipt.root ∙ eq-eqb here.root receipt.root (ap (λ (r : ReceiptValue). r.root) is)))
-    (λ apart. either (is_at (nat_cmp here.root) receipt.root) (so_far k receipt (omega (arith, low, apart)) there))
-    (cases_eq k i)
-  where
-    either : (b : Bool) → contains nat_cmp old receipt.root ≡ true → cond b true (contains nat_cmp old receipt.root) ≡ true
-    either true was = refl
-    either false was = was
-
-pub named_all : (receipts : List ReceiptValue) (i : ℕ) (named : BTreeSet ℕ) → length receipts ≤ i → AreNamedTo receipts i named → AreNamed receipts named
-named_all receipts i named past all receipt has =
-    let at = slice_get-Contains receipts receipt has in
-    let low = slice_get_within receipts has.0 receipt at in
-    all has.0 receipt (omega (arith, past, low)) at

@@ -1,16 +1,18 @@
 -- The root keys that receipts name, and copies of the families of stores that are theirs.
-use Rattle.std.specs.Prelude.{◌≡◌, ℕ, true, List, length, slice_get, Option, Some, Contains, option_and_then}
-use Rattle.std.specs.Ordering.{nat_cmp}
+use Rattle.std.specs.Prelude.{◌≡◌, ◌==◌, ℕ, Bool, true, List, length, slice_get, Option, Some, Contains, option_and_then}
+use Rattle.std.specs.List.{list_any}
 use Rattle.std.specs.FinMap.{get}
-use Rattle.std.specs.BTreeSet.{BTreeSet, contains}
 use Rattle.sq_schema.specs.Family.{FamilyValue}
 use Rattle.sq_store.specs.StoreValue.{StoreValue}
 use Rattle.sq_node_model.specs.NodeValue.{ReceiptValue}
 
+-- the root key is one of these
+abbrev pub is_named : List ℕ → ℕ → Bool
+is_named named root = list_any (λ number. number == root) named
+
 -- these are the root keys of receipts, and maybe others
-abbrev pub AreNamed : List ReceiptValue → BTreeSet ℕ → Type 0
-AreNamed receipts named =
-    (receipt : ReceiptValue) → Contains receipts receipt → contains nat_cmp named receipt.root ≡ true
+abbrev pub AreNamed : List ReceiptValue → List ℕ → Type 0
+AreNamed receipts named = (receipt : ReceiptValue) → Contains receipts receipt → is_named named receipt.root ≡ true
 
 -- the family that a root key has in the store at a place
 abbrev pub stored : List StoreValue → ℕ → ℕ → Option FamilyValue

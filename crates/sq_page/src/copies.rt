@@ -4,11 +4,11 @@ ghost use Rattle.sq_store.specs.Prelude.{families_in, HoldsByRoot};
 ghost use Rattle.sq_page.specs.Copies.{is_wanted, IsCopyOf, IsCopyAt, AreCopiesOf, IsCopyOrEmpty, AreCopiesAlone};
 
 use crate::family::copy_family;
+use crate::roots::NamedRoots;
 use sq_runs::RunStore;
-use sq_schema::{Family, Root};
+use sq_schema::Family;
 use sq_store::FamilyStore;
 use std::alloc::{AllocError, Global};
-use std::collections::BTreeSet;
 use std::thread;
 use std::thread::Threads;
 
@@ -17,7 +17,7 @@ use std::thread::Threads;
 pub(crate) fn copy_each<R: Threads + Sync>(
     rt: &R,
     alloc: Global,
-    named: &BTreeSet<Root>,
+    named: &NamedRoots,
     stores: &[RunStore],
 ) -> Result<Vec<RunStore>, AllocError>
     ensures { IfOk result (λ copies. AreCopiesOf named.now stores.now copies.items) }
@@ -38,7 +38,7 @@ pub(crate) fn copy_each<R: Threads + Sync>(
 /// Copies of the families of one of the stores that have a log or one of these root keys, in its place among empty stores.
 pub(crate) fn copy_alone(
     alloc: Global,
-    named: &BTreeSet<Root>,
+    named: &NamedRoots,
     stores: &[RunStore],
     part: usize,
 ) -> Result<Vec<RunStore>, AllocError>
@@ -55,7 +55,7 @@ pub(crate) fn copy_alone(
 // The same of this store where it is the one, and else an empty store.
 fn copy_or_empty(
     alloc: Global,
-    named: &BTreeSet<Root>,
+    named: &NamedRoots,
     store: &RunStore,
     is_one: bool,
 ) -> Result<RunStore, AllocError>
@@ -83,11 +83,7 @@ fn all_copied(
 }
 
 // A store with copies of the families of a store that have a log or one of these root keys.
-fn copy_store(
-    alloc: Global,
-    named: &BTreeSet<Root>,
-    store: &RunStore,
-) -> Result<RunStore, AllocError>
+fn copy_store(alloc: Global, named: &NamedRoots, store: &RunStore) -> Result<RunStore, AllocError>
     ensures { IfOk result (IsCopyOf named.now store.now) }
 {
     let families = copy_wanted(alloc, named, store)?;
@@ -101,7 +97,7 @@ fn copy_store(
 // Copies of these families.
 fn copy_wanted(
     alloc: Global,
-    named: &BTreeSet<Root>,
+    named: &NamedRoots,
     store: &RunStore,
 ) -> Result<Vec<Family>, AllocError>
     ensures copied { IfOk result (λ copies.
@@ -118,8 +114,8 @@ fn copy_wanted(
 }
 
 // Whether a family has a log, or its root key is among these.
-fn is_wanted(named: &BTreeSet<Root>, family: &Family) -> bool
+fn is_wanted(named: &NamedRoots, family: &Family) -> bool
     ensures { result ≡ is_wanted named.now family.now }
 {
-    !family.log().is_empty() || named.contains(&family.root())
+    !family.log().is_empty() || named.has(family.root())
 }

@@ -4,8 +4,8 @@ ghost use Rattle.sq_page.specs.Parts.{jobs_of};
 ghost use Rattle.sq_page.specs.Divided.{is_owned, IsPartAt};
 
 use crate::copies::copy_alone;
-use crate::named::named_roots;
 use crate::page::Page;
+use crate::roots::NamedRoots;
 use sq_audit::Job;
 use sq_gather::Gathered;
 use sq_node::Receipt;
@@ -26,7 +26,7 @@ pub(crate) fn part_of(
 {
     let receipts = receipts_of(alloc, plan, part, &page.run.receipts)?;
     let jobs = jobs_of(alloc, plan, part, &page.jobs)?;
-    let named = named_roots(alloc, &receipts)?;
+    let named = NamedRoots::of(alloc, &receipts)?;
     let stores = copy_alone(alloc, &named, &page.run.stores, part)?;
     Ok(page_of(alloc, stores, receipts, jobs))
 }

@@ -11,6 +11,7 @@ pub mod laws;
 mod least;
 mod named;
 mod page;
+mod roots;
 mod taking;
 
 pub use judging::audit_page;

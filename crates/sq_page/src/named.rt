@@ -1,13 +1,12 @@
 // Copies of the families that receipts name.
 ghost use Rattle.std.specs.Prelude.{IfOk};
-ghost use Rattle.sq_page.specs.Named.{AreNamed, AreCopies};
+ghost use Rattle.sq_page.specs.Named.{AreCopies};
 
 use crate::copies::copy_each;
+use crate::roots::NamedRoots;
 use sq_node::Receipt;
 use sq_runs::RunStore;
-use sq_schema::Root;
 use std::alloc::{AllocError, Global};
-use std::collections::BTreeSet;
 use std::thread::Threads;
 
 /// Copies, by partition, of the families that have a log or that a receipt names: those of each partition in a thread of their
@@ -20,18 +19,7 @@ pub(crate) fn copy_named<R: Threads + Sync>(
 ) -> Result<Vec<RunStore>, AllocError>
     ensures { IfOk result (λ copies. AreCopies receipts.now stores.now copies.items) }
 {
-    let named = named_roots(alloc, receipts)?;
+    let named = NamedRoots::of(alloc, receipts)?;
     let copies = copy_each(rt, alloc, &named, stores)?;
     Ok(copies)
-}
-
-/// The root keys that receipts name.
-pub(crate) fn named_roots(alloc: Global, receipts: &[Receipt]) -> Result<BTreeSet<Root>, AllocError>
-    ensures { IfOk result (AreNamed receipts.now) }
-{
-    let mut named = BTreeSet::new(alloc);
-    for receipt in receipts {
-        named.insert(receipt.root)?;
-    }
-    Ok(named)
 }

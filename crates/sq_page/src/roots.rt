@@ -1,0 +1,47 @@
+// Root keys that receipts name.
+ghost use Rattle.std.specs.Prelude.{◌≡◌, IfOk};
+ghost use Rattle.sq_page.specs.Named.{is_named, AreNamed};
+
+use sq_node::Receipt;
+use sq_schema::Root;
+use std::alloc::{AllocError, Global};
+use std::marker::Model;
+
+/// The numbers of root keys in an order by which one is found: none is lower than one before it. A number stands there once for
+/// each receipt that names it.
+#[derive(Drop)]
+pub(crate) struct NamedRoots {
+    numbers: Vec<u64>,
+}
+
+impl Model for NamedRoots {
+    ghost use Rattle.std.specs.Prelude.{ℕ, List};
+    ghost use Rattle.std.specs.List.Sorted.{IsNonDecreasing};
+
+    ghost Value = { List ℕ };
+
+    ghost view = { λ n. n.numbers.items };
+
+    ghost invariant = { λ n. IsNonDecreasing n.numbers.items };
+}
+
+impl NamedRoots {
+    /// Those that these receipts name.
+    pub(crate) fn of(alloc: Global, receipts: &[Receipt]) -> Result<NamedRoots, AllocError>
+        ensures { IfOk result (AreNamed receipts.now) }
+    {
+        let mut numbers = Vec::with_capacity(alloc, receipts.len())?;
+        for receipt in receipts {
+            numbers.push(receipt.root.number())?;
+        }
+        numbers.sort_unstable();
+        Ok(NamedRoots { numbers })
+    }
+
+    /// Whether a root key is one of them.
+    pub(crate) fn has(&self, root: Root) -> bool
+        ensures { result ≡ is_named self.now root }
+    {
+        self.numbers.binary_search(&root.number()).is_ok()
+    }
+}
