@@ -4,9 +4,10 @@
 #
 #   bash tests/plants.sh            plants in each crate that has changed since it was listed
 #   bash tests/plants.sh CRATE..    plants in these
-#   bash tests/plants.sh --changed  only names the crates that have changed
+#   bash tests/plants.sh --changed  only names the crates that have changed, since then and since the wrong bodies that were
+#                                   written by hand were tried in them
 #
-# A crate is as it was listed where the checksum of its `src` and `specs` stands in the first line under its heading. A
+# A crate is as it was where the checksum of its code and definitions, without their comments, stands under its heading. A
 # crate takes from one minute to an hour. Prints what isn't listed, and what is listed and isn't proved any more, and
 # for each crate the line that belongs under its heading; at the end how many crates passed. Fails where something isn't
 # listed.
@@ -19,9 +20,9 @@ trap 'rm -r "$room"' EXIT
 passed=0
 failed=0
 
-# The checksum of a crate's code and definitions.
+# The checksum of a crate's code and definitions, without their comments.
 checksum() {
-    (cd "$top/crates/$1" && find src specs -type f 2> "$room/missing" | sort | xargs cat | sha256sum | cut -c 1-12)
+    (cd "$top/crates/$1" && find src specs -type f 2> "$room/missing" | sort | xargs sed -E '/^ *(\/\/|--)/d' | sha256sum | cut -c 1-12)
 }
 
 # What stands under a crate's heading.
@@ -29,12 +30,12 @@ section() {
     awk -v heading="## $1" '/^## / { inside = $0 == heading; next } inside' "$list"
 }
 
-# The crates with code that isn't as it was listed.
+# changed HOW: the crates whose code isn't that of the line with this word, 'of the sources' where the tool planted, or 'by hand'.
 changed() {
     local name
     for name in $(grep -oE '^[a-z_]+' "$top/crates.txt"); do
-        case $name in sq_tests | sq_*_tests | sq_trial | sq_million | sq_example | sq_*_example) continue ;; esac
-        section "$name" | grep -q "$(checksum "$name")" || echo "$name"
+        case $name in sq_tests | sq_*_tests | sq_trial | sq_million | sq_example | sq_*_example | sq_examples) continue ;; esac
+        section "$name" | grep "$1" | grep -q "$(checksum "$name")" || echo "$name"
     done
 }
 
@@ -54,10 +55,11 @@ plant() {
 }
 
 if [ "${1:-}" = --changed ]; then
-    echo "changed since their plants were listed: $(changed | tr '\n' ' ')"
+    echo "changed since the tool planted in them: $(changed 'of the sources' | tr '\n' ' ')"
+    echo "changed since wrong bodies were planted by hand: $(changed 'by hand' | tr '\n' ' ')"
     exit
 fi
-if [ $# = 0 ]; then set -- $(changed); fi
+if [ $# = 0 ]; then set -- $(changed 'of the sources'); fi
 for name; do
     if plant "$name"; then passed=$((passed + 1)); else failed=$((failed + 1)); fi
 done
