@@ -1,0 +1,4 @@
+pub mod Foldings
+pub mod Parts
+pub mod Placed
+pub mod SpacedWords

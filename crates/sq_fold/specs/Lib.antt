@@ -1,0 +1,4 @@
+pub mod Folds
+pub mod NextWords
+pub mod Rows
+pub mod Words
