@@ -282,11 +282,11 @@ try_terminal() {
     grep " jobs, " "$room/terminal" > "$room/told" || true
     told=$(wc -l < "$room/told")
     if [ "$told" -gt $(((SECONDS - began + 1) * 10 + 3)) ]; then why="$told lines of progress"; fi
-    if ! awk '$1 < jobs || $5 < chunks || $7 < segments { exit 1 } { jobs = $1; chunks = $5; segments = $7 }' "$room/told"; then why='less than before'; fi
-    if [ "$(head -n 1 "$room/told")" != "0 of $jobs jobs, 0 chunks, 0 of $segments segments" ]; then why='another first line'; fi
-    # A segment is complete only once its chunks are loaded, of which there is one at least.
-    if ! tail -n 1 "$room/told" | grep -qxE "$jobs of $jobs jobs, [1-9][0-9]* chunks, $segments of $segments segments"; then why='no line of the whole'; fi
-    printf '%60s\n%s\n' '' 'sound 21 families 41 committed' > "$room/wanted"
+    if ! awk '$1 < jobs || $5 < families || $8 < segments { exit 1 } { jobs = $1; families = $5; segments = $8 }' "$room/told"; then why='less than before'; fi
+    if [ "$(head -n 1 "$room/told")" != "0 of $jobs jobs, 0 families moved, 0 of $segments segments" ]; then why='another first line'; fi
+    # Each of the 20 root keys that move has its row from the beginning.
+    if [ "$(tail -n 1 "$room/told")" != "$jobs of $jobs jobs, 20 families moved, $segments of $segments segments" ]; then why='no line of the whole'; fi
+    printf '%72s\n%s\n' '' 'sound 21 families 41 committed' > "$room/wanted"
     tail -n 3 "$room/terminal" | head -n 2 > "$room/ends"
     count progress_at_a_terminal "$why$(difference "$room/wanted" "$room/ends")"
     typed_input run_that_is_typed 'old PLAN' run
