@@ -138,10 +138,15 @@ served_shape =
     (counted_rule (codes "pumps") 1 MAX_PUMPS (codes "1")))
     (counted_rule (codes "fold-after") 1 MAX_FOLD_AFTER (codes "262144"))
 
+-- and for reports
+abbrev pub reported_shape : Shape
+reported_shape =
+    larger (larger served_shape (valued_rule (codes "summary-out"))) (valued_rule (codes "timeline"))
+
 -- and with all its options
 abbrev pub serve_shape : Shape
 serve_shape =
-    larger (larger (larger served_shape (valued_rule (codes "plan"))) (valued_rule (codes "rows")))
+    larger (larger (larger reported_shape (valued_rule (codes "plan"))) (valued_rule (codes "rows")))
     file_rule
 
 -- the subcommand that says what numbers mean

@@ -4,6 +4,7 @@ use Rattle.clap.specs.Walk.{Row, first_of, one_of}
 use Rattle.clap.specs.declared.error.kind.ErrorKind.{ErrorKind}
 use Rattle.clap.specs.declared.error.kind.ErrorKind.TheVariants.{MissingRequiredArgument}
 use Rattle.sq_command.specs.declared.line.EngineFiles.{EngineFiles}
+use Rattle.sq_command.specs.declared.line.EngineReports.{EngineReports}
 use Rattle.sq_command.specs.declared.line.Line.{Line}
 use Rattle.sq_command.specs.declared.line.Line.TheVariants.{Work, Owner, Demo, Serve, Explain}
 use Rattle.sq_command.specs.declared.tasks.TheConstants.{MAX_PUMPS, PUMPS}
@@ -22,12 +23,18 @@ LacksEnginePlan rows kind =
     (kind ≡ MissingRequiredArgument) × (is_some (first_of (codes "rows") rows) ≡ true)
     × IsNameOf (codes "plan") rows None
 
+-- the reports go to the files that are named
+abbrev pub AreReportsOf : List Row → EngineReports → Type 0
+AreReportsOf rows reports =
+    IsNameOf (codes "summary-out") rows reports.summary_out
+    × IsNameOf (codes "timeline") rows reports.timeline
+
 -- the line serves an engine with the numbers and the files of these options
 abbrev pub IsEngineLine : List Row → Line → Type 0
-IsEngineLine rows (Serve pumps fold_after files file) =
+IsEngineLine rows (Serve pumps fold_after files file reports) =
     NumberOf 1 MAX_PUMPS PUMPS (one_of (codes "pumps") rows) pumps
     × NumberOf 1 MAX_FOLD_AFTER FOLD_AFTER (one_of (codes "fold-after") rows) fold_after
-    × AreEngineFilesOf rows files × IsMainOf rows file
+    × AreEngineFilesOf rows files × IsMainOf rows file × AreReportsOf rows reports
 IsEngineLine rows (Work task input) = ⊥
 IsEngineLine rows (Owner keys plans width) = ⊥
 IsEngineLine rows (Demo demo folder) = ⊥

@@ -330,7 +330,9 @@ Exit status:
 /// Help on `serve` and its options, and the text behind these.
 pub const SERVE_ABOUT: &str = "Answers jobs for as long as lines come, while rows move";
 
-pub const FOLD_AFTER: &str = "After how many answers logs are folded";
+pub const FOLD_AFTER: &str = "Fold logs after so many answers";
+
+pub const SERVE_TIMELINE: &str = "Write into this file what was done in each 10 ms";
 
 pub const PLAN: &str = "The plan to begin with, in a file of its own";
 

@@ -49,6 +49,8 @@ pub enum Line<'a> {
         files: Option<EngineFiles<'a>>,
         /// The name of the file that is read before standard input, where there is one.
         file: Option<&'a str>,
+        /// The files into which it is written what the engine did.
+        reports: EngineReports<'a>,
     },
     /// Tell what this number means, or all numbers.
     Explain {
@@ -83,6 +85,15 @@ pub struct EngineFiles<'a> {
     pub plan: &'a str,
     /// The name of the file that holds the rows, where they have one.
     pub rows: Option<&'a str>,
+}
+
+/// The files into which it is written what an engine did.
+#[derive(Clone, Copy, Debug, PartialEq, Eq)]
+pub struct EngineReports<'a> {
+    /// The name of the file into which an account of it is written, where there is to be one.
+    pub summary_out: Option<&'a str>,
+    /// The name of the file into which it is written what was done in each short interval, where there is to be one.
+    pub timeline: Option<&'a str>,
 }
 
 /// The form in which what moves is written.

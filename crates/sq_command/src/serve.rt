@@ -4,15 +4,15 @@ ghost use Rattle.clap.specs.Matches.{found_of};
 ghost use Rattle.clap.specs.Walk.{rows_of};
 ghost use Rattle.clap.specs.Words.{shape_of};
 ghost use Rattle.clap.specs.declared.builder.command.Command.TheViews.{out-Command};
-ghost use Rattle.sq_command.specs.Commands.{served_shape, serve_shape};
+ghost use Rattle.sq_command.specs.Commands.{served_shape, reported_shape, serve_shape};
 ghost use Rattle.sq_command.specs.Options.{Asks};
-ghost use Rattle.sq_command.specs.Serve.{AreEngineFilesOf, IsEngineLine, LacksEnginePlan};
+ghost use Rattle.sq_command.specs.Serve.{AreEngineFilesOf, AreReportsOf, IsEngineLine, LacksEnginePlan};
 ghost use Rattle.sq_command.specs.Line.{LineIsWithin};
 
 use crate::clash::Clash;
 use crate::commands::{file, option, path, subcommand, with};
 use crate::help;
-use crate::line::{EngineFiles, Line};
+use crate::line::{EngineFiles, EngineReports, Line};
 use crate::options::{main_of, name_of, number_of};
 use crate::tasks::{MAX_PUMPS, PUMPS};
 use clap::{ArgMatches, Command, value_parser};
@@ -42,12 +42,24 @@ fn served<'a>(alloc: Global) -> Result<Command<'a>, AllocError>
     )
 }
 
+// The subcommand with its options for reports too.
+fn reported<'a>(alloc: Global) -> Result<Command<'a>, AllocError>
+    ensures shape { IfOk result (λ command. shape_of command ≡ reported_shape) }
+    ensures local { IfOk result (λ command. (out-Command command).has_globals ≡ false) }
+{
+    let accounting = with(
+        served(alloc)?,
+        path(alloc, "summary-out", help::SUMMARY_OUT),
+    )?;
+    with(accounting, path(alloc, "timeline", help::SERVE_TIMELINE))
+}
+
 /// The subcommand that serves an engine.
 pub fn serve<'a>(alloc: Global) -> Result<Command<'a>, AllocError>
     ensures shape { IfOk result (λ command. shape_of command ≡ serve_shape) }
     ensures local { IfOk result (λ command. (out-Command command).has_globals ≡ false) }
 {
-    let planned = with(served(alloc)?, path(alloc, "plan", help::PLAN))?;
+    let planned = with(reported(alloc)?, path(alloc, "plan", help::PLAN))?;
     let filled = with(planned, path(alloc, "rows", help::ROWS))?;
     with(filled, file(alloc))
 }
@@ -63,6 +75,7 @@ pub fn serve_line<'a>(options: &ArgMatches<'a>) -> Result<Line<'a>, Clash>
         fold_after: number_of(options, "fold-after", 1, MAX_FOLD_AFTER, FOLD_AFTER),
         files: engine_files_of(options)?,
         file: main_of(options),
+        reports: reports_of(options),
     })
 }
 
@@ -75,5 +88,15 @@ fn engine_files_of<'a>(options: &ArgMatches<'a>) -> Result<Option<EngineFiles<'a
         Some(plan) => Ok(Some(EngineFiles { plan, rows })),
         None if rows.is_some() => Err(Clash::NoEnginePlan),
         None => Ok(None),
+    }
+}
+
+// The files of reports that options name.
+fn reports_of<'a>(options: &ArgMatches<'a>) -> EngineReports<'a>
+    ensures { AreReportsOf (rows_of (found_of options.now)) result }
+{
+    EngineReports {
+        summary_out: name_of(options, "summary-out"),
+        timeline: name_of(options, "timeline"),
     }
 }
