@@ -13,6 +13,7 @@ pub(crate) struct EpochGate {
     nodes: Attendance,
     segments: u64,
     complete: AtomicU64,
+    moved: AtomicU64,
     answers: AtomicU64,
 }
 
@@ -26,6 +27,7 @@ impl EpochGate {
             nodes: Attendance::new(parts),
             segments: progress.segments,
             complete: AtomicU64::new(progress.complete),
+            moved: AtomicU64::new(progress.moved),
             answers: AtomicU64::new(0),
         }
     }
@@ -60,6 +62,7 @@ impl EpochGate {
         StageProgress {
             segments: self.segments,
             complete: self.complete.load(Ordering::SeqCst).min(self.segments),
+            moved: self.moved.load(Ordering::SeqCst),
         }
     }
 
@@ -86,7 +89,10 @@ impl Gate for EpochGate {
                     self.end();
                 }
             }
-            WorkerEvent::Loaded { .. } | WorkerEvent::Made(_) => {}
+            WorkerEvent::Loaded { families } => {
+                self.moved.fetch_add(families, Ordering::SeqCst);
+            }
+            WorkerEvent::Made(_) => {}
         }
     }
 

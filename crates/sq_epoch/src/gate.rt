@@ -5,14 +5,15 @@ use sq_driver::{Gate, NodeStep, WorkerEvent, WorkerId};
 use std::sync::Wait;
 use std::sync::atomic::{AtomicBool, AtomicU64, Ordering};
 
-/// A gate before another gate, which counts the segments of a stage that are complete. Once all are, it ends workers that
-/// don't end where they are idle, so that the next stage can begin. And it ends all workers where one rests for some seconds
-/// while a node hasn't come, for want of a thread.
+/// A gate before another gate, which counts the segments of a stage that are complete, and the families that were moved. Once
+/// all segments are, it ends workers that don't end where they are idle, so that the next stage can begin. And it ends all
+/// workers where one rests for some seconds while a node hasn't come, for want of a thread.
 #[derive(Drop)]
 pub struct CountingGate<'a, G> {
     gate: &'a G,
     segments: u64,
     complete: AtomicU64,
+    moved: AtomicU64,
     nodes: Attendance,
     lacks_threads: AtomicBool,
 }
@@ -24,6 +25,7 @@ impl<'a, G: Gate> CountingGate<'a, G> {
             gate,
             segments: progress.segments,
             complete: AtomicU64::new(progress.complete),
+            moved: AtomicU64::new(progress.moved),
             nodes: Attendance::new(parts),
             lacks_threads: AtomicBool::new(false),
         }
@@ -34,6 +36,7 @@ impl<'a, G: Gate> CountingGate<'a, G> {
         StageProgress {
             segments: self.segments,
             complete: self.complete.load(Ordering::SeqCst),
+            moved: self.moved.load(Ordering::SeqCst),
         }
     }
 
@@ -54,8 +57,14 @@ impl<G: Gate> Gate for CountingGate<'_, G> {
     }
 
     fn did(&self, who: WorkerId, event: WorkerEvent) {
-        if event == WorkerEvent::SegmentComplete {
-            self.complete.fetch_add(1, Ordering::SeqCst);
+        match event {
+            WorkerEvent::SegmentComplete => {
+                self.complete.fetch_add(1, Ordering::SeqCst);
+            }
+            WorkerEvent::Loaded { families } => {
+                self.moved.fetch_add(families, Ordering::SeqCst);
+            }
+            WorkerEvent::Answered(_) | WorkerEvent::Made(_) => {}
         }
         self.gate.did(who, event);
     }

@@ -17,7 +17,6 @@ mod serving;
 mod stage_progress;
 mod telling;
 
-pub use answered::{copy_answered, count};
 pub use client::{Client, Command};
 pub use gate::CountingGate;
 pub use long_log::{LONG_LOG, any_node_shows_long_log, any_shows_long_log};

@@ -2,15 +2,15 @@
 ghost use Rattle.std.specs.Prelude.{◌≡◌, ◌-◌, [], ◌∷◌, ◌++◌, length, take, filter, not, OnOk};
 ghost use Rattle.std.specs.Prelude.{OnErr, IsErrOf, IsTrue};
 ghost use Rattle.sq_audit.specs.Answers.{IdsDiffer};
-ghost use Rattle.sq_audit.specs.Counts.{is_counted};
+ghost use Rattle.sq_audit.specs.ById.{AreById, is_listed};
 ghost use Rattle.sq_epoch.specs.Posted.{is_id_in, HaveJustIds};
 
-use crate::answered::{forget_ids, leave_unanswered};
-use sq_audit::Job;
+use crate::answered::forget_ids;
+use sq_audit::{Job, leave_unanswered};
 use sq_plan::PartId;
 use sq_schema::Txn;
 use std::alloc::{AllocError, Global};
-use std::collections::{BTreeMap, BTreeSet};
+use std::collections::BTreeSet;
 use std::marker::Model;
 use thiserror::Error;
 
@@ -57,18 +57,15 @@ impl PostedJobs {
         }
     }
 
-    /// These jobs without those that have a receipt by these counts, which are copies of theirs. Their ids may come
-    /// again.
-    pub fn without_answered(
-        self,
-        counts: &BTreeMap<(u64, u64), u64>,
-        answered: &[Job],
-    ) -> PostedJobs
-        requires { answered.now ≡ filter (is_counted counts.now) self }
-        ensures { result ≡ filter (λ job. not (is_counted counts.now job)) self }
+    /// These jobs without those that have a receipt, by the ids of receipts that [`list_ids`](sq_audit::list_ids) lists. Handed in
+    /// are copies of the jobs that have one, whose ids may come again.
+    pub fn without_answered(self, receipts: &[(u64, u64)], answered: &[Job]) -> PostedJobs
+        requires by_id { AreById receipts.now }
+        requires answered { answered.now ≡ filter (is_listed receipts.now) self }
+        ensures { result ≡ filter (λ job. not (is_listed receipts.now job)) self }
     {
         let PostedJobs { mut jobs, mut ids } = self;
-        leave_unanswered(counts, &mut jobs);
+        leave_unanswered(receipts, &mut jobs);
         forget_ids(&mut ids, answered);
         PostedJobs { jobs, ids }
     }

@@ -8,23 +8,26 @@ use sq_node::Fabric;
 use sq_ranges::{Opening, Range, Recon};
 use sq_tree::NodeId;
 
-/// How many segments move in a stage, and how many of them are complete.
+/// How many segments move in a stage, how many of them are complete, and how many families were moved.
 #[derive(Clone, Copy, Debug, PartialEq, Eq)]
 pub struct StageProgress {
     /// How many move in the stage.
     pub segments: u64,
     /// How many of these are complete.
     pub complete: u64,
+    /// How many families its workers have loaded since its epoch began.
+    pub moved: u64,
 }
 
 impl StageProgress {
     /// At the beginning of a stage in which so many segments move.
     pub fn at_start(segments: u64) -> StageProgress
-        ensures { result ≡ record { segments = segments; complete = 0 } }
+        ensures { result ≡ record { segments = segments; complete = 0; moved = 0 } }
     {
         StageProgress {
             segments,
             complete: 0,
+            moved: 0,
         }
     }
 

@@ -1,7 +1,0 @@
-use Rattle.std.proofs.Common.{◌≡◌, filter, take}
-use Rattle.sq_audit.specs.Counts.{is_counted}
-use Rattle.sq_epoch.proofs.answered.copy_answered.Given as goal
-
--- the jobs so far that have a receipt are copied
-abbrev pub invariant-loop-job : goal.invariant-loop-job
-invariant-loop-job l = l.answered.items ≡ filter (is_counted l.counts) (take l.job-index l.jobs)
