@@ -218,6 +218,47 @@ served_headers() {
 END
 }
 
+# An input that breaks off: a line without an end, and one that can't be read further. What was read before is done.
+served_broken_input() {
+    give <(opening; echo 'txn 0 1 5 add 0 0 5'; tr '\0' a < /dev/zero) serve
+    printf '%s\n' 'commit 1 15' 'fault 122 6' 'sound 2 families 1 committed' > "$room/wanted"
+    sort "$room/out" > "$room/told"
+    count 'serve: an input without end' "$([ "$ended" = 2 ] || echo "status $ended; ")$(difference "$room/wanted" "$room/told")"
+    { opening; echo 'txn 0 1 5 add 0 0 5'; } > "$room/begin"
+    ended=0
+    timeout 60 "$squall" serve "$room/begin" < "$room" > "$room/out" 2> "$room/err" || ended=$?
+    printf '%s\n' 'commit 1 15' 'fault 123 6' 'sound 2 families 1 committed' > "$room/wanted"
+    sort "$room/out" > "$room/told"
+    count 'serve: an input that is not read further' "$([ "$ended" = 2 ] || echo "status $ended; ")$(difference "$room/wanted" "$room/told")"
+}
+
+# More lines than a header may have: each is answered, with its number.
+served_many_lines() {
+    { opening; yes '' | head -n 1100000; } > "$room/jobs"
+    give "$room/jobs" serve
+    { seq -f 'fault 126 %.0f' 5 1100004; echo 'sound 2 families 0 committed'; } > "$room/wanted"
+    count 'serve: more than a million lines' "$([ "$ended" = 0 ] || echo "status $ended; ")$(cmp "$room/wanted" "$room/out" 2>&1)"
+}
+
+# A client that sends jobs, most of them to one partition, and reads no answer until all are sent, or the engine has stood for a
+# while: nothing is lost or doubled.
+served_slow_client() {
+    begin_engine
+    {
+        opening
+        seq 1 40000 | awk '{ if ($1 % 8 == 0) print "txn 1", $1, "4000000000 check 0 0 1"; else print "txn 0", $1, "5 add 0 0 1" }'
+    } >&8 &
+    exec 8>&-
+    sleep 1
+    ended=0
+    cat <&7 > "$room/out"
+    exec 7<&-
+    wait "$engine" || ended=$?
+    { seq 1 40000 | awk '{ print $1 % 8 == 0 ? "abort" : "commit", $1 }'; echo 'sound 2'; } | sort > "$room/wanted"
+    cut -d ' ' -f 1,2 "$room/out" | sort > "$room/told"
+    count 'serve: a client that reads late' "$([ "$ended" = 0 ] || echo "status $ended; ")$(difference "$room/wanted" "$room/told")$(cat "$room/err")"
+}
+
 # A closed output ends the engine at once, also while its input is silent; and so does a full device.
 served_closed_output() {
     begin_engine
@@ -247,4 +288,7 @@ try_serve() {
     served_moves
     served_files
     served_headers
+    served_broken_input
+    served_many_lines
+    served_slow_client
 }
