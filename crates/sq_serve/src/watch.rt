@@ -15,6 +15,10 @@ pub enum ServeMark {
     SegmentsComplete {
         complete: u64,
     },
+    /// So many families more were moved in it.
+    FamiliesMoved {
+        families: u64,
+    },
     /// It is to end.
     EpochEnds,
     /// The job with this id is offered to the engine, for the first time or once more.

@@ -1,0 +1,34 @@
+-- Short intervals of a time in which an engine was served.
+use Rattle.std.specs.Prelude.{◌≡◌, ◌⊎◌, ℕ, ◌+◌, List, [], ◌∷◌, ◌++◌, length, sum_by}
+use Rattle.sq_summary.specs.Spreads.{IsSpreadOf}
+use Rattle.sq_serve.specs.declared.watch.ServeMark.{ServeMark}
+use Rattle.sq_serve.specs.declared.watch.ServeMark.TheVariants.{JobAnswered}
+use Rattle.sq_serve_report.specs.declared.intervals.IntervalFigures.{IntervalFigures}
+use Rattle.sq_serve_report.specs.declared.intervals.Intervals.{Intervals}
+
+-- how many jobs a mark answers
+abbrev pub answers_in : ServeMark → ℕ
+answers_in (JobAnswered part id is_commit) = 1
+answers_in mark = 0
+
+-- how many jobs were answered in the intervals that are over, and in all
+abbrev pub answered_over : List IntervalFigures → ℕ
+answered_over over = sum_by (λ figures. figures.answered) over
+
+abbrev pub answered : Intervals → ℕ
+answered intervals = answered_over intervals.over.items + length intervals.waits.items
+
+-- these are the figures of an interval in which jobs were answered that had waited so long
+pub record IsIntervalOf (number : ℕ) (waits : List ℕ) (families complete : ℕ) (figures : IntervalFigures) : Type 0 where
+  pub number_is : figures.number ≡ number
+  pub answered_is : figures.answered ≡ length waits
+  pub spread : IsSpreadOf waits figures.waits
+  pub families_are : figures.families ≡ families
+  pub complete_is : figures.complete ≡ complete
+
+-- the running interval has ended: its figures are behind those before, unless nothing was answered or moved in it
+abbrev pub EndsInterval : Intervals → Intervals → Type 0
+EndsInterval old new =
+    ((new.over.items ≡ old.over.items) × (old.waits.items ≡ []) × (old.families ≡ 0))
+    ⊎ ((figures : IntervalFigures) × (new.over.items ≡ old.over.items ++ figures ∷ [])
+    × IsIntervalOf old.number old.waits.items old.families old.complete figures)

@@ -1,0 +1,5 @@
+pub mod Tallies
+pub mod OpenJobs
+pub mod Intervals
+pub mod Moves
+pub mod Account

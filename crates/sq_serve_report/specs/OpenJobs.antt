@@ -1,0 +1,32 @@
+-- When each job was offered that has no answer.
+use Rattle.std.specs.Prelude.{◌≡◌, ◌≢◌, ℕ, ◌-◌, Some, None, nat_eq, unwrap_or}
+use Rattle.std.specs.declared.hash.FoldHasher.{FoldHasher}
+use Rattle.std.specs.declared.hash.BuildHasherDefault.{BuildHasherDefault}
+use Rattle.std.specs.HashMap.{get, HashMap}
+use Rattle.sq_serve.specs.declared.watch.ServeMark.{ServeMark}
+use Rattle.sq_serve.specs.declared.watch.ServeMark.TheVariants.{JobOffered, JobAnswered}
+
+-- the time at which each job was offered first, by its id
+abbrev pub OfferTimes : Type 0
+OfferTimes = HashMap ℕ ℕ (BuildHasherDefault FoldHasher)
+
+-- how long the job has waited that a mark answers at this time
+abbrev pub waited : OfferTimes → ServeMark → ℕ → ℕ
+waited offered (JobAnswered part id is_commit) micros = micros - unwrap_or (get nat_eq offered id) micros
+waited offered mark micros = 0
+
+-- the others are as they were
+abbrev pub SameBut : ℕ → OfferTimes → OfferTimes → Type 0
+SameBut id old new = (q : ℕ) → q ≢ id → get nat_eq new q ≡ get nat_eq old q
+
+-- the job has a time: that at which it was offered first
+abbrev pub IsOffered : OfferTimes → ℕ → ℕ → OfferTimes → Type 0
+IsOffered old id micros new =
+    (get nat_eq new id ≡ Some (unwrap_or (get nat_eq old id) micros)) × SameBut id old new
+
+-- the times after a mark
+abbrev pub NotesOffer : OfferTimes → ServeMark → ℕ → OfferTimes → Type 0
+NotesOffer old (JobOffered id) micros new = IsOffered old id micros new
+NotesOffer old (JobAnswered part id is_commit) micros new =
+    (get nat_eq new id ≡ None) × SameBut id old new
+NotesOffer old mark micros new = new ≡ old

@@ -1,0 +1,48 @@
+-- What is counted of an engine while it is served.
+use Rattle.std.specs.Prelude.{ℕ, ◌+◌, ◌-◌, ◌^◌, Bool, true, false, Option, Some, None, min, max}
+use Rattle.sq_serve.specs.declared.watch.ServeMark.{ServeMark}
+use Rattle.sq_serve.specs.declared.watch.ServeMark.TheVariants.{EpochBegins, EpochEnds, JobAnswered}
+use Rattle.sq_serve_report.specs.declared.tallies.AnswerTally.{AnswerTally}
+use Rattle.sq_serve_report.specs.declared.tallies.EpochTally.{EpochTally}
+
+-- a sum, or the greatest number of 64 bits
+abbrev pub capped_sum : ℕ → ℕ → ℕ
+capped_sum a b = min (a + b) (2 ^ 64 - 1)
+
+-- one more job was answered, which waited so long
+abbrev pub answer_counted : AnswerTally → Bool → ℕ → AnswerTally
+answer_counted t true wait =
+    record t { committed = capped_sum t.committed 1; longest = max t.longest wait }
+answer_counted t false wait =
+    record t { aborted = capped_sum t.aborted 1; longest = max t.longest wait }
+
+-- the tally of jobs after a mark
+abbrev pub answers_noted : AnswerTally → ServeMark → ℕ → AnswerTally
+answers_noted t (JobAnswered part id is_commit) wait = answer_counted t is_commit wait
+answers_noted t mark wait = t
+
+-- how long a pause took that ends at this time
+abbrev pub pause_since : Option ℕ → ℕ → ℕ
+pause_since None micros = 0
+pause_since (Some ended) micros = micros - ended
+
+-- an epoch ends
+abbrev pub epoch_ended : EpochTally → ℕ → EpochTally
+epoch_ended t micros = record t { ended = Some micros }
+
+-- an epoch begins after a pause
+abbrev pub epoch_begun : EpochTally → ℕ → EpochTally
+epoch_begun t micros =
+    let pause = pause_since t.ended micros in
+    record {
+      epochs = capped_sum t.epochs 1;
+      longest = max t.longest pause;
+      total = capped_sum t.total pause;
+      ended = None;
+    }
+
+-- the tally of epochs after a mark that is made at this time
+abbrev pub epochs_noted : EpochTally → ServeMark → ℕ → EpochTally
+epochs_noted t (EpochBegins segments) micros = epoch_begun t micros
+epochs_noted t EpochEnds micros = epoch_ended t micros
+epochs_noted t mark micros = t

@@ -1,0 +1,122 @@
+// Short intervals of a time in which an engine was served.
+ghost use Rattle.std.specs.Prelude.{◌≡◌, ◌+◌, OnOk};
+ghost use Rattle.sq_serve_report.specs.Intervals.{answers_in, answered, IsIntervalOf, EndsInterval};
+
+use sq_serve::ServeMark;
+use sq_summary::{Spread, spread_of};
+use std::alloc::{AllocError, Global};
+use std::mem;
+
+// How many microseconds an interval has.
+const MICROS_IN_INTERVAL: u64 = 10_000;
+
+/// The figures of an interval.
+#[derive(Clone, Copy)]
+pub(crate) struct IntervalFigures {
+    /// Its number, from 0.
+    pub(crate) number: u64,
+    /// How many jobs were answered in it.
+    pub(crate) answered: u64,
+    /// How long these waited.
+    pub(crate) waits: Option<Spread>,
+    /// How many families were moved in it.
+    pub(crate) families: u64,
+    /// How many segments of the running stage were complete at its end.
+    pub(crate) complete: u64,
+}
+
+/// The intervals that are over in which a job was answered or a family was moved, and the running one.
+#[derive(Drop)]
+pub(crate) struct Intervals {
+    pub(crate) over: Vec<IntervalFigures>,
+    alloc: Global,
+    number: u64,
+    // How long the jobs waited that were answered in the running one, and how many families were moved in it.
+    waits: Vec<u64>,
+    families: u64,
+    complete: u64,
+}
+
+impl Intervals {
+    /// The first one runs.
+    pub(crate) fn new(alloc: Global) -> Intervals {
+        Intervals {
+            over: Vec::new(alloc),
+            alloc,
+            number: 0,
+            waits: Vec::new(alloc),
+            families: 0,
+            complete: 0,
+        }
+    }
+
+    /// Takes note of a mark that is made at this time. A job that it answers has waited so long.
+    pub(crate) fn note(
+        &mut self,
+        mark: &ServeMark,
+        micros: u64,
+        wait: u64,
+    ) -> Result<(), AllocError>
+        ensures { OnOk result (answered self.new ≡ answered self.old + answers_in mark.now) }
+    {
+        self.reach(micros / MICROS_IN_INTERVAL)?;
+        self.enter(mark, wait)
+    }
+
+    /// Ends the running interval.
+    pub(crate) fn end(&mut self) -> Result<(), AllocError>
+        ensures over { OnOk result (EndsInterval self.old self.new) }
+        ensures answered { OnOk result (answered self.new ≡ answered self.old) }
+    {
+        let waits = mem::replace(&mut self.waits, Vec::new(self.alloc));
+        let families = mem::replace(&mut self.families, 0);
+        if waits.is_empty() && families == 0 {
+            return Ok(());
+        }
+        self.over
+            .push(figures_of(self.number, waits, families, self.complete))?;
+        Ok(())
+    }
+
+    // Ends the running interval, if it isn't that of this number, and begins that.
+    fn reach(&mut self, number: u64) -> Result<(), AllocError>
+        ensures { OnOk result (answered self.new ≡ answered self.old) }
+    {
+        if number == self.number {
+            return Ok(());
+        }
+        let ended = self.end();
+        self.number = number;
+        ended
+    }
+
+    // Takes note of a mark in the running interval.
+    fn enter(&mut self, mark: &ServeMark, wait: u64) -> Result<(), AllocError>
+        ensures { OnOk result (answered self.new ≡ answered self.old + answers_in mark.now) }
+    {
+        match *mark {
+            ServeMark::JobAnswered { .. } => self.waits.push(wait)?,
+            ServeMark::FamiliesMoved { families } => {
+                self.families = self.families.saturating_add(families);
+            }
+            ServeMark::SegmentsComplete { complete } => self.complete = complete,
+            ServeMark::EpochBegins { .. } => self.complete = 0,
+            ServeMark::EpochEnds | ServeMark::JobOffered { .. } => {}
+        }
+        Ok(())
+    }
+}
+
+// The figures of the interval with this number, in which jobs were answered that had waited so long.
+fn figures_of(number: u64, waits: Vec<u64>, families: u64, complete: u64) -> IntervalFigures
+    ensures { IsIntervalOf number waits.items families complete result }
+{
+    let answered = waits.len() as u64;
+    IntervalFigures {
+        number,
+        answered,
+        waits: spread_of(waits),
+        families,
+        complete,
+    }
+}

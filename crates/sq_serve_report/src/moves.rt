@@ -1,0 +1,128 @@
+// The moves of an engine while it was served.
+ghost use Rattle.std.specs.Prelude.{◌≡◌, OnOk, option_map};
+ghost use Rattle.sq_serve_report.specs.Moves.{move_begun, move_noted, EndsMove, BeginsEpoch, NotesMove};
+
+use crate::tallies::AnswerTally;
+use sq_serve::ServeMark;
+use std::alloc::{AllocError, Global};
+
+/// What was done while rows moved.
+#[derive(Clone, Copy)]
+pub(crate) struct MoveTally {
+    /// How many segments and families moved.
+    pub(crate) segments: u64,
+    pub(crate) families: u64,
+    /// When it began and when it was done, in microseconds.
+    pub(crate) began: u64,
+    pub(crate) done: u64,
+    /// The jobs that were answered meanwhile.
+    pub(crate) answers: AnswerTally,
+}
+
+impl MoveTally {
+    // Of a move of so many segments that begins at this time.
+    fn begun(segments: u64, micros: u64) -> MoveTally
+        ensures { result ≡ move_begun segments micros }
+    {
+        MoveTally {
+            segments,
+            families: 0,
+            began: micros,
+            done: micros,
+            answers: AnswerTally::NONE,
+        }
+    }
+
+    // After a mark. A job that it answers has waited so long.
+    fn noted(self, mark: &ServeMark, wait: u64) -> MoveTally
+        ensures { result ≡ move_noted self mark.now wait }
+    {
+        match *mark {
+            ServeMark::FamiliesMoved { families } => MoveTally {
+                families: self.families.saturating_add(families),
+                ..self
+            },
+            _ => MoveTally {
+                answers: self.answers.noted(mark, wait),
+                ..self
+            },
+        }
+    }
+}
+
+/// The moves that are done, and the running one.
+#[derive(Drop)]
+pub(crate) struct Moves {
+    pub(crate) done: Vec<MoveTally>,
+    running: Option<MoveTally>,
+}
+
+impl Moves {
+    /// No move.
+    pub(crate) fn new(alloc: Global) -> Moves {
+        Moves {
+            done: Vec::new(alloc),
+            running: None,
+        }
+    }
+
+    /// Takes note of a mark that is made at this time. A job that it answers has waited so long.
+    pub(crate) fn note(
+        &mut self,
+        mark: &ServeMark,
+        micros: u64,
+        wait: u64,
+    ) -> Result<(), AllocError>
+        ensures { OnOk result (NotesMove self.old mark.now micros wait self.new) }
+    {
+        match *mark {
+            ServeMark::EpochBegins { segments } => self.begin_epoch(segments, micros),
+            _ => {
+                self.enter(mark, wait);
+                Ok(())
+            }
+        }
+    }
+
+    /// Ends the running move, if there is one, at this time.
+    pub(crate) fn end(&mut self, micros: u64) -> Result<(), AllocError>
+        ensures { OnOk result (EndsMove self.old micros self.new) }
+    {
+        match self.running.take() {
+            Some(running) => {
+                self.done.push(MoveTally {
+                    done: micros,
+                    ..running
+                })?;
+                Ok(())
+            }
+            None => Ok(()),
+        }
+    }
+
+    // An epoch begins: in a move of so many segments, of which it may be a later epoch, or at rest.
+    fn begin_epoch(&mut self, segments: Option<u64>, micros: u64) -> Result<(), AllocError>
+        ensures { OnOk result (BeginsEpoch self.old segments micros self.new) }
+    {
+        match segments {
+            Some(segments) => {
+                if self.running.is_none() {
+                    self.running = Some(MoveTally::begun(segments, micros));
+                }
+                Ok(())
+            }
+            None => self.end(micros),
+        }
+    }
+
+    // Takes note of a mark in the running move.
+    fn enter(&mut self, mark: &ServeMark, wait: u64)
+        ensures done { self.new.done ≡ self.old.done }
+        ensures running { self.new.running
+            ≡ option_map (λ running. move_noted running mark.now wait) self.old.running }
+    {
+        if let Some(running) = self.running {
+            self.running = Some(running.noted(mark, wait));
+        }
+    }
+}

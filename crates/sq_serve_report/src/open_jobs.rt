@@ -1,0 +1,60 @@
+// When each job was offered that has no answer.
+ghost use Rattle.std.specs.Prelude.{◌≡◌, OnOk};
+ghost use Rattle.sq_serve_report.specs.OpenJobs.{waited, IsOffered, NotesOffer};
+
+use sq_serve::ServeMark;
+use std::alloc::{AllocError, Global};
+use std::collections::HashMap;
+
+/// When each job was offered first that has no answer, by its id, in microseconds.
+#[derive(Drop)]
+pub(crate) struct OpenJobs {
+    offered: HashMap<u64, u64>,
+}
+
+impl OpenJobs {
+    /// No job.
+    pub(crate) fn new(alloc: Global) -> OpenJobs {
+        OpenJobs {
+            offered: HashMap::new(alloc),
+        }
+    }
+
+    /// How long the job has waited that a mark answers at this time; 0 for another mark, and for a job that wasn't recorded.
+    pub(crate) fn wait_of(&self, mark: &ServeMark, micros: u64) -> u64
+        ensures { result ≡ waited self.now.offered mark.now micros }
+    {
+        match *mark {
+            ServeMark::JobAnswered { id, .. } => {
+                let offered = self.offered.get(&id).copied().unwrap_or(micros);
+                micros.saturating_sub(offered)
+            }
+            _ => 0,
+        }
+    }
+
+    /// Takes note of a mark that is made at this time.
+    pub(crate) fn note(&mut self, mark: &ServeMark, micros: u64) -> Result<(), AllocError>
+        ensures { OnOk result (NotesOffer self.old.offered mark.now micros self.new.offered) }
+    {
+        match *mark {
+            ServeMark::JobOffered { id } => self.offer(id, micros),
+            ServeMark::JobAnswered { id, .. } => {
+                self.offered.remove(&id);
+                Ok(())
+            }
+            _ => Ok(()),
+        }
+    }
+
+    // A job is offered, for the first time or once more.
+    fn offer(&mut self, id: u64, micros: u64) -> Result<(), AllocError>
+        ensures { OnOk result (IsOffered self.old.offered id micros self.new.offered) }
+    {
+        if self.offered.contains_key(&id) {
+            return Ok(());
+        }
+        self.offered.insert(id, micros)?;
+        Ok(())
+    }
+}
