@@ -1,5 +1,5 @@
 -- Epochs, one after another: what holds of each pause, and how the next epoch begins.
-use Rattle.std.proofs.Common.{◌≡◌, inl, inr, ℕ, ◌+◌, ◌<◌, List, [], ◌∷◌, ◌++◌, length, refl, sym, ap, ◌∙◌, subst, append_assoc}
+use Rattle.std.proofs.Common.{◌≡◌, inl, inr, ℕ, ◌+◌, ◌<◌, List, [], ◌∷◌, ◌++◌, length, take, drop, refl, sym, ap, ◌∙◌, subst, append_assoc}
 use Rattle.std.proofs.lemmas.List.{append-nil}
 use Rattle.std.specs.List.{flat_map}
 use Rattle.sq_schema.specs.Table.{TableValue}
@@ -23,13 +23,13 @@ use Rattle.sq_driver.specs.Pumps.{AllPumpsDriven}
 use Rattle.sq_gather.specs.Gathered.{AllHold, IsGathered}
 use Rattle.sq_gather.specs.Reopened.{IsRunInStage, IsNextStageOf, IsFirstStageAfter}
 use Rattle.sq_gather.proofs.Running.{run_goes_on, all_hold, rowless_opening}
-use Rattle.sq_gather.proofs.Workers.{each_stays, each_pump_stays}
+use Rattle.sq_gather.proofs.Workers.{each_stays, each_pump_stays, written}
 use Rattle.sq_audit.specs.declared.job.Job.{Job}
 use Rattle.sq_audit.specs.Folding.{jobs_left}
-use Rattle.sq_page.specs.Pages.{left_opening, left_gathered}
-use Rattle.sq_page.proofs.Leaving.{left_placed}
-use Rattle.sq_engine.specs.Values.{EpochValue, PauseValue}
-use Rattle.sq_engine.specs.History.{StartValue, first_start, stage_start, onward_opening, move_start, HasMoreStages, IsLastStage, HasDoneStage, HaveGrown, IsRunning, HasLeft, OnlyDriven, Episode, EpochEnded, PageTaken, pause_after, Follows, IsInForce, with_other_rows, IsLeftByPage, StartsAfter, HaveCome, EndsEpochAfter, RunsAfter, PausesAfter, GoesOnAfterPage, IsDueFrom, IsDueAfter}
+use Rattle.sq_page.specs.Pages.{AllStored, left_opening, left_gathered}
+use Rattle.sq_page.proofs.Leaving.{all_stored, left_placed}
+use Rattle.sq_engine.specs.Values.{EpochValue, epoch_value, PauseValue, pause_value}
+use Rattle.sq_engine.specs.History.{StartValue, first_start, stage_start, onward_opening, move_start, HasMoreStages, IsLastStage, HasDoneStage, HaveGrown, IsRunning, HasLeft, OnlyDriven, Episode, EpochEnded, PageTaken, pause_after, Follows, IsInForce, with_other_rows, IsLeftByPage, StartsAfter, HaveCome, EndsEpochAfter, RunsAfter, PausesAfter, GoesOnAfterPage, IsDueFrom, IsDueAfter, IsReachedPause}
 
 -- workers were handed out as they were, driven, and put back
 pub only_driven : (old : EpochValue) (given after nodes : List NodeState) (handed then pumps : List PumpValue)
@@ -44,6 +44,19 @@ only_driven old given after nodes handed then pumps same driven all alike turned
       nodes = subst (λ (p : List NodeState × List NodeState). AllDriven old.fabric p.0 p.1) (λ i. (same i, sym all i)) driven;
       pumps = subst (λ (p : List PumpValue × List PumpValue). AllPumpsDriven old.fabric p.0 p.1) (λ i. (alike i, sym each i)) turned;
     }
+
+-- what a vector has once all its elements were written through a slice of it
+abbrev pub put_back : {X : Type 0} → ℕ → List X → List X → List X
+put_back len after before = take len (after ++ drop (length after) before)
+
+-- so the nodes and the pumps of an epoch were, by its workers
+pub driven_back : (old : EpochValue) (nodes_len pumps_len : ℕ) (given after : List NodeState) (handed then : List PumpValue)
+    → nodes_len ≡ length after → given ≡ old.nodes → AllDriven old.fabric given after
+    → pumps_len ≡ length then → handed ≡ old.pumps → AllPumpsDriven old.fabric handed then
+    → OnlyDriven old (record old { nodes = put_back nodes_len after old.nodes; pumps = put_back pumps_len then old.pumps })
+driven_back old nodes_len pumps_len given after handed then all same driven each alike turned =
+    only_driven old given after (put_back nodes_len after old.nodes) handed then (put_back pumps_len then old.pumps)
+    same driven (written old.nodes after nodes_len all) alike turned (written old.pumps then pumps_len each)
 
 -- no job was posted yet
 none_posted : (jobs : List Job) → HaveGrown jobs jobs
@@ -146,7 +159,7 @@ module _ (o : OpeningValue) where
 
   -- the first epoch
   pub opened_runs : (fabric : FabricValue) (nodes : List NodeState) (pumps : List PumpValue) → IsRunInStage o (first_began o) fabric nodes pumps
-      → RunsAfter o [] (record { opening = o; jobs = []; fabric = fabric; nodes = nodes; pumps = pumps })
+      → RunsAfter o [] (epoch_value o [] fabric nodes pumps)
   opened_runs fabric nodes pumps run =
       (tt, first_start o, refl, record { opening = refl; jobs = none_posted []; run = run })
 
@@ -192,7 +205,7 @@ module _ (o : OpeningValue) where
     pub gathered_comes : (epoch : EpochValue) (g : GatheredValue) → IsOpening epoch.opening → RunsAfter o past epoch → IsGathered epoch.fabric epoch.nodes epoch.pumps g
         → ((o : OpeningValue) (began : BeganWith) → IsOpening o → IsFabricOf o epoch.fabric → HasBegun began epoch.fabric → CanBegin o began → AllHold o began epoch.nodes → IsPlaced o g)
         → ((o : OpeningValue) (began : BeganWith) → IsOpening o → IsFabricOf o epoch.fabric → HasBegun began epoch.fabric → CanBegin o began → AllHold o began epoch.nodes → GoOn began g)
-        → EndsEpochAfter o past (record { opening = epoch.opening; jobs = epoch.jobs; gathered = g })
+        → EndsEpochAfter o past (pause_value epoch.opening epoch.jobs g)
     gathered_comes epoch g is runs gathered placed grows =
         let start = runs.1 in
         let running = runs.3 in
@@ -226,7 +239,7 @@ module _ (o : OpeningValue) where
   pub stage_runs : (past : List Episode) (pause : PauseValue) (fabric : FabricValue) (nodes : List NodeState) (pumps : List PumpValue)
       → PausesAfter o past pause → HasDoneStage pause → HasMoreStages pause
       → ((rows : TableValue) → IsNextStageOf (folded_opening pause.opening rows) pause.gathered fabric nodes pumps)
-      → RunsAfter o past (record { opening = pause.opening; jobs = pause.jobs; fabric = fabric; nodes = nodes; pumps = pumps })
+      → RunsAfter o past (epoch_value pause.opening pause.jobs fabric nodes pumps)
   stage_runs [] pause fabric nodes pumps at done more runs = absurd at.1
   stage_runs (episode ∷ earlier) pause fabric nodes pumps at done more runs =
       let table = (pause_after episode).opening.table in
@@ -261,7 +274,7 @@ module _ (o : OpeningValue) where
   -- the first stage of a move that was due runs
   pub move_runs : (past : List Episode) (due : PauseValue) (fabric : FabricValue) (nodes : List NodeState) (pumps : List PumpValue) → IsDueAfter o past due
       → ((rows : TableValue) → IsFirstStageAfter (folded_opening due.opening rows) due.gathered fabric nodes pumps)
-      → RunsAfter o past (record { opening = due.opening; jobs = due.jobs; fabric = fabric; nodes = nodes; pumps = pumps })
+      → RunsAfter o past (epoch_value due.opening due.jobs fabric nodes pumps)
   move_runs [] due fabric nodes pumps none runs = absurd none
   move_runs (episode ∷ earlier) due fabric nodes pumps follows runs =
       let pause = pause_after episode in
@@ -310,3 +323,13 @@ module _ (o : OpeningValue) where
           refl,
         ),
       )
+
+-- a pause to which some episodes lead is placed, whatever rows the opening in memory has
+pub reached_placed : (pause : PauseValue) → IsReachedPause pause → (table : TableValue) × IsPlaced (folded_opening pause.opening table) pause.gathered
+reached_placed pause was = pause_placed was.0 was.1 pause was.2
+
+-- and no family is under way there, once its stage is done
+pub reached_stored : (pause : PauseValue) → IsReachedPause pause → IsOpening pause.opening → HasDoneStage pause → AllStored pause.gathered
+reached_stored pause was is done =
+    let placed = reached_placed pause was in
+    all_stored (folded_opening pause.opening placed.0) (rowless_opening pause.opening placed.0 is) pause.gathered placed.1 done

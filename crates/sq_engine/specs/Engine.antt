@@ -40,14 +40,14 @@ stores_in (Paused pause) = Some pause.gathered.stores
 stores_in (Due due) = Some due.gathered.stores
 
 -- how many segments move in the running stage, and how many of them are complete: at a pause by their trees, in an
--- epoch as many as its workers reported, and none of a move that is due
+-- epoch as many as its workers reported, and none of a move that is due; where no epoch runs no family was moved in one
 abbrev pub HasProgress : Standing → StageProgress → Type 0
 HasProgress (Running epoch) progress =
     (progress.segments ≡ stage_segments epoch.opening.recon epoch.fabric.stage) × (progress.complete ≤ progress.segments)
 HasProgress (Paused pause) progress =
-    (progress.segments ≡ stage_segments pause.opening.recon pause.gathered.stage) × (progress.complete ≡ whole_segments pause)
+    (progress.segments ≡ stage_segments pause.opening.recon pause.gathered.stage) × (progress.complete ≡ whole_segments pause) × (progress.moved ≡ 0)
 HasProgress (Due due) progress =
-    (progress.segments ≡ stage_segments due.opening.recon 0) × (progress.complete ≡ 0)
+    (progress.segments ≡ stage_segments due.opening.recon 0) × (progress.complete ≡ 0) × (progress.moved ≡ 0)
 
 -- nothing moves
 abbrev pub EngineRests : Standing → Type 0

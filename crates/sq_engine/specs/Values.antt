@@ -18,11 +18,18 @@ pub record EpochValue : Type 0 where
   pub nodes : List NodeState
   pub pumps : List PumpValue
 
+abbrev pub epoch_value : OpeningValue → List Job → FabricValue → List NodeState → List PumpValue → EpochValue
+epoch_value opening jobs fabric nodes pumps =
+    record { opening = opening; jobs = jobs; fabric = fabric; nodes = nodes; pumps = pumps }
+
 -- between two epochs: an opening, the jobs that were posted and are on no page, and what was gathered of the last epoch
 pub record PauseValue : Type 0 where
   pub opening : OpeningValue
   pub jobs : List Job
   pub gathered : GatheredValue
+
+abbrev pub pause_value : OpeningValue → List Job → GatheredValue → PauseValue
+pause_value opening jobs gathered = record { opening = opening; jobs = jobs; gathered = gathered }
 
 -- the receipts since the last page
 abbrev pub receipts_since_page : EpochValue → List ReceiptValue

@@ -34,6 +34,15 @@ use std::sync::Wait;
 use std::thread::Threads;
 use thiserror::Error;
 
+/// Why a job isn't posted to an engine.
+#[derive(Clone, Copy, Debug, PartialEq, Eq, Error)]
+pub enum NotPosted {
+    #[error("no epoch runs")]
+    NoEpoch,
+    #[error("{0}")]
+    Refused(PostFault),
+}
+
 /// Why an engine doesn't go to another plan.
 #[derive(Clone, Copy, Debug, PartialEq, Eq, Error)]
 pub enum NotMoved {
@@ -164,19 +173,21 @@ impl Engine {
         }
     }
 
-    /// Posts a job to a partition, as [`Epoch::post`] does. It is refused too where the engine waits for memory.
-    pub fn post<R: Wait>(&mut self, rt: &R, part: PartId, txn: &Txn) -> Result<(), PostFault>
+    /// Posts a job to a partition, as [`Epoch::post`] does, or says why it doesn't. No epoch runs after [`Engine::pause`] and
+    /// while the engine waits for memory.
+    pub fn post<R: Wait>(&mut self, rt: &R, part: PartId, txn: &Txn) -> Result<(), NotPosted>
         ensures ok { OnOk result (posted_jobs self.new
             ≡ posted_jobs self.old ++ record { part = part; txn = txn.now } ∷ []) }
         ensures err { OnErr result (self.new ≡ self.old) }
-        ensures repeated { IsErrOf result PostFault.RepeatedId
+        ensures no_epoch { IsErrOf result NotPosted.NoEpoch ↔ IsSome (stores_in self.old) }
+        ensures repeated { IsErrOf result (NotPosted.Refused PostFault.RepeatedId)
             → IsTrue (is_id_in (posted_jobs self.old) txn.now.id) }
         ensures history { KeepsHistory self.old self.new }
         ensures receipts { KeepsReceipts self.old self.new }
     {
         match &mut self.standing {
-            Standing::Running(epoch) => epoch.post(rt, part, txn),
-            Standing::Paused(_) | Standing::Due(_) => Err(PostFault::Memory),
+            Standing::Running(epoch) => epoch.post(rt, part, txn).map_err(NotPosted::Refused),
+            Standing::Paused(_) | Standing::Due(_) => Err(NotPosted::NoEpoch),
         }
     }
 

@@ -47,28 +47,17 @@ pub struct Epoch {
 impl Model for Epoch {
     ghost use Rattle.std.specs.Coded.{codes};
     ghost use Rattle.sq_store.specs.Prelude.{store_coded};
-    ghost use Rattle.sq_engine.specs.Values.{EpochValue};
+    ghost use Rattle.sq_engine.specs.Values.{EpochValue, epoch_value};
     ghost use Rattle.sq_engine.specs.History.{IsReachedEpoch};
 
     ghost Value = { EpochValue };
 
     ghost coded = { Prim.hlevel (codes, store_coded) };
 
-    ghost view = { λ e. record {
-      opening = e.opening;
-      jobs = e.jobs;
-      fabric = e.fabric;
-      nodes = e.nodes.items;
-      pumps = e.pumps.items;
-    } };
+    ghost view = { λ e. epoch_value e.opening e.jobs e.fabric e.nodes.items e.pumps.items };
 
-    ghost invariant = { λ e. IsReachedEpoch (record {
-      opening = e.opening;
-      jobs = e.jobs;
-      fabric = e.fabric;
-      nodes = e.nodes.items;
-      pumps = e.pumps.items;
-    }) };
+    ghost invariant = { λ e. IsReachedEpoch
+        (epoch_value e.opening e.jobs e.fabric e.nodes.items e.pumps.items) };
 }
 
 impl Epoch {
@@ -139,6 +128,7 @@ impl Epoch {
         StageProgress {
             segments,
             complete: self.progress.complete.min(segments),
+            moved: self.progress.moved,
         }
     }
 

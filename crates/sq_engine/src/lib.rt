@@ -19,7 +19,7 @@ mod standing;
 mod verdict;
 
 pub use closed::Closed;
-pub use engine::{Engine, EngineServed, NotMoved};
+pub use engine::{Engine, EngineServed, NotMoved, NotPosted};
 pub use epoch::Epoch;
 pub use next_move::NextMove;
 pub use pause::{NotTaken, Pause, StageEnd};

@@ -28,20 +28,16 @@ pub struct NextMove {
 impl Model for NextMove {
     ghost use Rattle.std.specs.Coded.{codes};
     ghost use Rattle.sq_store.specs.Prelude.{store_coded};
-    ghost use Rattle.sq_engine.specs.Values.{PauseValue};
+    ghost use Rattle.sq_engine.specs.Values.{PauseValue, pause_value};
     ghost use Rattle.sq_engine.specs.History.{IsReachedMove};
 
     ghost Value = { PauseValue };
 
     ghost coded = { Prim.hlevel (codes, store_coded) };
 
-    ghost view = { λ m. record { opening = m.opening; jobs = m.jobs; gathered = m.gathered } };
+    ghost view = { λ m. pause_value m.opening m.jobs m.gathered };
 
-    ghost invariant = { λ m. IsReachedMove (record {
-      opening = m.opening;
-      jobs = m.jobs;
-      gathered = m.gathered;
-    }) };
+    ghost invariant = { λ m. IsReachedMove (pause_value m.opening m.jobs m.gathered) };
 }
 
 impl NextMove {
@@ -67,6 +63,7 @@ impl NextMove {
         ensures { result ≡ record {
           segments = stage_segments self.now.opening.recon 0;
           complete = 0;
+          moved = 0;
         } }
     {
         StageProgress::at_start(stage_segments(self.opening.recon(), FIRST_STAGE))

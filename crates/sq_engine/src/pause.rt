@@ -7,7 +7,7 @@ ghost use Rattle.sq_ranges.specs.Prelude.{OpeningValue, IsSetUp, stages};
 ghost use Rattle.sq_ranges.specs.Refused.{config_fault, MayRefuse};
 ghost use Rattle.sq_node_model.specs.Prelude.{IsPlaced, folded_opening};
 ghost use Rattle.sq_audit.specs.Answers.{IdsDiffer};
-ghost use Rattle.sq_audit.specs.Counts.{Counts, is_counted};
+ghost use Rattle.sq_audit.specs.ById.{ListsIds, is_listed};
 ghost use Rattle.sq_engine.specs.Values.{receipts_since_page, whole_segments};
 ghost use Rattle.sq_epoch.specs.Progress.{stage_segments};
 ghost use Rattle.sq_engine.specs.History.{Episode, HasMoreStages, IsLastStage, HasDoneStage};
@@ -18,17 +18,13 @@ ghost use Rattle.sq_engine.specs.Outcomes.{EndsStage, IsPageFrom, HasClosed, Giv
 use crate::closed::Closed;
 use crate::epoch::Epoch;
 use crate::next_move::NextMove;
-use sq_audit::Job;
-use sq_epoch::{
-    PostedJobs, StageProgress, copy_answered, count, progress_at_start, stage_segments,
-    whole_segments,
-};
+use sq_audit::{Job, copy_answered, list_ids};
+use sq_epoch::{PostedJobs, StageProgress, progress_at_start, stage_segments, whole_segments};
 use sq_gather::{Gathered, reopen};
 use sq_page::{Page, take_page};
 use sq_plan::Plan;
 use sq_ranges::{Opening, OpeningFault};
 use std::alloc::{AllocError, Global};
-use std::collections::BTreeMap;
 use std::marker::Model;
 use std::thread::Threads;
 use thiserror::Error;
@@ -65,20 +61,16 @@ pub struct Pause {
 impl Model for Pause {
     ghost use Rattle.std.specs.Coded.{codes};
     ghost use Rattle.sq_store.specs.Prelude.{store_coded};
-    ghost use Rattle.sq_engine.specs.Values.{PauseValue};
+    ghost use Rattle.sq_engine.specs.Values.{PauseValue, pause_value};
     ghost use Rattle.sq_engine.specs.History.{IsReachedPause};
 
     ghost Value = { PauseValue };
 
     ghost coded = { Prim.hlevel (codes, store_coded) };
 
-    ghost view = { λ p. record { opening = p.opening; jobs = p.jobs; gathered = p.gathered } };
+    ghost view = { λ p. pause_value p.opening p.jobs p.gathered };
 
-    ghost invariant = { λ p. IsReachedPause (record {
-      opening = p.opening;
-      jobs = p.jobs;
-      gathered = p.gathered;
-    }) };
+    ghost invariant = { λ p. IsReachedPause (pause_value p.opening p.jobs p.gathered) };
 }
 
 impl Pause {
@@ -114,11 +106,13 @@ impl Pause {
         ensures segments { result.segments
             ≡ stage_segments self.now.opening.recon self.now.gathered.stage }
         ensures complete { result.complete ≡ whole_segments self.now }
+        ensures moved { result.moved ≡ 0 }
     {
         let recon = self.opening.recon();
         StageProgress {
             segments: stage_segments(recon, self.gathered.stage),
             complete: whole_segments(recon, &self.gathered),
+            moved: 0,
         }
     }
 
@@ -281,7 +275,7 @@ impl Pause {
         } = self;
         // For the proof alone: what was handed in is an opening.
         let _recon = opening.recon();
-        let Ok((counts, answered)) = answered_of(alloc, &gathered, jobs.as_slice()) else {
+        let Ok((ids, answered)) = answered_of(alloc, &gathered, jobs.as_slice()) else {
             return Err(Pause {
                 opening,
                 jobs,
@@ -290,7 +284,7 @@ impl Pause {
         };
         match take_page(rt, alloc, gathered, answered) {
             Ok(paged) => {
-                let jobs = jobs.without_answered(&counts, &paged.page.jobs);
+                let jobs = jobs.without_answered(&ids, &paged.page.jobs);
                 let gathered = paged.left;
                 Ok((
                     paged.page,
@@ -338,18 +332,19 @@ impl Pause {
     }
 }
 
-// How many receipts there are of each job, and copies of the jobs that have one.
+// The ids of the receipts, each with its root key, by id, and copies of the jobs that have one.
 fn answered_of(
     alloc: Global,
     g: &Gathered,
     jobs: &[Job],
-) -> Result<(BTreeMap<(u64, u64), u64>, Vec<Job>), AllocError>
-    ensures counts { IfOk result (λ told. Counts g.now.receipts told.0) }
-    ensures answered { IfOk result (λ told. told.1.items ≡ filter (is_counted told.0) jobs.now) }
+) -> Result<(Vec<(u64, u64)>, Vec<Job>), AllocError>
+    ensures ids { IfOk result (λ told. ListsIds g.now.receipts told.0.items) }
+    ensures answered { IfOk result (λ told.
+        told.1.items ≡ filter (is_listed told.0.items) jobs.now) }
 {
-    let counts = count(alloc, &g.receipts)?;
-    let answered = copy_answered(alloc, &counts, jobs)?;
-    Ok((counts, answered))
+    let ids = list_ids(alloc, &g.receipts)?;
+    let answered = copy_answered(alloc, &ids, jobs)?;
+    Ok((ids, answered))
 }
 
 // Whether the stage that was gathered is the last one.

@@ -1,5 +1,5 @@
 use Rattle.std.proofs.Common.{◌≡◌, ◌∷◌, sym, subst}
-use Rattle.sq_engine.specs.Values.{EpochValue, PauseValue, receipts_since_page}
+use Rattle.sq_engine.specs.Values.{EpochValue, receipts_since_page, epoch_value, pause_value}
 use Rattle.sq_engine.specs.History.{EpochEnded, with_other_rows, RunsAfter}
 use Rattle.sq_engine.proofs.Epochs.{gathered_comes}
 use Rattle.sq_engine.proofs.epoch.Epoch.end.Goals as goal
@@ -11,28 +11,16 @@ pub invariant_of-result : goal.invariant_of-result
 invariant_of-result g c =
     let inside = c.self.inside in
     let was = c.self.invariant in
-    let epoch : EpochValue = record {
-      opening = inside.opening;
-      jobs = inside.jobs;
-      fabric = inside.fabric;
-      nodes = inside.nodes.items;
-      pumps = inside.pumps.items;
-    } in
+    let epoch = epoch_value inside.opening inside.jobs inside.fabric inside.nodes.items inside.pumps.items in
     let left = c.in-Ok.ensures in
     let came = gathered_comes was.0 was.1 epoch c.in-Ok.gathered c.recon-recon.ensures.set_up.opening was.2 left.gathered left.placed left.grows in
-    let pause : PauseValue = record { opening = inside.opening; jobs = inside.jobs; gathered = c.in-Ok.gathered } in
+    let pause = pause_value inside.opening inside.jobs c.in-Ok.gathered in
     (was.0, EpochEnded (with_other_rows pause came.0) ∷ was.1, came.1)
 
 pub returns-in-Ok-clause-ended : goal.returns-in-Ok-clause-ended
 returns-in-Ok-clause-ended g c = λ o past runs.
     let inside = c.self.inside in
-    let epoch : EpochValue = record {
-      opening = inside.opening;
-      jobs = inside.jobs;
-      fabric = inside.fabric;
-      nodes = inside.nodes.items;
-      pumps = inside.pumps.items;
-    } in
+    let epoch = epoch_value inside.opening inside.jobs inside.fabric inside.nodes.items inside.pumps.items in
     let left = c.in-Ok.ensures in
     gathered_comes o past epoch c.in-Ok.gathered c.recon-recon.ensures.set_up.opening
     (subst (λ (e : EpochValue). RunsAfter o past e) (sym c.self.view_is) runs) left.gathered left.placed left.grows

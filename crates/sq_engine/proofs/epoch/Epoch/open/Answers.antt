@@ -3,6 +3,7 @@ use Rattle.sq_node_model.specs.NodeValue.{ReceiptValue}
 use Rattle.sq_node.specs.Opened.{opened_stores}
 use Rattle.sq_audit.specs.declared.job.Job.{Job}
 use Rattle.sq_gather.proofs.Running.{run_begins}
+use Rattle.sq_engine.specs.Values.{epoch_value}
 use Rattle.sq_engine.specs.History.{RunsAfter}
 use Rattle.sq_engine.proofs.Epochs.{opened_runs}
 use Rattle.sq_engine.proofs.Tellings.{written_by, new_wrote_nothing}
@@ -14,7 +15,7 @@ returns-clause-opened g c =
     let fabric = c.in-Ok.fabric in
     let nodes = c.in-Ok.nodes.items in
     let pumps = c.in-Ok.pumps.items in
-    subst (λ (jobs : List Job). RunsAfter o [] (record { opening = o; jobs = jobs; fabric = fabric; nodes = nodes; pumps = pumps })) (sym c.new.ensures)
+    subst (λ (jobs : List Job). RunsAfter o [] (epoch_value o jobs fabric nodes pumps)) (sym c.new.ensures)
     (opened_runs o fabric nodes pumps
     (run_begins o c.args.pumps fabric nodes pumps c.recon-recon.ensures.set_up.opening c.trees-trees.ensures.fabric c.in-Ok.ensures))
 
@@ -26,7 +27,7 @@ invariant_of-result g c =
     let pumps = c.in-Ok.pumps.items in (
       o,
       [],
-      subst (λ (jobs : List Job). RunsAfter o [] (record { opening = o; jobs = jobs; fabric = fabric; nodes = nodes; pumps = pumps })) (sym c.new.ensures)
+      subst (λ (jobs : List Job). RunsAfter o [] (epoch_value o jobs fabric nodes pumps)) (sym c.new.ensures)
           (opened_runs o fabric nodes pumps
           (run_begins o c.args.pumps fabric nodes pumps c.recon-recon.ensures.set_up.opening c.trees-trees.ensures.fabric c.in-Ok.ensures)),
     )

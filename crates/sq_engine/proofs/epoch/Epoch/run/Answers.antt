@@ -1,14 +1,15 @@
-use Rattle.std.proofs.Common.{◌++◌, List, length, take, drop, sym, subst, arith}
+use Rattle.std.proofs.Common.{sym, subst, arith}
 use Rattle.std.specs.Prelude.{All}
-use Rattle.sq_pull.specs.Pump.{PumpValue}
 use Rattle.sq_ranges.specs.Opening.{IsOpening}
-use Rattle.sq_node.specs.NodeState.{NodeState, IsNodeOf}
+use Rattle.sq_node.specs.NodeState.{IsNodeOf}
 use Rattle.sq_driver.specs.Pumps.{HasAllSeats}
-use Rattle.sq_gather.proofs.Workers.{nodes_of, pumps_of, written}
-use Rattle.sq_engine.specs.Values.{EpochValue}
+use Rattle.sq_gather.proofs.Workers.{nodes_of, pumps_of}
+use Rattle.sq_engine.specs.Values.{EpochValue, epoch_value}
 use Rattle.sq_engine.specs.History.{OnlyDriven}
-use Rattle.sq_engine.proofs.Epochs.{only_driven, driven_runs}
+use Rattle.sq_engine.proofs.Epochs.{put_back, driven_back, driven_runs}
+use Rattle.sq_engine.proofs.epoch.Epoch.run.Given.{Over}
 use Rattle.sq_engine.proofs.epoch.Epoch.run.Goals as goal
+use Rattle.sq_engine.proofs.epoch.Epoch.run.Goals.{After-run_workers}
 
 pub run_workers-requires-clause-nodes : goal.run_workers-requires-clause-nodes
 run_workers-requires-clause-nodes g c = λ κs within.
@@ -23,27 +24,28 @@ run_workers-requires-clause-pumps g c = λ κs within.
     subst (All (HasAllSeats inside.fabric)) (sym c.deref_mut-2.ensures.value) (pumps_of inside.fabric inside.nodes.items inside.pumps.items run.all)
 
 -- the nodes and the pumps were driven, and nothing else changed
-pub returns-clause-driven : goal.returns-clause-driven
-returns-clause-driven g c =
+driven : (g : Over) (c : After-run_workers g) → let inside = c.self.inside in
+    let old = epoch_value inside.opening inside.jobs inside.fabric inside.nodes.items inside.pumps.items in
+    let nodes = put_back inside.nodes.len c.run_workers.new.nodes inside.nodes.items in
+    let pumps = put_back inside.pumps.len c.run_workers.new.pumps inside.pumps.items in
+    OnlyDriven old (record old { nodes = nodes; pumps = pumps })
+driven g c =
     let inside = c.self.inside in
-    let old : EpochValue = record {
-      opening = inside.opening;
-      jobs = inside.jobs;
-      fabric = inside.fabric;
-      nodes = inside.nodes.items;
-      pumps = inside.pumps.items;
-    } in
-    let after = c.run_workers.new.nodes in
-    let then = c.run_workers.new.pumps in
+    let old = epoch_value inside.opening inside.jobs inside.fabric inside.nodes.items inside.pumps.items in
     let node_count = c.run_workers.ensures.nodes.count in
     let pump_count = c.run_workers.ensures.pumps.count in
-    let nodes : List NodeState = take inside.nodes.len (after ++ drop (length after) inside.nodes.items) in
-    let pumps : List PumpValue = take inside.pumps.len (then ++ drop (length then) inside.pumps.items) in
-    let all_nodes = written inside.nodes.items after inside.nodes.len (omega (arith, node_count, c.deref_mut.ensures.len)) in
-    let all_pumps = written inside.pumps.items then inside.pumps.len (omega (arith, pump_count, c.deref_mut-2.ensures.len)) in
-    subst (λ (e : EpochValue). OnlyDriven e (record old { nodes = nodes; pumps = pumps })) c.self.view_is
-    (only_driven old c.deref_mut.result.now after nodes c.deref_mut-2.result.now then pumps
-    c.deref_mut.ensures.value c.run_workers.ensures.nodes all_nodes c.deref_mut-2.ensures.value c.run_workers.ensures.pumps all_pumps)
+    driven_back old inside.nodes.len inside.pumps.len c.deref_mut.result.now c.run_workers.new.nodes c.deref_mut-2.result.now c.run_workers.new.pumps
+    (omega (arith, node_count, c.deref_mut.ensures.len)) c.deref_mut.ensures.value c.run_workers.ensures.nodes
+    (omega (arith, pump_count, c.deref_mut-2.ensures.len)) c.deref_mut-2.ensures.value c.run_workers.ensures.pumps
+
+pub returns-clause-driven : goal.returns-clause-driven
+returns-clause-driven g c =
+    let at = (goal.at.returns-clause-driven g c).After-run_workers in
+    let inside = c.self.inside in
+    let old = epoch_value inside.opening inside.jobs inside.fabric inside.nodes.items inside.pumps.items in
+    let nodes = put_back inside.nodes.len c.run_workers.new.nodes inside.nodes.items in
+    let pumps = put_back inside.pumps.len c.run_workers.new.pumps inside.pumps.items in
+    subst (λ (e : EpochValue). OnlyDriven e (record old { nodes = nodes; pumps = pumps })) c.self.view_is (driven g at)
 
 pub returns-clause-history : goal.returns-clause-history
 returns-clause-history g c = λ o past runs.
@@ -51,23 +53,5 @@ returns-clause-history g c = λ o past runs.
 
 pub invariant_of-result : goal.invariant_of-result
 invariant_of-result g c =
-    let inside = c.self.inside in
     let was = c.self.invariant in
-    let old : EpochValue = record {
-      opening = inside.opening;
-      jobs = inside.jobs;
-      fabric = inside.fabric;
-      nodes = inside.nodes.items;
-      pumps = inside.pumps.items;
-    } in
-    let after = c.run_workers.new.nodes in
-    let then = c.run_workers.new.pumps in
-    let node_count = c.run_workers.ensures.nodes.count in
-    let pump_count = c.run_workers.ensures.pumps.count in
-    let nodes : List NodeState = take inside.nodes.len (after ++ drop (length after) inside.nodes.items) in
-    let pumps : List PumpValue = take inside.pumps.len (then ++ drop (length then) inside.pumps.items) in
-    let all_nodes = written inside.nodes.items after inside.nodes.len (omega (arith, node_count, c.deref_mut.ensures.len)) in
-    let all_pumps = written inside.pumps.items then inside.pumps.len (omega (arith, pump_count, c.deref_mut-2.ensures.len)) in
-    let driven = only_driven old c.deref_mut.result.now after nodes c.deref_mut-2.result.now then pumps
-    c.deref_mut.ensures.value c.run_workers.ensures.nodes all_nodes c.deref_mut-2.ensures.value c.run_workers.ensures.pumps all_pumps in
-    (was.0, was.1, driven_runs was.0 was.1 old (record old { nodes = nodes; pumps = pumps }) c.recon-recon.ensures.set_up.opening driven was.2)
+    (was.0, was.1, driven_runs was.0 was.1 _ _ c.recon-recon.ensures.set_up.opening (driven g (goal.at.invariant_of-result g c).After-run_workers) was.2)

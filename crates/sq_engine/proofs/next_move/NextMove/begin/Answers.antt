@@ -1,5 +1,5 @@
 use Rattle.std.proofs.Common.{sym, ap, ◌∙◌, subst}
-use Rattle.sq_engine.specs.Values.{PauseValue}
+use Rattle.sq_engine.specs.Values.{PauseValue, pause_value}
 use Rattle.sq_engine.specs.History.{IsDueAfter}
 use Rattle.sq_engine.proofs.Epochs.{move_runs}
 use Rattle.sq_engine.proofs.Tellings.{reopened_keeps}
@@ -9,13 +9,13 @@ pub invariant_of-result : goal.invariant_of-result
 invariant_of-result c =
     let inside = c.self.inside in
     let was = c.self.invariant in
-    let due : PauseValue = record { opening = inside.opening; jobs = inside.jobs; gathered = inside.gathered } in
+    let due = pause_value inside.opening inside.jobs inside.gathered in
     (was.0, was.1, move_runs was.0 was.1 due c.in-Ok.fabric c.in-Ok.nodes.items c.in-Ok.pumps.items was.2 c.in-Ok.ensures.run)
 
 pub returns-in-Ok-clause-begun : goal.returns-in-Ok-clause-begun
 returns-in-Ok-clause-begun c = λ o past follows.
     let inside = c.self.inside in
-    let due : PauseValue = record { opening = inside.opening; jobs = inside.jobs; gathered = inside.gathered } in
+    let due = pause_value inside.opening inside.jobs inside.gathered in
     move_runs o past due c.in-Ok.fabric c.in-Ok.nodes.items c.in-Ok.pumps.items
     (subst (λ (d : PauseValue). IsDueAfter o past d) (sym c.self.view_is) follows) c.in-Ok.ensures.run
 

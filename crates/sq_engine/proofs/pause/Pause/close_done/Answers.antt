@@ -1,24 +1,18 @@
 use Rattle.std.proofs.Common.{◌∙◌, refl, sym, subst}
-use Rattle.sq_node_model.specs.Folded.{folded_opening}
-use Rattle.sq_gather.proofs.Running.{rowless_opening}
 use Rattle.sq_audit.specs.Answers.{IdsDiffer}
-use Rattle.sq_page.proofs.Leaving.{all_stored}
 use Rattle.sq_engine.specs.declared.closed.Closed.{Closed}
-use Rattle.sq_engine.specs.Values.{PauseValue}
+use Rattle.sq_engine.specs.Values.{PauseValue, pause_value}
 use Rattle.sq_engine.specs.History.{HasDoneStage}
 use Rattle.sq_engine.specs.Outcomes.{HasClosed}
-use Rattle.sq_engine.proofs.Epochs.{pause_placed}
+use Rattle.sq_engine.proofs.Epochs.{reached_stored}
 use Rattle.sq_engine.proofs.pause.Pause.close_done.Goals as goal
 
 pub take_page-requires : goal.take_page-requires
 take_page-requires g c =
     let inside = c.self.inside in
-    let was = c.self.invariant in
-    let here : PauseValue = record { opening = inside.opening; jobs = inside.jobs; gathered = inside.gathered } in
-    let placed = pause_placed was.0 was.1 here was.2 in (
+    let here = pause_value inside.opening inside.jobs inside.gathered in (
       c.type_bounds.sync-R,
-      all_stored (folded_opening inside.opening placed.0) (rowless_opening inside.opening placed.0 c.recon-recon.ensures.set_up.opening)
-          inside.gathered placed.1 (subst HasDoneStage (sym c.self.view_is) c.requires),
+      reached_stored here c.self.invariant c.recon-recon.ensures.set_up.opening (subst HasDoneStage (sym c.self.view_is) c.requires),
     )
 
 pub invariant_of-result : goal.invariant_of-result
@@ -27,7 +21,7 @@ invariant_of-result g c = record { differ = subst IdsDiffer (sym c.in-Ok.ensures
 pub returns-in-Ok-clause-closed : goal.returns-in-Ok-clause-closed
 returns-in-Ok-clause-closed g c =
     let inside = c.self.inside in
-    let here : PauseValue = record { opening = inside.opening; jobs = inside.jobs; gathered = inside.gathered } in
+    let here = pause_value inside.opening inside.jobs inside.gathered in
     let paged = c.in-Ok.paged in
     let differ = c.result-1.given.0 in
     let closed : Closed = record { opening = inside.opening; page = paged.page; gathered = paged.left; differ = differ } in

@@ -1,5 +1,5 @@
 use Rattle.std.proofs.Common.{sym, ap, ◌∙◌, subst}
-use Rattle.sq_engine.specs.Values.{PauseValue}
+use Rattle.sq_engine.specs.Values.{PauseValue, pause_value}
 use Rattle.sq_engine.specs.History.{HasMoreStages, HasDoneStage, PausesAfter}
 use Rattle.sq_engine.proofs.Epochs.{stage_runs}
 use Rattle.sq_engine.proofs.Tellings.{reopened_keeps}
@@ -9,7 +9,7 @@ pub invariant_of-result : goal.invariant_of-result
 invariant_of-result c =
     let inside = c.self.inside in
     let was = c.self.invariant in
-    let here : PauseValue = record { opening = inside.opening; jobs = inside.jobs; gathered = inside.gathered } in (
+    let here = pause_value inside.opening inside.jobs inside.gathered in (
       was.0,
       was.1,
       stage_runs was.0 was.1 here c.in-Ok.fabric c.in-Ok.nodes.items c.in-Ok.pumps.items was.2
@@ -20,7 +20,7 @@ invariant_of-result c =
 pub returns-in-Ok-clause-begun : goal.returns-in-Ok-clause-begun
 returns-in-Ok-clause-begun c = λ o past at.
     let inside = c.self.inside in
-    let here : PauseValue = record { opening = inside.opening; jobs = inside.jobs; gathered = inside.gathered } in
+    let here = pause_value inside.opening inside.jobs inside.gathered in
     stage_runs o past here c.in-Ok.fabric c.in-Ok.nodes.items c.in-Ok.pumps.items
     (subst (λ (p : PauseValue). PausesAfter o past p) (sym c.self.view_is) at)
     (subst HasDoneStage (sym c.self.view_is) c.requires.done)

@@ -2,15 +2,14 @@ use Rattle.std.proofs.Common.{◌≡◌, ap, ◌∙◌}
 use Rattle.sq_ranges.specs.ReconValue.{ReconValue}
 use Rattle.sq_engine.specs.declared.pause.Pause.TheInside.{Inside}
 use Rattle.sq_epoch.specs.Progress.{whole_segments_in}
-use Rattle.sq_engine.specs.Values.{whole_segments}
-use Rattle.sq_engine.proofs.Epochs.{pause_placed}
+use Rattle.sq_engine.specs.Values.{whole_segments, pause_value}
+use Rattle.sq_engine.proofs.Epochs.{reached_placed}
 use Rattle.sq_engine.proofs.pause.Pause.progress.Goals as goal
 
 pub whole_segments-requires : goal.whole_segments-requires
 whole_segments-requires c =
     let inside = c.self.inside in
-    let was = c.self.invariant in
-    (pause_placed was.0 was.1 (record { opening = inside.opening; jobs = inside.jobs; gathered = inside.gathered }) was.2).1.fit.grown
+    (reached_placed (pause_value inside.opening inside.jobs inside.gathered) c.self.invariant).1.fit.grown
 
 pub returns-clause-complete : goal.returns-clause-complete
 returns-clause-complete c =

@@ -1,19 +1,19 @@
 use Rattle.std.proofs.Common.{sym, subst, ◌∙◌, true≢false}
+use Rattle.sq_engine.specs.Values.{pause_value}
 use Rattle.sq_engine.specs.History.{HasMoreStages, IsLastStage, HasDoneStage}
-use Rattle.sq_engine.proofs.Epochs.{pause_placed, stage_within}
+use Rattle.sq_engine.proofs.Epochs.{reached_placed, stage_within}
 use Rattle.sq_engine.proofs.pause.Pause.stage_end.Goals as goal
 
 pub is_stage_done-requires : goal.is_stage_done-requires
 is_stage_done-requires c =
     let inside = c.self.inside in
-    let was = c.self.invariant in
-    (pause_placed was.0 was.1 (record { opening = inside.opening; jobs = inside.jobs; gathered = inside.gathered }) was.2).1.fit.grown
+    (reached_placed (pause_value inside.opening inside.jobs inside.gathered) c.self.invariant).1.fit.grown
 
 pub is_last-requires : goal.is_last-requires
 is_last-requires c =
     let inside = c.self.inside in
     let was = c.self.invariant in
-    stage_within was.0 was.1 (record { opening = inside.opening; jobs = inside.jobs; gathered = inside.gathered }) was.2
+    stage_within was.0 was.1 (pause_value inside.opening inside.jobs inside.gathered) was.2
 
 pub returns-then-is_last : goal.returns-then-is_last
 returns-then-is_last c =
