@@ -57,10 +57,10 @@ move_front t =
     concat (codes "move: segments " ∷ decimal t.segments ∷ codes ", families " ∷ decimal t.families
     ∷ codes ", from " ∷ decimal t.began ∷ codes " to " ∷ decimal t.done ∷ codes " us, " ∷ [])
 
-unfoldable pub move_line : MoveTally → List ℕ
-move_line t = move_front t ++ jobs_text t.answers
+unfoldable pub move_report_line : MoveTally → List ℕ
+move_report_line t = move_front t ++ jobs_text t.answers
 
 -- the whole account
 abbrev pub account_text : Bool → AnswerTally → EpochTally → List MoveTally → List ℕ
 account_text is_whole answers epochs moves =
-    whole_line is_whole ++ (jobs_line answers ++ (epochs_line epochs ++ flat_map move_line moves))
+    whole_line is_whole ++ (jobs_line answers ++ (epochs_line epochs ++ flat_map move_report_line moves))

@@ -15,8 +15,8 @@ answers_in mark = 0
 abbrev pub answered_over : List IntervalFigures → ℕ
 answered_over over = sum_by (λ figures. figures.answered) over
 
-abbrev pub answered : Intervals → ℕ
-answered intervals = answered_over intervals.over.items + length intervals.waits.items
+abbrev pub answers_recorded : Intervals → ℕ
+answers_recorded intervals = answered_over intervals.over.items + length intervals.waits.items
 
 -- these are the figures of an interval in which jobs were answered that had waited so long
 pub record IsIntervalOf (number : ℕ) (waits : List ℕ) (families complete : ℕ) (figures : IntervalFigures) : Type 0 where

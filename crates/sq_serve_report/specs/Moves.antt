@@ -4,7 +4,7 @@ use Rattle.sq_serve.specs.declared.watch.ServeMark.{ServeMark}
 use Rattle.sq_serve.specs.declared.watch.ServeMark.TheVariants.{EpochBegins, FamiliesMoved}
 use Rattle.sq_serve_report.specs.Tallies.{capped_sum, answers_noted}
 use Rattle.sq_serve_report.specs.declared.moves.MoveTally.{MoveTally}
-use Rattle.sq_serve_report.specs.declared.moves.Moves.{Moves}
+use Rattle.sq_serve_report.specs.declared.moves.MoveRecord.{MoveRecord}
 
 -- a move of so many segments that begins at this time
 abbrev pub move_begun : ℕ → ℕ → MoveTally
@@ -32,19 +32,19 @@ done_with done None micros = done
 done_with done (Some running) micros = done ++ record running { done = micros } ∷ []
 
 -- the running move ends at this time
-abbrev pub EndsMove : Moves → ℕ → Moves → Type 0
+abbrev pub EndsMove : MoveRecord → ℕ → MoveRecord → Type 0
 EndsMove old micros new =
     (new.done.items ≡ done_with old.done.items old.running micros) × (new.running ≡ None)
 
 -- what an epoch that begins makes of the moves: in a move of so many segments, or at rest
-abbrev pub BeginsEpoch : Moves → Option ℕ → ℕ → Moves → Type 0
+abbrev pub BeginsEpoch : MoveRecord → Option ℕ → ℕ → MoveRecord → Type 0
 BeginsEpoch old None micros new = EndsMove old micros new
 BeginsEpoch old (Some segments) micros new =
     (new.done.items ≡ old.done.items)
     × (new.running ≡ Some (running_or_begun old.running segments micros))
 
 -- the moves after a mark that is made at this time
-abbrev pub NotesMove : Moves → ServeMark → ℕ → ℕ → Moves → Type 0
+abbrev pub NotesMove : MoveRecord → ServeMark → ℕ → ℕ → MoveRecord → Type 0
 NotesMove old (EpochBegins segments) micros wait new = BeginsEpoch old segments micros new
 NotesMove old mark micros wait new =
     (new.done.items ≡ old.done.items)

@@ -20,13 +20,13 @@ abbrev pub SameBut : ℕ → OfferTimes → OfferTimes → Type 0
 SameBut id old new = (q : ℕ) → q ≢ id → get nat_eq new q ≡ get nat_eq old q
 
 -- the job has a time: that at which it was offered first
-abbrev pub IsOffered : OfferTimes → ℕ → ℕ → OfferTimes → Type 0
-IsOffered old id micros new =
+abbrev pub HasOfferTime : OfferTimes → ℕ → ℕ → OfferTimes → Type 0
+HasOfferTime old id micros new =
     (get nat_eq new id ≡ Some (unwrap_or (get nat_eq old id) micros)) × SameBut id old new
 
 -- the times after a mark
 abbrev pub NotesOffer : OfferTimes → ServeMark → ℕ → OfferTimes → Type 0
-NotesOffer old (JobOffered id) micros new = IsOffered old id micros new
+NotesOffer old (JobOffered id) micros new = HasOfferTime old id micros new
 NotesOffer old (JobAnswered part id is_commit) micros new =
     (get nat_eq new id ≡ None) × SameBut id old new
 NotesOffer old mark micros new = new ≡ old

@@ -2,7 +2,7 @@
 ghost use Rattle.std.specs.Prelude.{OnOk};
 ghost use Rattle.std.specs.List.{flat_map};
 ghost use Rattle.std.specs.Io.KnownBytes.{Appends};
-ghost use Rattle.sq_serve_report.specs.Account.{account_text, epochs_line, interval_front, interval_line, interval_lines, jobs_line, jobs_text, move_front, move_line, progress_text, spread_fields, whole_line};
+ghost use Rattle.sq_serve_report.specs.Account.{account_text, epochs_line, interval_front, interval_line, interval_lines, jobs_line, jobs_text, move_front, move_report_line, progress_text, spread_fields, whole_line};
 
 use crate::intervals::IntervalFigures;
 use crate::moves::MoveTally;
@@ -154,7 +154,7 @@ fn write_epochs<W: Write>(writer: &mut W, tally: EpochTally) -> io::Result<()>
 // Writes a line for each move.
 fn write_moves<W: Write>(writer: &mut W, moves: &[MoveTally]) -> io::Result<()>
     ensures { OnOk result (Appends (W.contents writer.old) (W.contents writer.new)
-        (flat_map move_line moves.now)) }
+        (flat_map move_report_line moves.now)) }
 {
     for tally in moves {
         write_move(writer, *tally)?;
@@ -165,7 +165,7 @@ fn write_moves<W: Write>(writer: &mut W, moves: &[MoveTally]) -> io::Result<()>
 // Writes the line of a move.
 fn write_move<W: Write>(writer: &mut W, tally: MoveTally) -> io::Result<()>
     ensures { OnOk result (Appends (W.contents writer.old) (W.contents writer.new)
-        (move_line tally)) }
+        (move_report_line tally)) }
 {
     write_move_front(writer, tally)?;
     write_answers(writer, tally.answers)

@@ -1,6 +1,6 @@
 // Short intervals of a time in which an engine was served.
 ghost use Rattle.std.specs.Prelude.{◌≡◌, ◌+◌, OnOk};
-ghost use Rattle.sq_serve_report.specs.Intervals.{answers_in, answered, IsIntervalOf, EndsInterval};
+ghost use Rattle.sq_serve_report.specs.Intervals.{answers_in, answers_recorded, IsIntervalOf, EndsInterval};
 
 use sq_serve::ServeMark;
 use sq_summary::{Spread, spread_of};
@@ -57,7 +57,7 @@ impl Intervals {
         micros: u64,
         wait: u64,
     ) -> Result<(), AllocError>
-        ensures { OnOk result (answered self.new ≡ answered self.old + answers_in mark.now) }
+        ensures { OnOk result (answers_recorded self.new ≡ answers_recorded self.old + answers_in mark.now) }
     {
         self.reach(micros / MICROS_IN_INTERVAL)?;
         self.enter(mark, wait)
@@ -66,7 +66,7 @@ impl Intervals {
     /// Ends the running interval.
     pub(crate) fn end(&mut self) -> Result<(), AllocError>
         ensures over { OnOk result (EndsInterval self.old self.new) }
-        ensures answered { OnOk result (answered self.new ≡ answered self.old) }
+        ensures answered { OnOk result (answers_recorded self.new ≡ answers_recorded self.old) }
     {
         let waits = mem::replace(&mut self.waits, Vec::new(self.alloc));
         let families = mem::replace(&mut self.families, 0);
@@ -80,7 +80,7 @@ impl Intervals {
 
     // Ends the running interval, if it isn't that of this number, and begins that.
     fn reach(&mut self, number: u64) -> Result<(), AllocError>
-        ensures { OnOk result (answered self.new ≡ answered self.old) }
+        ensures { OnOk result (answers_recorded self.new ≡ answers_recorded self.old) }
     {
         if number == self.number {
             return Ok(());
@@ -92,7 +92,7 @@ impl Intervals {
 
     // Takes note of a mark in the running interval.
     fn enter(&mut self, mark: &ServeMark, wait: u64) -> Result<(), AllocError>
-        ensures { OnOk result (answered self.new ≡ answered self.old + answers_in mark.now) }
+        ensures { OnOk result (answers_recorded self.new ≡ answers_recorded self.old + answers_in mark.now) }
     {
         match *mark {
             ServeMark::JobAnswered { .. } => self.waits.push(wait)?,

@@ -52,15 +52,15 @@ impl MoveTally {
 
 /// The moves that are done, and the running one.
 #[derive(Drop)]
-pub(crate) struct Moves {
+pub(crate) struct MoveRecord {
     pub(crate) done: Vec<MoveTally>,
     running: Option<MoveTally>,
 }
 
-impl Moves {
+impl MoveRecord {
     /// No move.
-    pub(crate) fn new(alloc: Global) -> Moves {
-        Moves {
+    pub(crate) fn new(alloc: Global) -> MoveRecord {
+        MoveRecord {
             done: Vec::new(alloc),
             running: None,
         }

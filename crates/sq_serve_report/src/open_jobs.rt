@@ -1,6 +1,6 @@
 // When each job was offered that has no answer.
 ghost use Rattle.std.specs.Prelude.{◌≡◌, OnOk};
-ghost use Rattle.sq_serve_report.specs.OpenJobs.{waited, IsOffered, NotesOffer};
+ghost use Rattle.sq_serve_report.specs.OpenJobs.{waited, HasOfferTime, NotesOffer};
 
 use sq_serve::ServeMark;
 use std::alloc::{AllocError, Global};
@@ -49,7 +49,7 @@ impl OpenJobs {
 
     // A job is offered, for the first time or once more.
     fn offer(&mut self, id: u64, micros: u64) -> Result<(), AllocError>
-        ensures { OnOk result (IsOffered self.old.offered id micros self.new.offered) }
+        ensures { OnOk result (HasOfferTime self.old.offered id micros self.new.offered) }
     {
         if self.offered.contains_key(&id) {
             return Ok(());

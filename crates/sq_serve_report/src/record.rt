@@ -7,7 +7,7 @@ ghost use Rattle.sq_serve_report.specs.Account.{interval_lines, account_text};
 
 use crate::account::{write_account, write_interval_lines};
 use crate::intervals::Intervals;
-use crate::moves::Moves;
+use crate::moves::MoveRecord;
 use crate::open_jobs::OpenJobs;
 use crate::tallies::{AnswerTally, EpochTally};
 use sq_serve::ServeMark;
@@ -23,7 +23,7 @@ pub struct ServeRecord {
     epochs: EpochTally,
     jobs: OpenJobs,
     intervals: Intervals,
-    moves: Moves,
+    moves: MoveRecord,
     is_whole: bool,
 }
 
@@ -35,7 +35,7 @@ impl ServeRecord {
             epochs: EpochTally::NONE,
             jobs: OpenJobs::new(alloc),
             intervals: Intervals::new(alloc),
-            moves: Moves::new(alloc),
+            moves: MoveRecord::new(alloc),
             is_whole: true,
         }
     }
