@@ -11,21 +11,21 @@ use Rattle.std.proofs.lemmas.Option.{slice_get-get_or, slice_get_within, get_or_
 use Rattle.sq_model.proofs.Lists.{Contains-slice_get, slice_get-Contains, list_any-Contains, any_in}
 use Rattle.sq_node_model.specs.NodeValue.{ReceiptValue}
 use Rattle.sq_node_model.proofs.Members.{Contains-map}
-use Rattle.sq_page.specs.Named.{is_named, AreNamed}
+use Rattle.sq_page.specs.Named.{is_root_named, AreNamed}
 
 module _ (numbers : List ℕ) (root : ℕ) (rising : IsNonDecreasing numbers) where
   -- what stands at a place is found
-  found_at : (i : ℕ) → i < length numbers → get_or numbers i 0 ≡ root → is_named numbers root ≡ true
+  found_at : (i : ℕ) → i < length numbers → get_or numbers i 0 ≡ root → is_root_named numbers root ≡ true
   found_at i low at =
       list_any-Contains (λ (number : ℕ). number == root) numbers root
       (Contains-slice_get numbers i root (slice_get-get_or numbers i 0 low ∙ ap Some at)) (eq-eqb root root refl)
 
   -- where all numbers are lower before a place, and higher from there on, there is none
   none_at : (i : ℕ) → ((k : ℕ) → k < i → get_or numbers k 0 < root) → ((k : ℕ) → i ≤ k → k < length numbers → root < get_or numbers k 0)
-      → is_named numbers root ≡ false
-  none_at i lower higher = by (is_named numbers root) refl
+      → is_root_named numbers root ≡ false
+  none_at i lower higher = by (is_root_named numbers root) refl
     where
-      by : (found : Bool) → is_named numbers root ≡ found → is_named numbers root ≡ false
+      by : (found : Bool) → is_root_named numbers root ≡ found → is_root_named numbers root ≡ false
       by false is = is
       by true is =
           let one = any_in (λ (number : ℕ). number == root) numbers is in
@@ -39,7 +39,7 @@ module _ (numbers : List ℕ) (root : ℕ) (rising : IsNonDecreasing numbers) wh
           (λ (above : i ≤ k). let more = higher k above low in omega (arith, more, number, root_is)) (cases_lt k i))
 
   -- a search finds whether the root key is there
-  pub search_named : (r : Result ℕ ℕ) → IsBinarySearchResult (λ number. nat_cmp number root) numbers r → is_ok r ≡ is_named numbers root
+  pub search_named : (r : Result ℕ ℕ) → IsBinarySearchResult (λ number. nat_cmp number root) numbers r → is_ok r ≡ is_root_named numbers root
   search_named (Ok i) at =
       let found = searched numbers root (Ok i) at (λ i j before low. rising i j 0 before low) in
       sym (found_at i found.0 found.1)

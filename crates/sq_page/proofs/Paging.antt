@@ -16,7 +16,7 @@ use Rattle.sq_node_model.specs.Spots.{StandsAt}
 use Rattle.sq_node_model.proofs.Stands.{of_some}
 use Rattle.sq_page.specs.Pages.{AllStored, IsStill, IsPageOf}
 use Rattle.sq_page.specs.Copies.{is_wanted, wanted_of, IsCopyOf, AreCopiesOf}
-use Rattle.sq_page.specs.Named.{is_named, AreNamed, stored, AreCopies}
+use Rattle.sq_page.specs.Named.{is_root_named, AreNamed, stored, AreCopies}
 use Rattle.sq_page.proofs.Copying.{at_within, wanted_is}
 
 or_true : (b : Bool) → (b || true) ≡ true
@@ -33,7 +33,7 @@ module _ (receipts : List ReceiptValue) (named : List ℕ) (has : AreNamed recei
     where
       wanted : is_wanted named family ≡ true
       wanted =
-          ap (λ b. not (length family.log == 0) || b) (ap (is_named named) (is.rooted receipt.root family stands) ∙ has receipt there)
+          ap (λ b. not (length family.log == 0) || b) (ap (is_root_named named) (is.rooted receipt.root family stands) ∙ has receipt there)
           ∙ or_true (not (length family.log == 0))
 
 -- the copies of all stores

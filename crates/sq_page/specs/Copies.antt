@@ -4,11 +4,11 @@ use Rattle.std.specs.FinMap.{get, empty}
 use Rattle.sq_schema.specs.Family.{FamilyValue}
 use Rattle.sq_store.specs.StoreValue.{StoreValue}
 use Rattle.sq_store.specs.InOrder.{HoldsByRoot}
-use Rattle.sq_page.specs.Named.{is_named}
+use Rattle.sq_page.specs.Named.{is_root_named}
 
 -- the family has a log, or its root key is among these
 abbrev pub is_wanted : List ℕ → FamilyValue → Bool
-is_wanted named family = not (length family.log == 0) || is_named named family.root
+is_wanted named family = not (length family.log == 0) || is_root_named named family.root
 
 -- the family, where it has a log or its root key is among these
 abbrev pub wanted_of : List ℕ → Option FamilyValue → Option FamilyValue

@@ -7,12 +7,12 @@ use Rattle.sq_store.specs.StoreValue.{StoreValue}
 use Rattle.sq_node_model.specs.NodeValue.{ReceiptValue}
 
 -- the root key is one of these
-abbrev pub is_named : List ℕ → ℕ → Bool
-is_named named root = list_any (λ number. number == root) named
+abbrev pub is_root_named : List ℕ → ℕ → Bool
+is_root_named named root = list_any (λ number. number == root) named
 
 -- these are the root keys of receipts, and maybe others
 abbrev pub AreNamed : List ReceiptValue → List ℕ → Type 0
-AreNamed receipts named = (receipt : ReceiptValue) → Contains receipts receipt → is_named named receipt.root ≡ true
+AreNamed receipts named = (receipt : ReceiptValue) → Contains receipts receipt → is_root_named named receipt.root ≡ true
 
 -- the family that a root key has in the store at a place
 abbrev pub stored : List StoreValue → ℕ → ℕ → Option FamilyValue

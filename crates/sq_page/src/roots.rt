@@ -1,6 +1,6 @@
 // Root keys that receipts name.
 ghost use Rattle.std.specs.Prelude.{◌≡◌, IfOk};
-ghost use Rattle.sq_page.specs.Named.{is_named, AreNamed};
+ghost use Rattle.sq_page.specs.Named.{is_root_named, AreNamed};
 
 use sq_node::Receipt;
 use sq_schema::Root;
@@ -40,7 +40,7 @@ impl NamedRoots {
 
     /// Whether a root key is one of them.
     pub(crate) fn has(&self, root: Root) -> bool
-        ensures { result ≡ is_named self.now root }
+        ensures { result ≡ is_root_named self.now root }
     {
         self.numbers.binary_search(&root.number()).is_ok()
     }
