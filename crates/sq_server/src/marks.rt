@@ -11,8 +11,10 @@ use sq_serve::{ServeMark, ServeWatch};
 pub struct EpochMarks<'a, V: ServeWatch> {
     watch: &'a V,
     has_begun: bool,
-    // How many segments were complete, as was marked last.
+    has_ended: bool,
+    // How many segments were complete and how many families were moved, as was marked last.
     complete: u64,
+    moved: u64,
 }
 
 impl<'a, V: ServeWatch> EpochMarks<'a, V> {
@@ -21,7 +23,9 @@ impl<'a, V: ServeWatch> EpochMarks<'a, V> {
         EpochMarks {
             watch,
             has_begun: false,
+            has_ended: false,
             complete: 0,
+            moved: 0,
         }
     }
 
@@ -41,6 +45,11 @@ impl<'a, V: ServeWatch> EpochMarks<'a, V> {
         if self.complete != complete {
             self.complete = complete;
             self.watch.mark(ServeMark::SegmentsComplete { complete });
+        }
+        let families = stage.moved.saturating_sub(self.moved);
+        if families != 0 {
+            self.moved = stage.moved;
+            self.watch.mark(ServeMark::FamiliesMoved { families });
         }
     }
 
@@ -62,8 +71,11 @@ impl<'a, V: ServeWatch> EpochMarks<'a, V> {
         });
     }
 
-    // Marks that the epoch is to end.
-    pub(crate) fn end(&self) {
-        self.watch.mark(ServeMark::EpochEnds);
+    /// Marks once that the epoch ends, if it began.
+    pub fn end(&mut self) {
+        if self.has_begun && !self.has_ended {
+            self.has_ended = true;
+            self.watch.mark(ServeMark::EpochEnds);
+        }
     }
 }

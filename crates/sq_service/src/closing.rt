@@ -1,7 +1,6 @@
 // How an engine that is served is closed.
 ghost use Rattle.std.specs.Prelude.{[]};
 ghost use Rattle.sq_ranges.specs.Prelude.{IsSetUp};
-ghost use Rattle.sq_audit.specs.Answers.{IdsDiffer};
 ghost use Rattle.sq_service.specs.Ends.{ServiceEndsBy, ClosedEndsBy};
 
 use crate::page_audit::{audit_closed, count_families};
@@ -36,7 +35,6 @@ fn judge_closed<T: Threads + Sync>(
     committed: u64,
     is_whole: bool,
 ) -> ServeEnding
-    requires { IdsDiffer closed.now.page.jobs.items }
     ensures ends { ClosedEndsBy committed closed.now result }
     ensures set_up { IsSetUp closed.now.opening }
 {

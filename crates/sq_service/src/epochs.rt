@@ -102,8 +102,10 @@ fn serve_one_epoch<T: Threads + Wait + Sync, W: Write + Drop, V: ServeWatch>(
     let Control {
         desk,
         audit: _,
-        marks: _,
+        mut marks,
     } = control;
+    // Its client isn't asked to end an epoch whose stage is done.
+    marks.end();
     ServiceStep {
         desk,
         engine: whole_engine(served),

@@ -2,14 +2,12 @@
 ghost use Rattle.std.specs.Prelude.{◌≡◌, ◌^◌, ◌<◌, sum_by};
 ghost use Rattle.std.specs.FinMap.{len};
 ghost use Rattle.sq_ranges.specs.Prelude.{IsSetUp};
-ghost use Rattle.sq_audit.specs.Answers.{IdsDiffer};
 ghost use Rattle.sq_service.specs.Judging.{JudgesPage, JudgesClosed, IsJudgedAs};
 
 use sq_audit::Verdict;
 use sq_engine::{Closed, RestPage};
 use sq_gather::Gathered;
 use sq_live::count_commits;
-use sq_page::audit_page;
 use sq_runs::RunStore;
 use sq_server::{AuditProgress, ServeEnding};
 use std::alloc::Global;
@@ -67,20 +65,12 @@ pub(crate) fn audit_closed<T: Threads + Sync>(
     alloc: Global,
     closed: &Closed,
 ) -> Result<PageCounts, ServeEnding>
-    requires { IdsDiffer closed.now.page.jobs.items }
     ensures judged { JudgesClosed closed.now result }
     ensures set_up { IsSetUp closed.now.opening }
 {
-    let opening = &closed.opening;
-    let audited = audit_page(
-        rt,
-        alloc,
-        opening.schema(),
-        opening.new_plan(),
-        opening.config(),
-        &closed.page,
-    );
-    match audited {
+    // An opening that is read is known to be set up.
+    let _opening = &closed.opening;
+    match closed.audit(rt, alloc) {
         Ok(verdict) => judge(verdict, &closed.page.run),
         Err(_) => Err(ServeEnding::Memory),
     }
