@@ -9,7 +9,7 @@ use sq_plan::PartId;
 use sq_serve::ServeWatch;
 use std::io::Write;
 
-/// The client of an engine's epoch: a desk, how far the audit is that goes on beside the epoch, and who marks what is done in it.
+/// The client of an engine's epoch: a desk, how far the audit beside the epoch is, and who marks what is done in it.
 #[derive(Drop)]
 pub struct Control<'a, W: Write + Drop, V: ServeWatch> {
     pub desk: ServeDesk<W>,

@@ -44,7 +44,7 @@ pub enum Wish {
     Fold,
     /// A page is to be taken.
     Page,
-    /// The rows are to be told.
+    /// The rows are to be written as lines.
     Rows(AskedRows),
     /// All is done.
     Close,
@@ -54,7 +54,7 @@ pub enum Wish {
 #[derive(Debug, Drop)]
 pub struct AskedRows {
     pub line: u64,
-    /// The file into which they are to be written; `None` where they are told behind what was told before.
+    /// The file that they go into; `None` where they go to the output, behind what was written before.
     pub file: Option<RowsFile>,
 }
 
@@ -225,8 +225,8 @@ impl<W: Write + Drop> ServeDesk<W> {
         }
     }
 
-    // The next job to be posted: where it is their turn one of those that wait, else one of a line, and where no line asks for
-    // one, one of those that wait.
+    // The next job to be posted: one that waits, where it is the turn of these; else one that a line asks for; else
+    // again one that waits.
     fn next_job(&mut self) -> Option<Job>
         ensures { Hears [] (desk_value W.contents self.old) (job_list result)
             (desk_value W.contents self.new) }
@@ -237,7 +237,7 @@ impl<W: Write + Drop> ServeDesk<W> {
         }
     }
 
-    // The first job of those that wait, whose queues are tried again, where it is their turn.
+    // The first job that waits, where it is the turn of these; their queues are tried again.
     fn job_tried_again(&mut self) -> Option<Job>
         ensures { Hears [] (desk_value W.contents self.old) (job_list result)
             (desk_value W.contents self.new) }
@@ -433,7 +433,7 @@ impl<W: Write + Drop> ServeDesk<W> {
         self.lacks_memory = true;
     }
 
-    // The epoch is to end for this, which is refused where rows move or are to move.
+    // Asks that the epoch ends for this; it is refused where rows move or are to move.
     fn want_at_rest(&mut self, wish: Wish)
         ensures { Speaks (desk_value W.contents self.old) (desk_value W.contents self.new) }
     {
@@ -446,7 +446,7 @@ impl<W: Write + Drop> ServeDesk<W> {
         }
     }
 
-    // The rows are to be told, or written into a file; that is refused where rows move or are to move.
+    // Asks for the rows, as lines or in a file; this is refused where rows move or are to move.
     fn want_rows(&mut self, line: u64, file: Option<RowsFile>)
         ensures { Speaks (desk_value W.contents self.old) (desk_value W.contents self.new) }
     {
@@ -575,8 +575,8 @@ impl<W: Write + Drop> ServeDesk<W> {
         self.outlet.say_receipt(receipt);
     }
 
-    /// Takes a job back that isn't posted: it waits before those of its partition where the queue is full, and else is
-    /// answered by its fault.
+    /// Takes a job back that isn't posted. It waits before the others of its partition where the queue is full; else
+    /// its fault is the answer.
     pub fn take_back(&mut self, job: Job, fault: PostFault)
         ensures { Hears (comes_back job fault) (desk_value W.contents self.old) []
             (desk_value W.contents self.new) }

@@ -34,7 +34,7 @@ pub enum Fed {
     End(InputEnd),
 }
 
-/// Hands something on, as soon as there is room. Whether it was: not where nobody takes any more.
+/// Hands something on, as soon as there is room, and says whether it did: not where nobody takes any more.
 pub fn give<X: Drop, R: Wait>(rt: &R, feed: &mut Producer<X>, given: X) -> bool
     ensures ring { SameProducer feed.old feed.new }
     ensures given { OnTrue result (sent feed.new ≡ sent feed.old ++ given ∷ []) }

@@ -6,7 +6,7 @@ use std::alloc::{AllocError, Global};
 use std::collections::VecDeque;
 use std::marker::Model;
 
-/// With how many jobs, over all partitions, no more are taken in.
+/// The most jobs that may wait, over all partitions.
 pub const SIDE_ROOM: usize = 65_536;
 
 /// The jobs of one partition that wait beside its queue.
@@ -25,7 +25,7 @@ pub struct SideQueues<J: Drop> {
     waiting: usize,
     // The partition that is looked at first.
     first: usize,
-    // The round of tries, in which no queue that was full is tried again.
+    // The round of tries: a queue that was full isn't tried again in its round.
     round: u64,
 }
 

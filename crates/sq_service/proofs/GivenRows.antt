@@ -11,7 +11,7 @@ use Rattle.sq_server.specs.Becoming.{ServeDeskValue, Speaks}
 use Rattle.sq_service.specs.Rows.{RowsAreGiven, TellsRows, TellsRowsOrSpeaks}
 
 module _ (saves : List ℕ → List ℕ → Bool → Type 0) where
-  -- rows that are given are told, or other lines are written
+  -- the rows that are given are written as lines, or other lines are
   given_tells : (engine : Standing) (file : Option (List ℕ)) (before after : ServeDeskValue)
       → RowsAreGiven saves engine file before after → TellsRows engine before after ⊎ Speaks before after
   given_tells engine None before after given =

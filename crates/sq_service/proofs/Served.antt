@@ -144,7 +144,7 @@ pub goes_on : (book : PageBook) (old : Standing) (before : ServeDeskValue) (new 
 goes_on book old before new after keeps says =
     no_page_judged (GoneOn ∷ []) book book old before new after refl refl refl (new, after, (keeps, says), (refl, refl))
 
--- rows were told, or other lines were written
+-- rows were written as lines, or other lines were
 pub rows_gone : (book : PageBook) (old : Standing) (before : ServeDeskValue) (new : Standing) (after : ServeDeskValue)
     → TellsRowsOrSpeaks old before new after → HasServed book old before book new after
 rows_gone book old before new after is =

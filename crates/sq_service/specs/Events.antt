@@ -13,7 +13,7 @@ use Rattle.sq_service.specs.declared.page_book.PageBook.{PageBook}
 use Rattle.sq_service.specs.Judging.{IsFoundAs, page_commits}
 use Rattle.sq_service.specs.Rows.{TellsRows}
 
--- an epoch is served, a page is taken, rows are told, or the engine goes on, as where a move begins
+-- an epoch is served, a page is taken, rows are written, or the engine continues, as where a move begins
 pub data ServeEvent : Type 0 where
   EpochServed : (is_whole : Bool) → ServeEvent
   PageTurned : (page : RestPage) → ServeEvent

@@ -13,7 +13,7 @@ use Rattle.sq_server.specs.Becoming.{ServeDeskValue, Speaks, WritesBytes}
 abbrev pub IsRowsText : List StoreValue → List ℕ → Type 0
 IsRowsText stores text = WritesRows (flat_map families_in stores) (Some []) (Some text)
 
--- rows with these lines were told; or they were to be saved under a name, and it was told how that went
+-- rows with these lines were written; or they were to be saved under a name, and a line said how that went
 abbrev pub GivesRows : (List ℕ → List ℕ → Bool → Type 0) → Option (List ℕ) → List ℕ → ServeDeskValue → ServeDeskValue → Type 0
 GivesRows saves None lines before after = WritesBytes (rows_told lines) before after
 GivesRows saves (Some name) lines before after = Speaks before after × (saved : Bool) × saves name lines saved
@@ -27,7 +27,7 @@ pub record RowsAreGiven (saves : List ℕ → List ℕ → Bool → Type 0) (eng
   pub is : IsRowsText stores lines
   pub gives : GivesRows saves file lines before after
 
--- the rows of an engine were told
+-- the rows of an engine were written
 pub record TellsRows (engine : Standing) (before after : ServeDeskValue) : Type 0 where
   pub stores : List StoreValue
   pub lent : stores_in engine ≡ Some stores
@@ -35,6 +35,6 @@ pub record TellsRows (engine : Standing) (before after : ServeDeskValue) : Type 
   pub is : IsRowsText stores lines
   pub told : WritesBytes (rows_told lines) before after
 
--- an engine went on, and its rows were told, or other lines were written
+-- an engine continued, and its rows were written as lines, or other lines were
 abbrev pub TellsRowsOrSpeaks : Standing → ServeDeskValue → Standing → ServeDeskValue → Type 0
 TellsRowsOrSpeaks old before new after = KeepsHistoryAndJobs old new × (TellsRows new before after ⊎ Speaks before after)

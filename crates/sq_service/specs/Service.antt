@@ -42,7 +42,7 @@ SoundAsPlanned o (NoHeader fault) = Unit {0}
 SoundAsPlanned o Memory = Unit {0}
 SoundAsPlanned o Unwritten = Unit {0}
 
--- an engine with this opening was served, by a desk that stood so, until it ended so
+-- an engine with this opening was served, by a desk in this state, until it ended so
 abbrev pub EngineServes : {W : Type 0} → (W → Option (List ℕ)) → OpeningValue → ServeDeskValue → ServeEnding → Outlet W → Type 0
 EngineServes contents o before ending new =
     (engine : Standing) × Stands o [] engine × HasEndedWithOutlet contents engine before ending new × SoundAsPlanned o ending

@@ -2,10 +2,10 @@
 use sq_serve::ServeWatch;
 use sq_server::AuditProgress;
 
-/// What stands beside an engine that is served: the audit of a page, and who watches.
+/// What runs beside an engine that is served: the audit of a page, and who watches.
 #[derive(Drop)]
 pub(crate) struct Beside<'a, V: ServeWatch> {
-    /// How far the audit is that goes on.
+    /// How far the audit is.
     pub(crate) audit: AuditProgress,
     pub(crate) watch: &'a V,
 }

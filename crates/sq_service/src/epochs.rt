@@ -177,7 +177,7 @@ fn enter_page<W: Write + Drop>(
     }
 }
 
-// Tells what a sound page has, where a line asked for it.
+// Writes what a sound page has, where a line asked for it.
 fn tell_folded<W: Write + Drop>(desk: &mut ServeDesk<W>, is_asked: bool, counts: PageCounts)
     ensures { Speaks (desk_value W.contents desk.old) (desk_value W.contents desk.new) }
 {

@@ -48,7 +48,7 @@ fn refuse_move<W: Write + Drop>(
     }
 }
 
-// Tells that the move of an engine begins, and where nothing moves that it is done.
+// Writes that the move of an engine begins, and where nothing moves that it is done.
 fn tell_begun<W: Write + Drop>(
     engine: Engine,
     desk: &mut ServeDesk<W>,
@@ -81,7 +81,7 @@ pub(crate) fn note_rest<W: Write + Drop>(
     }
 }
 
-// Tells that a move of so many segments is done.
+// Writes that a move of so many segments is done.
 fn end_move<W: Write + Drop>(
     engine: &Engine,
     desk: &mut ServeDesk<W>,

@@ -10,7 +10,7 @@ const PLAN: &[u8] = b"plan ";
 // The byte that ends a line.
 const LINE_END: u8 = 10;
 
-/// The first two lines of a header both of whose plans are the one of the first line of an input, which is `plan JSON`.
+/// The first two lines of a header, made of the first line of an input, `plan JSON`: both of them have this plan.
 pub(crate) fn header_start<I: Read>(alloc: Global, input: &mut I) -> Result<Vec<u8>, LocatedFault> {
     match first_line(alloc, input) {
         Ok(line) => plan_twice(alloc, line.as_slice()),
@@ -47,7 +47,6 @@ fn first_line<I: Read>(alloc: Global, input: &mut I) -> Result<Vec<u8>, InputFau
     Err(InputFault::LineTooLong)
 }
 
-// The next byte, if there is one.
 fn next_byte<I: Read>(input: &mut I) -> Result<Option<u8>, InputFault> {
     let mut byte = [0];
     match input.read(&mut byte) {
@@ -57,7 +56,7 @@ fn next_byte<I: Read>(input: &mut I) -> Result<Option<u8>, InputFault> {
     }
 }
 
-/// A fault of a header whose plan stands on one line, by the one in which it stands on two.
+/// The fault of a header with its plan on one line, made of the fault of the same header with it on two.
 pub(crate) fn on_one_line(located: LocatedFault) -> LocatedFault {
     LocatedFault {
         fault: located.fault,
@@ -65,7 +64,7 @@ pub(crate) fn on_one_line(located: LocatedFault) -> LocatedFault {
     }
 }
 
-// The line of an input whose plan stands on one line that is this line of one in which it stands on two.
+// The number that a line has where the plan is on one line, made of its number where the plan is on two.
 fn line_before(line: InputLine) -> InputLine {
     match line {
         InputLine::Old | InputLine::New => InputLine::Old,

@@ -59,7 +59,7 @@ fn read_input<R: Wait, I: Read + Drop>(
     read_portions(rt, alloc, &mut feeds.lines, portions, first)
 }
 
-// Hands on what the lines of all portions behind the first ask, which ended so.
+// Hands on what the lines of all portions after the first one ask. The first one ended so.
 fn read_portions<R: Wait, I: Read + Drop>(
     rt: &R,
     alloc: Global,
@@ -74,14 +74,14 @@ fn read_portions<R: Wait, I: Read + Drop>(
         if end != InputEnd::Whole || !portions.next_portion(PORTION) {
             return Some(end);
         }
-        // The plan stands on two lines in the first portion, and on one of the input.
+        // The first portion has the plan on two lines, and the input on one.
         end = read_portion(rt, alloc, feed, before, &mut portions)?;
         before = before.saturating_add(PORTION as u64);
     }
     unreachable!()
 }
 
-// Hands on the header, and what the lines behind it in the first portion ask. The plan stands on two lines there.
+// Hands on the header, and what the lines behind it in the first portion ask. It has the plan on two lines.
 fn read_first<R: Wait, I: Read + Drop>(
     rt: &R,
     alloc: Global,

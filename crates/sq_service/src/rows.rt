@@ -21,8 +21,8 @@ const MOVING: u16 = 217;
 // The number of the refusal where a file can't be written.
 const UNWRITTEN: u16 = 124;
 
-/// Tells the rows of an engine at rest, or has them saved in the file that a line names. Where rows move, or there is no memory, it
-/// tells that.
+/// Writes the rows of an engine at rest, or has them saved in the file that a line names. Where rows move, or there
+/// is no memory, it says so.
 pub(crate) fn tell_rows<R: Wait, W: Write + Drop, V: ServeWatch>(
     rt: &R,
     alloc: Global,
@@ -46,7 +46,7 @@ pub(crate) fn tell_rows<R: Wait, W: Write + Drop, V: ServeWatch>(
     }
 }
 
-// Tells why the rows that a line asks for aren't told.
+// Says why the rows that a line asks for don't come.
 fn say_not_paused<W: Write + Drop>(desk: &mut ServeDesk<W>, why: NotTaken, line: u64)
     ensures { Speaks (desk_value W.contents desk.old) (desk_value W.contents desk.new) }
 {
@@ -56,7 +56,7 @@ fn say_not_paused<W: Write + Drop>(desk: &mut ServeDesk<W>, why: NotTaken, line:
     }
 }
 
-// Tells that there is no memory for what a line asks.
+// Writes that there is no memory for what a line asks.
 fn say_memory<W: Write + Drop>(desk: &mut ServeDesk<W>, line: u64)
     ensures { Speaks (desk_value W.contents desk.old) (desk_value W.contents desk.new) }
 {
@@ -66,7 +66,7 @@ fn say_memory<W: Write + Drop>(desk: &mut ServeDesk<W>, line: u64)
     });
 }
 
-// Tells the rows of an engine no epoch of which runs, or has them saved. Where there is no memory for that it tells so.
+// Writes the rows of an engine while no epoch of it runs, or has them saved. Without memory for that it says so.
 fn give_engine_rows<W: Write + Drop, V: ServeWatch>(
     alloc: Global,
     engine: &Engine,
@@ -97,7 +97,7 @@ fn rows_text(alloc: Global, stores: &[RunStore]) -> io::Result<Vec<u8>>
     Ok(text)
 }
 
-// Tells rows with these lines, or has them saved in a file.
+// Writes rows with these lines, or has them saved in a file.
 fn give_rows<W: Write + Drop, V: ServeWatch>(
     desk: &mut ServeDesk<W>,
     watch: &V,
@@ -113,7 +113,7 @@ fn give_rows<W: Write + Drop, V: ServeWatch>(
     }
 }
 
-// Has rows with these lines saved in a file, and tells how many there are, or that the file can't be written.
+// Has rows with these lines saved in a file, and says how many there are, or that the file can't be written.
 fn save_rows<W: Write + Drop, V: ServeWatch>(
     desk: &mut ServeDesk<W>,
     watch: &V,

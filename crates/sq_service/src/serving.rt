@@ -35,8 +35,8 @@ struct Handed {
     lines: Consumer<Fed>,
 }
 
-/// Serves an engine until its input ends: reads its header and then lines, and writes what these are answered. Rows that a line
-/// wants in a file are saved by who watches.
+/// Serves an engine until its input ends: reads its header and then lines, and writes the answers. Who watches saves
+/// the rows that a line wants in a file.
 pub fn serve<T, I, W, V>(
     rt: &T,
     alloc: Global,

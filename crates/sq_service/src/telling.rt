@@ -18,7 +18,7 @@ pub(crate) fn tell_moving<W: Write + Drop>(desk: &mut ServeDesk<W>, progress: Mo
     desk.moving = Some(progress);
 }
 
-/// Tells that a move of so many segments to the plan with this text is done.
+/// Writes that a move of so many segments to the plan with this text is done.
 pub(crate) fn tell_moved<W: Write + Drop>(desk: &mut ServeDesk<W>, plan: String, segments: u64)
     ensures { Speaks (desk_value W.contents desk.old) (desk_value W.contents desk.new) }
 {

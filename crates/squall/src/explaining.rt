@@ -25,7 +25,7 @@ pub fn explanation<W: Write>(
     explain_status(told)
 }
 
-// Says on standard error that there is no such number, or that a write failed, unless it did since the output is closed.
+// Says on standard error that there is no such number, or that a write failed, unless the output is closed.
 fn explain_told(
     rt: &impl Eprint,
     told: Result<bool, WriteFault>,

@@ -157,7 +157,7 @@ fn tell_plan_of_file<T: Eprint + Files + AllocGlobal>(rt: &T, name: &str, fault:
     }
 }
 
-// How a line of sizes doesn't fit that cuts the move into too many segments.
+// What doesn't fit in a line of sizes that cuts the move into too many segments.
 fn misfit_of_segments<'a, R: Read>(
     alloc: Global,
     reader: &Recalling<R>,
@@ -206,7 +206,7 @@ fn misfit_of<'a>(
     }
 }
 
-// The first thing by which a line of the header isn't of its form.
+// The first thing in a line of the header that isn't of its form.
 fn flaw_of(line: InputLine, bytes: &[u8]) -> Option<LineFlaw> {
     match line {
         InputLine::Old => plan_line_flaw(Wanted::Old, bytes),

@@ -90,8 +90,8 @@ pub fn live_run<
     status
 }
 
-// A watch before another one that keeps count for what is to be said of a run. `None` where nothing is, or where there
-// is no memory for it, which standard error says: the run then does without. The time of reading begins here.
+// A watch before another one that keeps count for what is to be said of a run. `None` where nothing is to be said, or
+// where there is no memory; standard error says so, and the run does without. The time of reading begins here.
 fn recording<'a, T: Wait + Clock + Sync + Eprint + AllocGlobal, G: Watch>(
     rt: &'a T,
     report: RunReport<'_>,
@@ -124,7 +124,7 @@ fn is_any(records: Records) -> bool {
     timeline || figures || replies || rows
 }
 
-// Tells of a run what was asked for. Gives whether no figure, no answer of a job and no row is missing that was to be written.
+// Writes what was asked for of a run. Gives whether no figure, no answer of a job and no row is missing.
 fn is_told<T: Wait + Clock + Sync + Eprint + Files + AllocGlobal, G: Watch>(
     rt: &T,
     report: RunReport<'_>,
@@ -162,8 +162,8 @@ fn save_figures<T: Wait + Clock + Sync + Eprint + Files + AllocGlobal, G: Watch>
     save_text(rt, name, written.map(|()| text))
 }
 
-// Writes what the jobs of a run were answered into the file of this name, where there is to be one, and says on standard
-// error how many weren't answered. Gives whether none is missing that was.
+// Writes what the jobs of a run were answered into the file of this name, where there is to be one, and says on
+// standard error how many weren't answered. Gives whether each answer was written.
 fn save_replies<T: Wait + Clock + Sync + Eprint + Files + AllocGlobal, G: Watch>(
     rt: &T,
     replies: Option<&str>,

@@ -45,8 +45,8 @@ fn named_inputs(input: Input<'_>) -> [Option<&str>; 4] {
     ]
 }
 
-// The files that a task writes, and where they stand: those that its options name, and then those that are written first, beside
-// them.
+// The files that a task writes, and their places: those that its options name, and then those that are written first,
+// beside them.
 fn outputs_of<'a, T: Files + AllocGlobal>(rt: &T, task: Task<'a>) -> io::Result<Vec<Output<'a>>> {
     let mut outputs = Vec::new(rt.alloc());
     for (option, name) in named_outputs(task) {
@@ -88,7 +88,7 @@ fn add_parts<'a, T: Files + AllocGlobal>(
     Ok(())
 }
 
-// Where the files stand that an input comes from.
+// The places of the files that an input comes from.
 fn inputs_of<T: Files + AllocGlobal>(rt: &T, input: Input<'_>) -> io::Result<Vec<String>> {
     let mut places = Vec::new(rt.alloc());
     for name in named_inputs(input) {
@@ -120,7 +120,7 @@ pub fn refuse_outputs<T: Print + Eprint + Files + AllocGlobal>(
     }
 }
 
-// Whether a task would write a file that it reads too, or one file twice, which standard error says. An error is that
+// Whether a task would write a file that it reads too, or one file twice; standard error says so. An error is that
 // there is no memory for the answer.
 fn is_in_conflict<T: Eprint + Files + AllocGlobal>(
     rt: &T,

@@ -9,8 +9,8 @@ use std::io;
 use std::io::ErrorKind;
 use std::rt::Files;
 
-/// The first two lines of a header, from the files of the plans. An error is the exit status after a file that can't be
-/// read, or after memory that ran out, which standard error says.
+/// The first two lines of a header, from the files of the plans. An error is the exit status after a file that can't
+/// be read, or after memory ran out; standard error says which.
 pub fn lines_of_plans<T: Print + Eprint + Files + AllocGlobal>(
     rt: &T,
     plans: Plans<'_>,

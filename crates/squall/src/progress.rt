@@ -54,7 +54,7 @@ impl<'a, E: Eprint + Clock> Progress<'a, E> {
         }
     }
 
-    // Says how far the run is, where the line has stood for long enough.
+    // Says how far the run is, if the line has been there for long enough.
     fn go_on(&self) {
         let now = self.clock.micros();
         if now >= self.due.load(Ordering::SeqCst) {

@@ -205,9 +205,9 @@ fn form_of(line: u64) -> &'static str {
     }
 }
 
-// What an engine's input begins with: the line of the plan, and where the rows have a file of their own, the first line of the
-// main input and these rows. An error is the exit status after a file that can't be read, or after memory that ran out, which
-// standard error tells.
+// What an engine's input begins with: the line of the plan, and where the rows have a file of their own, the first
+// line of the main input and these rows. An error is the exit status after a file that can't be read, or after memory
+// ran out; standard error says which.
 fn opening_text<T, I>(rt: &T, files: EngineFiles<'_>, main: &mut I) -> Result<Vec<u8>, u8>
 where
     T: Print + Eprint + Files + AllocGlobal,
@@ -234,7 +234,7 @@ fn told<T: Print + Eprint>(rt: &T, name: &str, made: io::Result<Vec<u8>>) -> Res
     }
 }
 
-// The line of a plan, in whose text each line end is a space.
+// The line of a plan: each line end in its text is a space.
 fn plan_line(alloc: Global, plan: &[u8]) -> io::Result<Vec<u8>> {
     let mut line = Vec::from_slice(alloc, b"plan ")?;
     for byte in plan {

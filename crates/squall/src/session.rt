@@ -30,9 +30,9 @@ use std::{fs, io};
 /// The exit status after a fault, and after a command line that was refused.
 pub const REFUSED: u8 = 2;
 
-/// Runs the script in `reader` in this manner, writes its answers, and says on standard error what its fault means, or
-/// the refusal behind which it stopped. Unless it ends by a fault, the rows that stand at its end go into the file that
-/// is named for them. Gives the exit status, which is 2 where they can't be written.
+/// Runs the script in `reader` in this manner, writes its answers, and says on standard error what its fault means,
+/// or the refusal behind which it stopped. Unless it ends by a fault, the rows at its end go into the file that is
+/// named for them. Gives the exit status, which is 2 where they can't be written.
 pub fn script<T: Eprint + Files + AllocGlobal, R: Read, W: Write>(
     rt: &T,
     reader: &mut Recalling<R>,
@@ -58,8 +58,8 @@ pub fn script<T: Eprint + Files + AllocGlobal, R: Read, W: Write>(
     exit_status(ran)
 }
 
-// Writes the rows that stand in a world at the end of a run into the file of this name, where there is to be one. Gives
-// whether none is missing.
+// Writes the rows of a world at the end of a run into the file of this name, if one is named. Gives whether none is
+// missing.
 fn save_rows<T: Eprint + Files + AllocGlobal>(
     rt: &T,
     rows_out: Option<&str>,
@@ -76,7 +76,7 @@ fn save_rows<T: Eprint + Files + AllocGlobal>(
     }
 }
 
-// The rows that stand in a world, as lines of a header.
+// The rows of a world, as lines of a header.
 fn rows_text(alloc: Global, world: &World) -> io::Result<Vec<u8>>
     ensures { IfOk result (λ text.
         WritesRows (world_families world.now) (Some []) (Some text.items)) }
@@ -181,7 +181,7 @@ fn explain_refused<T: Eprint, R: Read>(
     }
 }
 
-/// Says on standard error that a write failed, unless it did since no one reads the output any more.
+/// Says on standard error that a write failed, unless no one reads the output any more.
 pub(crate) fn explain_write(rt: &impl Eprint, fault: WriteFault, is_closed: bool) {
     if is_closed {
         return;
@@ -200,7 +200,7 @@ pub fn exit_status(ran: Result<Ending, WriteFault>) -> u8
     }
 }
 
-/// Tells the fault that memory ran out before the run, and gives the exit status after it.
+/// Writes the fault that memory ran out before the run, and gives the exit status after it.
 pub fn refuse_for_memory(rt: &(impl Print + Eprint)) -> u8
     ensures { result ≡ 2 }
 {
@@ -210,8 +210,8 @@ pub fn refuse_for_memory(rt: &(impl Print + Eprint)) -> u8
     REFUSED
 }
 
-/// Says on standard error the line that a fault belongs to, and what it means, of a line of the header that isn't of its
-/// form what that is, and what doesn't fit in the line.
+/// Says on standard error the line that a fault belongs to, and what it means; the form of a header's line that isn't
+/// of its form; and what doesn't fit in the line.
 pub(crate) fn explain<T: Eprint + Files + AllocGlobal, R: Read>(
     rt: &T,
     source: &Source<'_>,
@@ -258,8 +258,8 @@ fn form_of(line: InputLine) -> &'static str {
 }
 
 /// Prints what `clap` says of a command line: a help text that was asked for to standard output, anything else to
-/// standard error. Gives the exit status, 0 after a help text that was printed, and 2 where it can't be, which standard
-/// error then tells, unless no one reads it.
+/// standard error. Gives the exit status, 0 after a help text that was printed, and 2 where it can't be; standard
+/// error says so, unless no one reads it.
 pub fn print_usage<R: Print + Eprint>(rt: &R, error: &Error) -> u8
     ensures { IsUsageStatus (kind_of error.now) result }
 {

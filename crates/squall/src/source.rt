@@ -31,8 +31,8 @@ pub enum FaultPlace<'a> {
 }
 
 impl<'a> Source<'a> {
-    /// Where a line of the input stands. Where the plans have files of their own, that is a file and a line of it, or the
-    /// whole file of a plan; else it is the line of the input.
+    /// The place of a line of the input. Where the plans have files of their own, it is a file and a line of it, or
+    /// the whole file of a plan; else it is the line of the input.
     pub fn place(&self, line: InputLine) -> FaultPlace<'a> {
         let number = line.number();
         let Some(plans) = self.input.plans else {
@@ -46,7 +46,7 @@ impl<'a> Source<'a> {
         }
     }
 
-    // Where the line stands that is so many lines behind the sizes, with the rows from this file, if from any.
+    // The place of the line that is so many lines behind the sizes, with the rows from this file, if from any.
     fn place_behind(&self, behind: u64, rows: Option<&'a str>) -> FaultPlace<'a> {
         let Some(file) = rows else {
             return FaultPlace::LineOf(self.main(), behind.saturating_add(1));
