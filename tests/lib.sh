@@ -12,6 +12,7 @@
 #
 # Cases that are stored stand in tests/cases. Others are made of them, or are too large to store.
 export LC_ALL=C
+unset COLUMNS
 tests=$(cd "$(dirname "${BASH_SOURCE[0]}")" && pwd)
 top=$(dirname "$tests")
 examples=$top/examples

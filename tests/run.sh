@@ -101,7 +101,8 @@ try_pairs() {
     judge plans_in_files_and_no_rows 0 "$room/wanted" /dev/null
 }
 
-# The help text of each subcommand has at most 80 columns.
+# The help text of each subcommand has at most 80 columns, and is folded to fewer where the environment says so. Of one the text
+# in 40 columns is known.
 try_helps() {
     local word count=0
     give /dev/null help
@@ -109,9 +110,35 @@ try_helps() {
     for word in $(sed -n '/^Commands:$/,/^$/s/^  \([a-z]*\) .*/\1/p' "$room/help" | grep -vx help); do
         give /dev/null help "$word"
         count "columns of the help of $word" "$(awk 'length > 80' "$room/out" | head -n 1; [ -s "$room/out" ] || echo none)"
+        fold_help help "$word"
         count=$((count + 1))
     done
     count columns_of_the_help "$(awk 'length > 80' "$room/help" | head -n 1; [ "$count" -ge 8 ] || echo "$count subcommands")"
+    fold_help --help
+    fold_help run --help
+    COLUMNS=40 give /dev/null explain --help
+    judge help_in_40_columns 0 "$tests/folded" /dev/null
+    COLUMNS=40 give /dev/null explain 700
+    echo "squall: no fault, refusal or defect has the number 700 ('squall explain' tells all numbers)" > "$room/said"
+    judge fault_in_40_columns 2 /dev/null "$room/said"
+}
+
+# fold_help WORD..: a help text is folded to few columns, word for word, and a line is longer only where it is one word. It stays
+# as it is where there are 80 columns, more, or none that can be.
+fold_help() {
+    local columns
+    give /dev/null "$@"
+    cp "$room/out" "$room/wanted"
+    for columns in 80 81 1000 0 -1 many ''; do
+        COLUMNS=$columns give /dev/null "$@"
+        judge "$* in '$columns' columns" 0 "$room/wanted" /dev/null
+    done
+    tr -s ' ' '\n' < "$room/wanted" | grep . > "$room/words"
+    for columns in 79 60 40 20 1; do
+        COLUMNS=$columns give /dev/null "$@"
+        count "words of $* in $columns columns" "$(tr -s ' ' '\n' < "$room/out" | grep . | diff "$room/words" - | head -n 3)"
+        count "lines of $* in $columns columns" "$(awk -v columns="$columns" 'length > columns && NF > 1' "$room/out" | head -n 1)"
+    done
 }
 
 # An input without end ends the run, a directory can't be read, and a full device can't be written.
@@ -360,7 +387,10 @@ try_told() {
     count chart_of_a_run "$why"
     give "$stages/in" live --timeline "$room/nowhere/moments.csv"
     echo "squall: the file '$room/nowhere/moments.csv' can't be written: No such file or directory (os error 2)" > "$room/said"
-    judge 'live --timeline in no folder' 0 "$stages/out" "$room/said"
+    judge 'live --timeline in no folder' 2 "$stages/out" "$room/said"
+    give "$stages/in" live --timeline /dev/full
+    echo "squall: the file '/dev/full' can't be written: No space left on device (os error 28)" > "$room/said"
+    judge 'live --timeline on a full device' 2 "$stages/out" "$room/said"
     give "$tests/cases/live/an_id_twice/in" live --summary --timeline "$room/fault.csv"
     judge 'live --summary of a fault' 2 "$tests/cases/live/an_id_twice/out" "$tests/cases/live/an_id_twice/err"
     count no_moments_of_a_fault "$(ls "$room/fault.csv" 2> /dev/null || true)"
@@ -719,6 +749,9 @@ try_bad_demos() {
     give /dev/null demo "$files"
     judge 'demo over a file' 2 /dev/null "$room/said"
     count 'a file of a folder that stays' "$(cat "$files"/* | grep -vx mine; ls "$files" | grep -vx rows.txt)"
+    echo "squall: the folder '' can't be made: invalid filename" > "$room/said"
+    give /dev/null demo ''
+    judge 'demo in a folder without a name' 2 /dev/null "$room/said"
     echo "squall: the folder '$files/rows.txt/under' can't be made: Not a directory (os error 20)" > "$room/said"
     give /dev/null demo "$files/rows.txt/under"
     judge 'demo below a file' 2 /dev/null "$room/said"

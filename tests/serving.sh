@@ -259,6 +259,41 @@ served_slow_client() {
     count 'serve: a client that reads late' "$([ "$ended" = 0 ] || echo "status $ended; ")$(difference "$room/wanted" "$room/told")$(cat "$room/err")"
 }
 
+# What an engine did: each answer is in one interval, no more families moved than there are, and the account has the same. No report is
+# written over what is read, standard input too, nor over another one.
+served_reports() {
+    local longest text
+    {
+        opening
+        seq -f 'txn 0 %.0f 5 add 0 0 1' 1 100
+        echo 'txn 0 101 5 check 0 0 999'
+        echo "move $four_at_1"
+    } > "$room/jobs"
+    give "$room/jobs" serve --timeline "$room/line.csv" --summary-out "$room/account"
+    awk -F, 'NR == 1 { print; last = -1; next }
+        NF != 7 || $1 % 10 != 0 || $1 <= last || $3 > $4 || $4 > $5 || ($2 > 0) != ($5 != "") { print "line " NR ": " $0 }
+        { last = $1; answered += $2; moved += $6 }
+        END { print answered, moved > 1 ? "families " moved : "answers" }' "$room/line.csv" > "$room/told"
+    longest=$(awk -F, 'NR > 1 && $5 > most { most = $5 } END { print most + 0 }' "$room/line.csv")
+    sed 's/^epochs: [0-9]*, longest pause [0-9]* us, all pauses [0-9]* us$/epochs/
+        s/families [01], from [0-9]* to [0-9]* us, committed [0-9]*, aborted [0-9]*, longest wait [0-9]* us$/.. us/' "$room/account" >> "$room/told"
+    printf '%s\n' 'milliseconds,answered,median,p99,longest,families,segments' '101 answers' \
+        "jobs: committed 100, aborted 1, longest wait $longest us" 'epochs' 'move: segments 1, .. us' > "$room/wanted"
+    count 'serve: reports' "$([ "$ended" = 0 ] || echo "status $ended; ")$(difference "$room/wanted" "$room/told")"
+    : > "$room/wanted"
+    for text in "$room/jobs" /dev/null; do
+        give "$text" serve --timeline "$room/jobs" $([ "$text" = "$room/jobs" ] || echo "$room/jobs")
+        echo "squall: --timeline names the file '$room/jobs', which the run reads" > "$room/said"
+        judge "serve: a report over what is read, ${text##*/}" 2 "$room/wanted" "$room/said"
+    done
+    give "$room/jobs" serve --timeline "$room/both" --summary-out "$room/both"
+    echo "squall: --timeline names the file '$room/both', which another option names too" > "$room/said"
+    judge 'serve: two reports in one file' 2 "$room/wanted" "$room/said"
+    give "$room/jobs" serve --timeline "$room/none/line.csv"
+    echo "squall: the file '$room/none/line.csv' can't be written: No such file or directory (os error 2)" > "$room/said"
+    count 'serve: a report that can not be written' "$([ "$ended" = 2 ] || echo "status $ended; ")$(difference "$room/said" "$room/err")"
+}
+
 # A closed output ends the engine at once, also while its input is silent; and so does a full device.
 served_closed_output() {
     begin_engine
@@ -291,4 +326,5 @@ try_serve() {
     served_broken_input
     served_many_lines
     served_slow_client
+    served_reports
 }

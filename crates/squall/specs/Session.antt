@@ -140,7 +140,7 @@ abbrev pub EndsLine : Line → Option (List ℕ) → Option (List ℕ) → Optio
 EndsLine (Work task input) known before now status = EndsInput task input known before now status
 EndsLine (Owner keys plans width) known before now status = EndsOwners keys.items width before now status
 EndsLine (Demo demo folder) known before now status = EndsDemo folder.now before now status
-EndsLine (Serve pumps fold_after files file) known before now status = EndsEngine status
+EndsLine (Serve pumps fold_after files file reports) known before now status = EndsEngine status
 EndsLine (Explain number) known before now status = EndsAs (Explains number before now) explain_status status
 
 -- the words have no fault, and what their subcommand asks for ended with this status

@@ -107,11 +107,19 @@ fn refuse_lines(rt: &impl Eprint, count: u64) -> u8
 // Writes the texts into files of a folder, which is made where it isn't there. Gives whether all were written; standard error
 // says why one wasn't.
 fn are_saved<T: Eprint + Files + AllocGlobal>(rt: &T, texts: &DemoTexts, folder: &str) -> bool {
-    if let Err(error) = fs::create_dir_all(rt, folder) {
+    if let Err(error) = make_folder(rt, folder) {
         let _ = eprintln!(rt; "squall: the folder '{folder}' can't be made: {error}");
         return false;
     }
     are_absent(rt, folder) && are_written(rt, texts, folder)
+}
+
+// Makes a folder where it isn't there. None can have an empty name, which would be that of the root before a file's.
+fn make_folder<T: Files>(rt: &T, folder: &str) -> io::Result<()> {
+    if folder.is_empty() {
+        return Err(io::Error::from(ErrorKind::InvalidFilename));
+    }
+    fs::create_dir_all(rt, folder)
 }
 
 // Whether none of the files is there already; standard error says which one is.

@@ -53,7 +53,7 @@ pub struct RunReport<'a> {
 /// Runs the jobs in `reader` in threads, writes the outcome, and says on standard error what it means, unless the run
 /// is sound. Its workers ask `watch` before each step. Also writes what was asked for: a summary on standard error, and
 /// in files a timeline, a longer account, the answers of the jobs, and the rows at the end. A run that ends in a fault
-/// leaves none of this. Gives the exit status, which is 2 where one of the last three can't be written.
+/// leaves none of this. Gives the exit status, which is 2 where one of the files can't be written.
 pub fn live_run<
     T: Threads + Wait + Sync + Clock + Eprint + Files + AllocGlobal,
     R: Read,
@@ -124,27 +124,26 @@ fn is_any(records: Records) -> bool {
     timeline || figures || replies || rows
 }
 
-// Writes what was asked for of a run. Gives whether no figure, no answer of a job and no row is missing.
+// Writes what was asked for of a run. Gives whether none of the files is missing that were to be written.
 fn is_told<T: Wait + Clock + Sync + Eprint + Files + AllocGlobal, G: Watch>(
     rt: &T,
     report: RunReport<'_>,
     told: &Option<RecordingWatch<'_, T, G>>,
 ) -> bool {
     let Some(told) = told else {
-        return report.summary_out.is_none()
+        return report.timeline.is_none()
+            && report.summary_out.is_none()
             && report.replies.is_none()
             && report.rows_out.is_none();
     };
     if report.summary {
         print_summary(rt, told);
     }
-    if let Some(name) = report.timeline {
-        draw_timeline(rt, name, told);
-    }
+    let is_timeline_drawn = draw_timeline(rt, report.timeline, told);
     let are_figures_saved = save_figures(rt, report.summary_out, told);
     let are_replies_saved = save_replies(rt, report.replies, told);
     let are_rows_saved = save_rows(rt, report.rows_out, told);
-    are_figures_saved && are_replies_saved && are_rows_saved
+    is_timeline_drawn && are_figures_saved && are_replies_saved && are_rows_saved
 }
 
 // Writes the figures of a run into the file of this name, where there is to be one: as JSON where the name ends in '.json', else
@@ -212,20 +211,24 @@ fn print_summary<T: Wait + Clock + Sync + Eprint + AllocGlobal, G: Watch>(
     }
 }
 
-// Writes the timeline into a file of this name: values where the name ends in '.csv', else a chart. Says on standard error why
-// it can't be written.
+// Writes the timeline into the file of this name, where there is to be one: values where the name ends in '.csv', else a chart.
+// Gives whether it isn't missing; standard error says why it can't be written.
 fn draw_timeline<T: Wait + Clock + Sync + Eprint + Files + AllocGlobal, G: Watch>(
     rt: &T,
-    name: &str,
+    timeline: Option<&str>,
     told: &RecordingWatch<'_, T, G>,
-) {
+) -> bool {
+    let Some(name) = timeline else {
+        return true;
+    };
     let drawn = match fs::create(rt, name) {
         Ok(mut file) => told.write_timeline(rt.alloc(), &mut file, TimelineForm::of_file(name)),
         Err(error) => Err(error),
     };
-    if let Err(error) = drawn {
+    if let Err(error) = &drawn {
         let _ = eprintln!(rt; "squall: the file '{name}' can't be written: {error}");
     }
+    drawn.is_ok()
 }
 
 /// The exit status after a live run: 0 where it is sound, 3 where it stopped, 4 where it isn't sound, and 2 after a fault.

@@ -6,6 +6,7 @@ ghost use Rattle.sq_command.specs.Line.{IsWithin};
 ghost use Rattle.squall.specs.Session.{EndsTask, EndsWithRows, EndsParts, EndsInput, EndsWith, EndsBuffered};
 
 mod beginning;
+mod engine_watch;
 mod explaining;
 mod flaws;
 mod live_runs;
@@ -13,12 +14,12 @@ mod outputs;
 mod owning;
 mod plans;
 mod progress;
-mod rows_saver;
 mod serving;
 mod session;
 mod source;
 mod steps;
 mod streams;
+mod usage;
 
 use beginning::write_demo;
 use explaining::explanation;
@@ -28,9 +29,7 @@ use owning::owners;
 use plans::lines_of_plans;
 use progress::Progress;
 use serving::{EngineInput, serve_engine};
-use session::{
-    listing, open_input, print_usage, refuse_file, refuse_for_memory, refuse_words, script,
-};
+use session::{listing, open_input, refuse_file, refuse_for_memory, refuse_words, script};
 use source::{Source, is_table};
 use sq_command::{Input, Line, Task, line_of};
 use sq_csv_rows::{CsvRows, RecordLines};
@@ -52,6 +51,7 @@ use std::time::Clock;
 use std::{env, io};
 use steps::steps;
 use streams::Streams;
+use usage::{columns_of, print_usage};
 
 // How many bytes go out at a time.
 const WRITE_SIZE: usize = 65_536;
@@ -255,13 +255,19 @@ where
                 fold_after,
                 files,
                 file,
+                reports,
             },
         ) => {
             let config = ServeConfig { pumps, fold_after };
-            serve_engine(rt, writer, EngineInput { files, file }, config, streams)
+            let input = EngineInput {
+                files,
+                file,
+                reports,
+            };
+            serve_engine(rt, writer, input, config, streams)
         }
         Ok(Line::Explain { number }) => explanation(rt, writer, number, streams.is_closed),
-        Err(error) => print_usage(rt, &error),
+        Err(error) => print_usage(rt, &error, streams.columns),
     }
 }
 
@@ -283,7 +289,15 @@ fn obey_buffered<
     R: Read,
     W: Write + Drop,
     G: Watch,
->(rt: &T, words: &[S], reader: &mut R, writer: W, watch: &G, is_typed: bool) -> u8
+>(
+    rt: &T,
+    words: &[S],
+    reader: &mut R,
+    writer: W,
+    watch: &G,
+    is_typed: bool,
+    columns: Option<usize>,
+) -> u8
 where
     T::File: Send + 'static,
     T::Reader: Send + 'static,
@@ -297,6 +311,7 @@ where
     };
     let streams = Streams {
         is_typed,
+        columns,
         is_closed: &is_closed,
     };
     let status = obey(rt, words, reader, &mut writer, watch, streams);
@@ -311,12 +326,29 @@ fn main(rt: HostRuntime) -> ExitCode {
             let mut reader = rt.reader();
             let writer = io::writer(&rt);
             let is_typed = rt.stdin().is_terminal();
+            let columns = columns_of(&rt);
             // At a terminal standard error shows how far a live run is.
             if rt.stderr().is_terminal() {
                 let progress = Progress::new(&rt);
-                obey_buffered(&rt, &words, &mut reader, writer, &progress, is_typed)
+                obey_buffered(
+                    &rt,
+                    &words,
+                    &mut reader,
+                    writer,
+                    &progress,
+                    is_typed,
+                    columns,
+                )
             } else {
-                obey_buffered(&rt, &words, &mut reader, writer, &OpenGate, is_typed)
+                obey_buffered(
+                    &rt,
+                    &words,
+                    &mut reader,
+                    writer,
+                    &OpenGate,
+                    is_typed,
+                    columns,
+                )
             }
         }
         Err(error) => refuse_words(&rt, &error),

@@ -141,8 +141,8 @@ fn is_in_conflict<T: Eprint + Files + AllocGlobal>(
     }
 }
 
-// Says on standard error why a file can't be written.
-fn explain_conflict(rt: &impl Eprint, conflict: Conflict<'_>) {
+/// Says on standard error why a file can't be written.
+pub fn explain_conflict(rt: &impl Eprint, conflict: Conflict<'_>) {
     let (output, why) = match conflict {
         Conflict::IsRead(output) => (output, "which the run reads"),
         Conflict::NamedTwice(output) => (output, "which another option names too"),

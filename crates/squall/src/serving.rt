@@ -3,12 +3,12 @@ ghost use Rattle.std.specs.Prelude.{◌≡◌, ◌≤◌, IfErr};
 ghost use Rattle.sq_pull.specs.declared.numbers.TheConstants.{MAX_PUMPS};
 ghost use Rattle.squall.specs.Session.{EndsEngine};
 
+use crate::engine_watch::EngineWatch;
 use crate::plans::read_plan;
-use crate::rows_saver::RowsSaver;
-use crate::session::{explain_write, open_input, refuse_file, refuse_for_memory};
+use crate::session::{REFUSED, explain_write, open_input, refuse_file, refuse_for_memory};
 use crate::source::is_table;
 use crate::streams::Streams;
-use sq_command::EngineFiles;
+use sq_command::{EngineFiles, EngineReports};
 use sq_csv_rows::{CsvRows, RecordLines};
 use sq_row_lines::RowLines;
 use sq_serve::{Following, ServeWatch};
@@ -21,6 +21,7 @@ use std::io::{Cursor, ErrorKind, Read, Write};
 use std::rt::Files;
 use std::sync::Wait;
 use std::thread::Threads;
+use std::time::Clock;
 
 // The byte that ends a line.
 const LINE_END: u8 = 10;
@@ -35,10 +36,13 @@ pub struct EngineInput<'a> {
     pub files: Option<EngineFiles<'a>>,
     /// The name of the file that is read before standard input, where there is one.
     pub file: Option<&'a str>,
+    /// The files into which it is written what the engine did.
+    pub reports: EngineReports<'a>,
 }
 
-/// Serves an engine whose input is the file that is named, if one is, and then standard input. Says on standard error what a
-/// fault that ends it means. Gives the exit status, which is 2 where a file can't be read.
+/// Serves an engine whose input is the file that is named, if one is, and then standard input, and reports what it did, where
+/// that is wanted. Says on standard error what a fault that ends it means. Gives the exit status, which is 2 where a file can't be
+/// read or written.
 pub fn serve_engine<T, W>(
     rt: &T,
     writer: &mut W,
@@ -47,17 +51,30 @@ pub fn serve_engine<T, W>(
     streams: Streams<'_>,
 ) -> u8
 where
-    T: Threads + Wait + Sync + Print + Eprint + Files + AllocGlobal + Input + Copy + Send + 'static,
+    T: Threads
+        + Wait
+        + Sync
+        + Clock
+        + Print
+        + Eprint
+        + Files
+        + AllocGlobal
+        + Input
+        + Copy
+        + Send
+        + 'static,
     T::File: Send + 'static,
     T::Reader: Send + 'static,
     W: Write,
     requires { config.pumps ≤ MAX_PUMPS }
     ensures { EndsEngine result }
 {
-    match RowsSaver::new(rt, input) {
-        Ok(saver) => serve_watched(rt, writer, input, config, streams, &saver),
-        Err(_) => refuse_for_memory(rt),
-    }
+    let watch = match EngineWatch::new(rt, input) {
+        Ok(watch) => watch,
+        Err(status) => return status,
+    };
+    let status = serve_watched(rt, writer, input, config, streams, &watch);
+    if watch.report(input) { status } else { REFUSED }
 }
 
 // Serves an engine with who watches it.

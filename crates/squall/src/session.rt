@@ -1,16 +1,14 @@
 // Runs, what is said of their faults, and the exit status.
 ghost use Rattle.std.specs.Prelude.{◌≡◌, [], Some, IfOk};
-ghost use Rattle.clap.specs.Values.{kind_of};
 ghost use Rattle.sq_inputs.specs.Recalling.{recalling_remaining};
 ghost use Rattle.sq_schema.specs.declared.schema.TheConstants.{MAX_TABLES};
 ghost use Rattle.sq_results.specs.Standing.{WritesRows, world_families};
 ghost use Rattle.sq_world.specs.Run.{Runs};
-ghost use Rattle.squall.specs.Session.{exit_status, EndsAs, MovesAs, SizesAs, ListsAs, IsUsageStatus};
+ghost use Rattle.squall.specs.Session.{exit_status, EndsAs, MovesAs, SizesAs, ListsAs};
 
 use crate::flaws::{tell_misfit, tell_unread_stages};
 use crate::outputs::save_text;
 use crate::source::Source;
-use clap::Error;
 use sq_command::Form;
 use sq_diagnosis::ToldLine;
 use sq_explain::entry;
@@ -253,23 +251,6 @@ fn form_of(line: InputLine) -> &'static str {
         }
         InputLine::Row(_) | InputLine::Later(_) => {
             "'row ROOT T S N NOTE', as in 'row 5 0 0 10 -': root key, table, sub key, number, note"
-        }
-    }
-}
-
-/// Prints what `clap` says of a command line: a help text that was asked for to standard output, anything else to
-/// standard error. Gives the exit status, 0 after a help text that was printed, and 2 where it can't be; standard
-/// error says so, unless no one reads it.
-pub fn print_usage<R: Print + Eprint>(rt: &R, error: &Error) -> u8
-    ensures { IsUsageStatus (kind_of error.now) result }
-{
-    match error.print(rt) {
-        Ok(()) if !error.use_stderr() => 0,
-        Ok(()) => REFUSED,
-        Err(failed) => {
-            let is_closed = failed.kind() == ErrorKind::BrokenPipe;
-            explain_write(rt, WriteFault, is_closed);
-            REFUSED
         }
     }
 }

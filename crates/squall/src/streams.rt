@@ -7,6 +7,8 @@ use std::cell::Cell;
 pub struct Streams<'a> {
     /// Whether standard input is a terminal.
     pub is_typed: bool,
+    /// How many columns help texts are folded to, if the environment says it.
+    pub columns: Option<usize>,
     /// Whether a write found that no one reads standard output any more.
     pub is_closed: &'a Cell<bool>,
 }
