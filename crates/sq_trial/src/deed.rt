@@ -37,6 +37,8 @@ pub enum Deed {
     Run(u64),
     /// It serves its client until so many jobs are answered. At rest a page is taken where the engine wants one.
     ServeUntil(u64),
+    /// It serves its client until so many jobs have come back, since their queue was full.
+    ServeUntilReturned(u64),
     /// It serves its client until nothing moves: an epoch for each stage, as some jobs are posted. If a number is wanted,
     /// there are so many stages.
     ServeStages(Option<u64>),

@@ -10,7 +10,7 @@ use std::alloc::Global;
 
 /// The jobs of a workload, with the ids 0, 1, 2 and so on.
 #[derive(Drop)]
-pub(crate) struct JobSource {
+pub struct JobSource {
     schema: Schema,
     dice: Dice,
     workload: Workload,
@@ -20,7 +20,7 @@ pub(crate) struct JobSource {
 
 impl JobSource {
     /// A source that has made no job yet.
-    pub(crate) fn new(workload: Workload) -> JobSource {
+    pub fn new(workload: Workload) -> JobSource {
         JobSource {
             schema: schema(),
             dice: Dice::new(workload.seed),
@@ -30,17 +30,17 @@ impl JobSource {
     }
 
     /// How many jobs were made.
-    pub(crate) fn made(&self) -> u64 {
+    pub fn made(&self) -> u64 {
         self.made
     }
 
     /// Whether all jobs were made.
-    pub(crate) fn is_spent(&self) -> bool {
+    pub fn is_spent(&self) -> bool {
         self.made >= self.workload.jobs
     }
 
     /// The next job, and its root key.
-    pub(crate) fn make(&mut self, alloc: Global) -> Result<(Job, u64), Failure> {
+    pub fn make(&mut self, alloc: Global) -> Result<(Job, u64), Failure> {
         let part = PartId::new(self.dice.below(u64::from(self.workload.parts.max(1))) as u8);
         let root = self.dice.below(self.workload.roots.max(1));
         match add_one(alloc, self.schema, self.made, root) {

@@ -87,7 +87,7 @@ fn write_range(text: &mut Vec<u8>, lo: u64, part: u64) -> io::Result<()>
 }
 
 /// Nothing moves at this plan, and each root key has the number 0.
-pub(crate) fn opening_at(alloc: Global, choice: PlanChoice) -> Result<Opening, Failure> {
+pub fn opening_at(alloc: Global, choice: PlanChoice) -> Result<Opening, Failure> {
     let old = plan_of(alloc, choice)?;
     let new = plan_of(alloc, choice)?;
     let Ok(rows) = rows(alloc) else {

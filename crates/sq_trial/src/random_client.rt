@@ -5,7 +5,7 @@ use crate::hearing::Hearing;
 use crate::job_source::JobSource;
 use crate::workload::Workload;
 use sq_audit::Job;
-use sq_engine::{Client, Command, Engine, PostFault, StageProgress};
+use sq_engine::{Client, Command, Engine, NotPosted, PostFault, StageProgress};
 use sq_node::Receipt;
 use sq_plan::PartId;
 use std::alloc::Global;
@@ -18,6 +18,15 @@ const AHEAD: u64 = 1_000;
 // for lost.
 const PATIENCE: u64 = 100_000;
 
+/// What a client waits for before it ends an epoch.
+#[derive(Clone, Copy, Debug)]
+pub(crate) enum Awaited {
+    /// So many of its jobs are answered.
+    Answers(u64),
+    /// So many of its jobs have come back while it was served, since their queue was full.
+    Returns(u64),
+}
+
 /// A client that posts jobs at random, and judges what it hears.
 #[derive(Drop)]
 pub(crate) struct RandomClient {
@@ -26,8 +35,9 @@ pub(crate) struct RandomClient {
     hearing: Hearing,
     // A job that came back, to be posted again.
     again: Option<Job>,
-    // How many answers it waits for. Then it ends an epoch.
-    awaited: u64,
+    // How many jobs have come back while it was served.
+    returned: u64,
+    awaited: Awaited,
     // How often it was asked in vain since the last answer came.
     asked_in_vain: u64,
     // Whether it was served, so that it heard what a page has.
@@ -45,7 +55,8 @@ impl RandomClient {
             source: JobSource::new(workload),
             hearing,
             again: None,
-            awaited: 0,
+            returned: 0,
+            awaited: Awaited::Answers(0),
             asked_in_vain: 0,
             was_served: false,
             failure: None,
@@ -64,15 +75,18 @@ impl RandomClient {
         self.hearing.count()
     }
 
-    /// From now on it ends an epoch once so many of its jobs are answered.
-    pub(crate) fn wait_for(&mut self, answers: u64) {
-        self.awaited = answers;
+    /// From now on it ends an epoch once it has what it waits for.
+    pub(crate) fn wait_for(&mut self, awaited: Awaited) {
+        self.awaited = awaited;
         self.asked_in_vain = 0;
     }
 
-    /// Whether as many of its jobs are answered as it waits for.
+    /// Whether it has what it waits for.
     pub(crate) fn has_heard_enough(&self) -> bool {
-        self.hearing.count() >= self.awaited
+        match self.awaited {
+            Awaited::Answers(answers) => self.hearing.count() >= answers,
+            Awaited::Returns(jobs) => self.returned >= jobs,
+        }
     }
 
     /// What was wrong so far, if something was.
@@ -99,8 +113,10 @@ impl RandomClient {
             let Some(job) = self.next_job()? else {
                 return Ok(());
             };
-            if let Err(fault) = engine.post(rt, job.part, &job.txn) {
-                return self.keep(job, fault);
+            match engine.post(rt, job.part, &job.txn) {
+                Ok(()) => {}
+                Err(NotPosted::Refused(fault)) => return self.keep(job, fault),
+                Err(NotPosted::NoEpoch) => return Err(Failure::NotPosted),
             }
         }
         Ok(())
@@ -146,9 +162,15 @@ impl RandomClient {
         Ok(())
     }
 
-    // Whether as many jobs wait for an answer as may.
+    // Whether as many jobs wait for an answer as may. Where jobs are to come back there is no limit.
     fn is_far_ahead(&self) -> bool {
-        self.again.is_none() && self.source.made() >= self.hearing.count().saturating_add(AHEAD)
+        match self.awaited {
+            Awaited::Answers(_) => {
+                self.again.is_none()
+                    && self.source.made() >= self.hearing.count().saturating_add(AHEAD)
+            }
+            Awaited::Returns(_) => false,
+        }
     }
 
     // What it wants next, where nothing was wrong.
@@ -209,6 +231,7 @@ impl Client for RandomClient {
     }
 
     fn take_back(&mut self, job: Job, fault: PostFault) {
+        self.returned = self.returned.saturating_add(1);
         let outcome = self.keep(job, fault);
         self.note(outcome);
     }

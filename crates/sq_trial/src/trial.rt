@@ -2,7 +2,7 @@
 // hand.
 use crate::deed::{Deed, EngineCall};
 use crate::failure::Failure;
-use crate::random_client::RandomClient;
+use crate::random_client::{Awaited, RandomClient};
 
 // More epochs than a client is served at a time.
 const EPOCHS: u64 = 100_000;
@@ -64,7 +64,8 @@ where
         Deed::TakePage => call_at_rest(make, tried, client, EngineCall::TakePage),
         Deed::Post(count) => make(tried.engine, client, EngineCall::Post(count)),
         Deed::Run(turns) => make(tried.engine, client, EngineCall::Run(turns)),
-        Deed::ServeUntil(answers) => serve_until(make, tried, client, answers),
+        Deed::ServeUntil(answers) => serve_until(make, tried, client, Awaited::Answers(answers)),
+        Deed::ServeUntilReturned(jobs) => serve_until(make, tried, client, Awaited::Returns(jobs)),
         Deed::ServeStages(wanted) => serve_stages(make, tried, client, wanted),
         Deed::RunToEnd => run_to_end(make, tried, client),
         Deed::HasPosted(count) => {
@@ -101,19 +102,19 @@ where
     }
 }
 
-// Serves a client until so many of its jobs are answered.
+// Serves a client until it has what it waits for.
 fn serve_until<E, F>(
     make: &F,
     tried: Tried<E>,
     client: &mut RandomClient,
-    answers: u64,
+    awaited: Awaited,
 ) -> Result<Tried<E>, Failure>
 where
     E: Drop,
     F: Fn(E, &mut RandomClient, EngineCall) -> Result<Tried<E>, Failure>,
     requires { F.IsAlwaysCallable make.now }
 {
-    client.wait_for(answers);
+    client.wait_for(awaited);
     let mut tried = tried;
     for _epoch in 0..EPOCHS {
         if client.has_heard_enough() {
@@ -151,7 +152,7 @@ where
     F: Fn(E, &mut RandomClient, EngineCall) -> Result<Tried<E>, Failure>,
     requires { F.IsAlwaysCallable make.now }
 {
-    client.wait_for(u64::MAX);
+    client.wait_for(Awaited::Answers(u64::MAX));
     let mut tried = tried;
     let mut stages = 0u64;
     for _stage in 0..EPOCHS {
