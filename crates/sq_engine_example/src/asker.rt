@@ -1,4 +1,4 @@
-// Threads whose jobs the engine answers.
+// Threads that have jobs answered.
 use crossbeam_channel::{Receiver, Sender};
 use sq_audit::Job;
 use sq_node::Receipt;
@@ -11,7 +11,7 @@ use std::sync::Wait;
 /// How many jobs a thread makes.
 pub(crate) const JOBS: u64 = 1_000;
 
-/// What a thread has whose jobs the engine answers.
+/// A thread that hands in jobs, and counts their answers.
 #[derive(Drop)]
 pub(crate) struct Asker {
     schema: Schema,
@@ -21,7 +21,7 @@ pub(crate) struct Asker {
 }
 
 impl Asker {
-    /// For jobs of these ids, which it hands in there. Their answers come here.
+    /// It has jobs of these ids, sends them over the one channel, and gets their answers over the other.
     pub(crate) fn new(
         schema: Schema,
         ids: Range<u64>,

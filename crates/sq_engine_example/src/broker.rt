@@ -1,4 +1,4 @@
-// Where the engine meets two threads.
+// The client of the engine.
 use crate::asker::{Asker, JOBS};
 use crossbeam_channel::{Receiver, Sender, unbounded};
 use sq_audit::Job;
@@ -9,7 +9,7 @@ use sq_schema::Schema;
 use std::alloc::Global;
 use std::sync::Wait;
 
-/// The client of the engine: it takes the jobs that two threads hand in, and sends each of them its answers.
+/// The client of the engine: it posts the jobs that two threads hand in, and sends each thread its answers.
 #[derive(Drop)]
 pub(crate) struct Broker<'a, R: Wait> {
     rt: &'a R,
@@ -24,7 +24,7 @@ pub(crate) struct Broker<'a, R: Wait> {
 }
 
 impl<'a, R: Wait> Broker<'a, R> {
-    /// A broker, and the two threads that it serves. `None` where there is no memory.
+    /// A broker and the two threads that it serves. `None` where there is no memory.
     pub(crate) fn open(
         rt: &'a R,
         alloc: Global,

@@ -15,7 +15,7 @@ mod broker;
 use asker::{Asker, JOBS};
 use broker::Broker;
 use sq_audit::Verdict;
-use sq_engine::{Closed, Engine, RestPage};
+use sq_engine::{Closed, Engine, EngineServed, RestPage};
 use sq_plan::Plan;
 use sq_ranges::Opening;
 use std::alloc::Global;
@@ -41,7 +41,8 @@ pub struct ThereAndBack {
 }
 
 /// Serves two threads while the rows of an opening at rest move to another plan and back, and says how many answers each of
-/// them got. `None` where memory runs out, a plan has a fault, or the turns aren't enough for a move.
+/// them got. `None` where memory or threads run out, a plan has a fault, the turns aren't enough for a move, or a log is so
+/// long that a page should be taken before the jobs are done.
 pub fn go_there_and_back<R: Threads + Wait + Sync>(
     rt: &R,
     alloc: Global,
@@ -64,7 +65,7 @@ pub fn go_there_and_back<R: Threads + Wait + Sync>(
     Some((came?, heard))
 }
 
-// The two threads: how many answers each of them got.
+// Runs the two threads. How many answers each of them got.
 fn ask_both<R: Threads + Wait + Sync>(
     rt: &R,
     alloc: Global,
@@ -168,7 +169,8 @@ fn go_to<R: Threads + Wait + Sync>(
     Some(moving)
 }
 
-// Serves the broker for an epoch, which ends with so many jobs done.
+// Serves the broker for an epoch, which ends with so many jobs done. `None` where an answer is missing, for which the broker would
+// wait forever, and where no thread can be had for a partition. This caller takes no page here, and gives up where one is wanted.
 fn serve_until<R: Threads + Wait + Sync>(
     rt: &R,
     alloc: Global,
@@ -179,6 +181,13 @@ fn serve_until<R: Threads + Wait + Sync>(
     ensures { IfSome result (KeepsHistory engine) }
 {
     broker.end_after(jobs);
-    let served = engine.serve(rt, alloc, TURNS, broker).ok()?;
-    Some(served.engine)
+    let EngineServed {
+        engine,
+        is_whole,
+        lacks_threads,
+    } = engine.serve(rt, alloc, TURNS, broker).ok()?;
+    if lacks_threads || !is_whole || engine.wants_page() {
+        return None;
+    }
+    Some(engine)
 }

@@ -6,7 +6,7 @@ use Rattle.sq_engine_example.proofs.serve_until.Goals as goal
 
 pub returns : goal.returns
 returns g c =
-    from_ok (λ (served : EngineServed). KeepsHistory c.args.engine served.engine) c.serve.result c.in_ok-served.served
-    c.in_ok-served.ensures.value
+    from_ok (λ (served : EngineServed). KeepsHistory c.args.engine served.engine) c.serve.result c.in_ok-engine.field-0
+    c.in_ok-engine.ensures.value
     (IfOk-weaker c.serve.result _ (λ (served : EngineServed). KeepsHistory c.args.engine served.engine)
     (λ served is. served_keeps is) c.serve.ensures.served)
