@@ -1,5 +1,5 @@
 // The caller of the library that docs/guide/library.md shows.
-use sq_example::move_one_root;
+use sq_examples::world::move_one_root;
 
 #[test]
 fn reads_the_number_that_it_moved(rt: HostRuntime) {

@@ -2,7 +2,7 @@
 use super::run::read_opening;
 use sq_audit::Verdict;
 use sq_engine::Closed;
-use sq_engine_example::go_there_and_back;
+use sq_examples::engine::go_there_and_back;
 use sq_plan::Plan;
 use sq_schema::{Root, RowKey};
 use sq_store::FamilyStore;

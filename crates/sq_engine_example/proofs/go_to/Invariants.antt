@@ -1,5 +1,0 @@
-use Rattle.sq_engine.specs.Engine.{KeepsHistory}
-use Rattle.sq_engine_example.proofs.go_to.Given as goal
-
-abbrev pub invariant-loop-stage : goal.invariant-loop-stage
-invariant-loop-stage g l = KeepsHistory l.fn.engine l.moving

@@ -1,0 +1,192 @@
+// A small caller of the engine that lasts: two threads have jobs answered while rows move to another plan and back, and what
+// the engine had is audited.
+
+ghost use Rattle.std.specs.Prelude.{[], IfSome};
+ghost use Rattle.sq_page.specs.Pages.{SpeaksForRuns};
+ghost use Rattle.sq_engine.specs.Engine.{KeepsHistory};
+ghost use Rattle.sq_engine.specs.Taken.{TakesPage};
+ghost use Rattle.sq_engine.specs.Verdicts.{SpeaksForEngines};
+ghost use Rattle.sq_examples.specs.Return.{CameByPages, ClosesLater, HasComeBack};
+
+mod asker;
+mod broker;
+
+use self::asker::{Asker, JOBS};
+use self::broker::Broker;
+use sq_audit::Verdict;
+use sq_engine::{Closed, Engine, EngineServed, RestPage};
+use sq_plan::Plan;
+use sq_ranges::Opening;
+use std::alloc::Global;
+use std::sync::Wait;
+use std::thread::{Threads, join};
+
+// How many turns each worker takes at most in an epoch, and how many pumps claim in the background.
+const TURNS: u64 = 1_000_000;
+
+const PUMPS: u32 = 1;
+
+/// The outcome for an engine whose rows moved to another plan and back.
+#[derive(Drop)]
+pub struct ThereAndBack {
+    /// The page that was taken at the other plan.
+    pub page: RestPage,
+    /// Whether it is sound, or else its first defect.
+    pub verdict: Verdict,
+    /// What the engine had once the rows were back, with its last page.
+    pub closed: Closed,
+    /// Whether that is sound, or else its first defect.
+    pub last_verdict: Verdict,
+}
+
+/// Serves two threads while the rows of an opening at rest move to another plan and back, and says how many answers each of
+/// them got. `None` where memory or threads run out, a plan has a fault, the turns aren't enough for a move, or a log is so
+/// long that a page should be taken before the jobs are done.
+pub fn go_there_and_back<R: Threads + Wait + Sync>(
+    rt: &R,
+    alloc: Global,
+    opening: Opening,
+    there: Plan,
+) -> Option<(ThereAndBack, (u64, u64))>
+    ensures { IfSome result (λ came. HasComeBack opening came.0) }
+{
+    let (broker, first, second) = Broker::open(rt, alloc, opening.schema())?;
+    let (heard, came) = join(
+        rt,
+        move || ask_both(rt, alloc, first, second),
+        move || -> Option<ThereAndBack>
+            ensures { IfSome result (HasComeBack opening) }
+        {
+            let mut broker = broker;
+            serve(rt, alloc, opening, there, &mut broker)
+        },
+    );
+    Some((came?, heard))
+}
+
+// Runs the two threads. How many answers each of them got.
+fn ask_both<R: Threads + Wait + Sync>(
+    rt: &R,
+    alloc: Global,
+    first: Asker,
+    second: Asker,
+) -> (u64, u64) {
+    join(
+        rt,
+        move || first.ask(rt, alloc),
+        move || second.ask(rt, alloc),
+    )
+}
+
+// Opens an engine, goes to a plan and back with it, and closes it.
+fn serve<R: Threads + Wait + Sync>(
+    rt: &R,
+    alloc: Global,
+    opening: Opening,
+    there: Plan,
+    broker: &mut Broker<R>,
+) -> Option<ThereAndBack>
+    ensures { IfSome result (HasComeBack opening) }
+{
+    let back = opening.new_plan().clone().ok()?;
+    let engine = go_there(rt, alloc, opening, there, broker)?;
+    let (page, verdict, engine) = take_page(rt, alloc, engine)?;
+    let (closed, last_verdict) = come_back(rt, alloc, engine, back, broker)?;
+    Some(ThereAndBack {
+        page,
+        verdict,
+        closed,
+        last_verdict,
+    })
+}
+
+// Opens an engine, serves the broker until half of the jobs are done, and goes to a plan.
+fn go_there<R: Threads + Wait + Sync>(
+    rt: &R,
+    alloc: Global,
+    opening: Opening,
+    plan: Plan,
+    broker: &mut Broker<R>,
+) -> Option<Engine>
+    ensures { IfSome result (CameByPages opening []) }
+{
+    let engine = Engine::open(rt, alloc, opening, PUMPS).ok()?;
+    let engine = serve_until(rt, alloc, engine, broker, JOBS)?;
+    go_to(rt, alloc, engine, plan, broker)
+}
+
+// Takes a page of an engine, and audits it.
+fn take_page<R: Threads + Wait + Sync>(
+    rt: &R,
+    alloc: Global,
+    engine: Engine,
+) -> Option<(RestPage, Verdict, Engine)>
+    ensures taken { IfSome result (λ taken. TakesPage engine taken.0 taken.2) }
+    ensures verdict { IfSome result (λ taken.
+        SpeaksForRuns taken.0.plan taken.0.page.run taken.0.page.jobs.items taken.1) }
+{
+    let (page, engine) = engine.take_page(rt, alloc).ok()?;
+    let verdict = page.audit(rt, alloc).ok()?;
+    Some((page, verdict, engine))
+}
+
+// Goes to a plan with an engine, serves the broker until all jobs are done, closes the engine, and audits its last page.
+fn come_back<R: Threads + Wait + Sync>(
+    rt: &R,
+    alloc: Global,
+    engine: Engine,
+    plan: Plan,
+    broker: &mut Broker<R>,
+) -> Option<(Closed, Verdict)>
+    ensures closed { IfSome result (λ end. ClosesLater engine end.0) }
+    ensures verdict { IfSome result (λ end. SpeaksForEngines end.0 end.1) }
+{
+    let engine = go_to(rt, alloc, engine, plan, broker)?;
+    let engine = serve_until(rt, alloc, engine, broker, 2 * JOBS)?;
+    let closed = engine.close(rt, alloc).ok()?;
+    let verdict = closed.audit(rt, alloc).ok()?;
+    Some((closed, verdict))
+}
+
+// Goes to a plan, and serves the broker until the rows are there: an epoch for each stage.
+fn go_to<R: Threads + Wait + Sync>(
+    rt: &R,
+    alloc: Global,
+    engine: Engine,
+    plan: Plan,
+    broker: &mut Broker<R>,
+) -> Option<Engine>
+    ensures { IfSome result (KeepsHistory engine) }
+{
+    let mut moving = engine.move_to(rt, alloc, plan).ok()?;
+    for _stage in 0..moving.opening().recon().stages() {
+        if moving.is_at_rest() {
+            break;
+        }
+        moving = serve_until(rt, alloc, moving, broker, u64::MAX)?;
+    }
+    Some(moving)
+}
+
+// Serves the broker for an epoch, which ends with so many jobs done. `None` where an answer is missing, for which the broker would
+// wait forever, and where no thread can be had for a partition. This caller takes no page here, and gives up where one is wanted.
+fn serve_until<R: Threads + Wait + Sync>(
+    rt: &R,
+    alloc: Global,
+    engine: Engine,
+    broker: &mut Broker<R>,
+    jobs: u64,
+) -> Option<Engine>
+    ensures { IfSome result (KeepsHistory engine) }
+{
+    broker.end_after(jobs);
+    let EngineServed {
+        engine,
+        is_whole,
+        lacks_threads,
+    } = engine.serve(rt, alloc, TURNS, broker).ok()?;
+    if lacks_threads || !is_whole || engine.wants_page() {
+        return None;
+    }
+    Some(engine)
+}
