@@ -273,7 +273,7 @@ served_reports() {
     awk -F, 'NR == 1 { print; last = -1; next }
         NF != 7 || $1 % 10 != 0 || $1 <= last || $3 > $4 || $4 > $5 || ($2 > 0) != ($5 != "") { print "line " NR ": " $0 }
         { last = $1; answered += $2; moved += $6 }
-        END { print answered, moved > 1 ? "families " moved : "answers" }' "$room/line.csv" > "$room/told"
+        END { print answered, (moved > 1 ? "families " moved : "answers") }' "$room/line.csv" > "$room/told"
     longest=$(awk -F, 'NR > 1 && $5 > most { most = $5 } END { print most + 0 }' "$room/line.csv")
     sed 's/^epochs: [0-9]*, longest pause [0-9]* us, all pauses [0-9]* us$/epochs/
         s/families [01], from [0-9]* to [0-9]* us, committed [0-9]*, aborted [0-9]*, longest wait [0-9]* us$/.. us/' "$room/account" >> "$room/told"
