@@ -82,6 +82,28 @@ fn a_full_queue_and_a_full_log_wait(rt: HostRuntime) -> Result<(), Fail> {
     Ok(())
 }
 
+// The same, but that a client is served. The log is full: what it posts isn't answered, so the queue is full in the end, and jobs
+// come back. It posts them again, and each is answered once, as pages make room.
+#[test]
+fn a_client_meets_a_full_queue(rt: HostRuntime) -> Result<(), Fail> {
+    let places = JOB_PLACES as u64;
+    let workload = Workload {
+        seed: 2,
+        jobs: 3 * places,
+        parts: 1,
+        roots: 1,
+    };
+    let deeds = [
+        Deed::Post(TURNS),
+        Deed::Run(TURNS),
+        Deed::ServeUntilReturned(2),
+        Deed::HasAnswered(LOG),
+        Deed::ServeUntil(3 * places),
+    ];
+    try_engine(&rt, rt.alloc(), workload, PlanChoice::Gathered, &deeds)?;
+    Ok(())
+}
+
 // The first partition gives root keys to three others, to each in a stage of its own; back they come in one stage.
 #[test]
 fn jobs_come_from_stage_to_stage(rt: HostRuntime) -> Result<(), Fail> {
