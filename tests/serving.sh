@@ -260,23 +260,26 @@ served_slow_client() {
 }
 
 # What an engine did: each answer is in one interval, no more families moved than there are, and the account has the same. No report is
-# written over what is read, standard input too, nor over another one.
+# written over what is read, standard input too, nor over another one. The move is of 2,000 chunks: one that is over before the client of
+# its epoch is asked for the first time stands in no report.
 served_reports() {
     local longest text
     {
-        opening
+        echo 'plan {"version":1,"partitions":2,"ranges":[[0,4294967296,0]]}'
+        echo 'config 64 64 1'
+        seq -f 'row %.0f 0 0 1 -' 0 1999
         seq -f 'txn 0 %.0f 5 add 0 0 1' 1 100
         echo 'txn 0 101 5 check 0 0 999'
-        echo "move $four_at_1"
+        echo 'move {"version":1,"partitions":2,"ranges":[[0,2000,1],[2000,4294967296,0]]}'
     } > "$room/jobs"
     give "$room/jobs" serve --timeline "$room/line.csv" --summary-out "$room/account"
     awk -F, 'NR == 1 { print; last = -1; next }
         NF != 7 || $1 % 10 != 0 || $1 <= last || $3 > $4 || $4 > $5 || ($2 > 0) != ($5 != "") { print "line " NR ": " $0 }
         { last = $1; answered += $2; moved += $6 }
-        END { print answered, (moved > 1 ? "families " moved : "answers") }' "$room/line.csv" > "$room/told"
+        END { print answered, (moved > 2000 ? "families " moved : "answers") }' "$room/line.csv" > "$room/told"
     longest=$(awk -F, 'NR > 1 && $5 > most { most = $5 } END { print most + 0 }' "$room/line.csv")
     sed 's/^epochs: [0-9]*, longest pause [0-9]* us, all pauses [0-9]* us$/epochs/
-        s/families [01], from [0-9]* to [0-9]* us, committed [0-9]*, aborted [0-9]*, longest wait [0-9]* us$/.. us/' "$room/account" >> "$room/told"
+        s/families [0-9]*, from [0-9]* to [0-9]* us, committed [0-9]*, aborted [0-9]*, longest wait [0-9]* us$/.. us/' "$room/account" >> "$room/told"
     printf '%s\n' 'milliseconds,answered,median,p99,longest,families,segments' '101 answers' \
         "jobs: committed 100, aborted 1, longest wait $longest us" 'epochs' 'move: segments 1, .. us' > "$room/wanted"
     count 'serve: reports' "$([ "$ended" = 0 ] || echo "status $ended; ")$(difference "$room/wanted" "$room/told")"
