@@ -192,7 +192,7 @@ has_last-link o ns all src dst seg node goes =
     list_any-filter (λ (note : Note). is_about seg node note && note.last) (λ (note : Note). (note.src == src) && (note.dst == dst)) ns
     (λ note has test. same_link o ns all src dst seg node goes note has (and_parts (is_about seg node note) note.last test).0)
 
--- a note that continues notes whose node stands alike continues the others
+-- a note that continues some notes continues others in which its node has come as far
 goes_on_like : (o : OpeningValue) (note : Note) (ns others : List Note) → reached o note.seg note.node ns ≡ reached o note.seg note.node others → has_last note.seg note.node ns ≡ has_last note.seg note.node others → GoesOn o note ns → GoesOn o note others
 goes_on_like o note ns others same_end same_last goes =
     record { begins = goes.begins ∙ same_end; rises = goes.rises; within = goes.within; last = goes.last; first_last = sym same_last ∙ goes.first_last }

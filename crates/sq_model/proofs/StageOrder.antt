@@ -24,7 +24,7 @@ use Rattle.sq_model.proofs.Tiles.{about_is}
 use Rattle.sq_model.proofs.Apart.{apart, cut_once, loaded_once}
 use Rattle.sq_model.proofs.Staged.{IsSince, note_stage, notes_since, loads_since, find-append_none, list_any-append_none, status_since, link_since}
 
--- what is in the beginning of a list stands in it
+-- an element of a list's beginning is in the list, at the same place
 at_front : {X : Type 0} (now older : List X) (i : ℕ) (x : X) → slice_get now i ≡ Some x → slice_get (now ++ older) i ≡ Some x
 at_front [] older i x at = absurd cc
 at_front (y ∷ now) older zero x at = at

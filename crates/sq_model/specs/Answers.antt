@@ -194,7 +194,6 @@ is_complete_segment t seg = is_complete_reading (reading (status_of t seg) 1)
 abbrev pub is_into : OpeningValue → Trace → ℕ → ℕ → Bool
 is_into o t part seg = moves_into o.recon (stage t) part seg
 
--- the numbers of the segments
 abbrev pub segment_numbers : OpeningValue → List ℕ
 segment_numbers o = range_with_len 0 (length o.recon.segments)
 

@@ -42,7 +42,7 @@ part_said w parts part at number here store same at_is number_is within here_by 
     let all : families_in store ≡ families_in (core_at w part).store = ap families_in (store_is ∙ ap (λ (core : CoreValue). core.store) here_is) in
     λ k. flat_map (at_line (number_is k)) (all k)
 
--- a queue that is found stands among the queues
+-- the place of a queue that is found is among the queues
 pub queue_within : (w : WorldValue) (queues : List QueueValue) (src dst at : ℕ) → w.queues ≡ queues → Some at ≡ link_index w src dst → at < length queues
 queue_within w queues src dst at same found =
     let low : at < length w.queues = (position-Some (λ queue. (queue.src == src) && (queue.dst == dst)) w.queues at no_queue (sym found)).0 in

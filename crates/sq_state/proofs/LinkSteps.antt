@@ -168,7 +168,7 @@ load_refused_by : (w : WorldValue) (src dst : ℕ) (box : Option ChunkValue) (fa
 load_refused_by w src dst None fault is = inl (ap (λ (f : LoadFault). (Refused (load_refused f), w)) is)
 load_refused_by w src dst (Some chunk) fault is = inr (ap (λ (f : LoadFault). Refused (load_refused f)) is, refl, refl)
 
--- a link that a step found, and one of its ends: the number of the partition there, and where that stands
+-- a link that a step found, and one of its ends: the number of the partition there, and its place
 pub record AtEnd (w : WorldValue) (parts : List PartCoreValue) (src dst : ℕ) (link : LinkPlace) (number from : ℕ) : Type 0 where
   pub are : map core_of parts ≡ w.cores
   pub sound : IsSound w

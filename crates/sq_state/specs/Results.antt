@@ -36,7 +36,7 @@ abbrev pub done_or : Result (Unit {0}) Refusal → Answer
 done_or (Ok done) = Done
 done_or (Err refusal) = Refused refusal
 
--- the link whose queue stands at this place, from the one partition to the other
+-- the link whose queue is at this place, from the one partition to the other
 abbrev pub link_place : ℕ → ℕ → ℕ → LinkPlace
 link_place src dst at = record { at = at; src = src; dst = dst }
 

@@ -46,7 +46,7 @@ digits_are_plain : (text : List ℕ) → AllDigits 10 text → is_plain text ≡
 digits_are_plain [] all = refl
 digits_are_plain (c ∷ cs) all = and_from _ _ (digit_is_plain c all.0) (digits_are_plain cs all.1)
 
--- a zero stands alone at the front
+-- a number whose first digit is 0 has no other
 no_leading_zero : (n : ℕ) → n < 2 ^ 64 → get_or (decimal n) 0 0 ≡ 48 → length (decimal n) ≡ 1
 no_leading_zero zero fits first = ap length (decimal_digit 0 (omega arith))
 no_leading_zero (suc n) fits first = absurd (omega (arith, first_decimal (suc n) (omega arith) fits, first))

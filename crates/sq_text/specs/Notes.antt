@@ -3,7 +3,7 @@ use Rattle.std.specs.Prelude.{ℕ, ◌+◌, ◌-◌, ◌*◌, ◌==◌, ◌&&◌
 use Rattle.std.specs.Char.{is_ascii_digit}
 use Rattle.sq_text.specs.Words.{Word, ◌>>=◌}
 
--- the number that a digit stands for
+-- the value of a hexadecimal digit
 abbrev pub hex_digit_in : ℕ → Option ℕ
 hex_digit_in digit =
     if is_ascii_digit digit then Some (digit - 48)

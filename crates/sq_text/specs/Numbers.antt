@@ -10,7 +10,7 @@ abbrev pub digits_in : Word → Option ℕ
 digits_in digits =
     if list_all is_ascii_digit digits && nat_lt (digits_value 10 digits) (2 ^ 64) then Some (digits_value 10 digits) else None
 
--- the number that the word spells: in decimal digits, the first of them 0 only where it stands alone
+-- the number that the word spells: in decimal digits, the first of them 0 only where there is no other
 abbrev pub unsigned_in : Word → Option ℕ
 unsigned_in [] = None
 unsigned_in (first ∷ others) =

@@ -73,7 +73,6 @@ refused_line number = line (codes "refused" ∷ decimal number ∷ [])
 abbrev pub fault_line : ℕ → List ℕ
 fault_line number = line (codes "fault" ∷ decimal number ∷ [])
 
--- the words of a commit
 abbrev pub commit_words : ℕ → List OpAnswer → List Word
 commit_words id answers = codes "commit" ∷ decimal id ∷ map op_answer_text answers
 
@@ -111,7 +110,6 @@ reading_text reading.Complete = codes "complete"
 abbrev pub node_words : Status → Reading → List Word
 node_words status reading = codes "is" ∷ status_text status ∷ reading_text reading ∷ []
 
--- the words of an answer
 abbrev pub answer_words : Answer → List Word
 answer_words answer.Done = codes "ok" ∷ []
 answer_words (answer.Replied id reply) = reply_words id reply

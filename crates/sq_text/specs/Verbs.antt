@@ -32,7 +32,7 @@ verb_in word =
     (Prepare ∷ Start ∷ Resume ∷ Split ∷ Claim ∷ Begin ∷ Cut ∷ Push ∷ Pop ∷ Load ∷ Complete ∷ Report ∷ Next ∷ Finish ∷ Fold
     ∷ Status ∷ [])
 
--- the word that stands for an operation
+-- the word of an operation
 abbrev pub op_word : OpName → Word
 op_word Get = codes "get"
 op_word Put = codes "put"

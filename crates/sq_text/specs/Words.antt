@@ -10,7 +10,7 @@ Word = List ℕ
 abbrev pub split_by : ℕ → List ℕ → List (List ℕ)
 split_by at bytes = slice_split (λ byte. byte == at) bytes
 
--- a line split at its spaces; where two spaces follow one another, or one stands at an end, a word is empty
+-- a line split at its spaces; two spaces in a row have an empty word between them, a space at an end has one beyond it
 abbrev pub words_of : List ℕ → List Word
 words_of line = split_by 32 line
 

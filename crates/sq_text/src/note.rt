@@ -32,7 +32,7 @@ fn are_hex_bytes(digits: &[u8]) -> bool
     digits.len() % 2 == 0 && are_hex_digits(digits)
 }
 
-// The number that a digit stands for: the low half of its byte, and for a letter 9 more.
+// The value of a hexadecimal digit: the low half of its byte, and for a letter 9 more.
 fn hex_digit(digit: u8) -> u8
     requires { is_some (hex_digit_in digit) ≡ true }
     ensures { hex_digit_in digit ≡ Some result }

@@ -18,7 +18,7 @@ fn digits(digits: &[u8]) -> Option<u64>
     Some(value)
 }
 
-/// The number that a word spells, below 2^64: decimal digits, the first of them 0 only where it stands alone.
+/// The number that a word spells, below 2^64: decimal digits, the first of them 0 only where there is no other.
 pub fn unsigned(word: &[u8]) -> Option<u64>
     ensures { result ≡ unsigned_in word.now }
 {

@@ -77,7 +77,6 @@ impl<const ROOM: usize> TextOf<ROOM> {
         }
     }
 
-    /// Its bytes.
     pub(crate) fn as_bytes(&self) -> &[u8]
         ensures { result.now ≡ self.now }
     {

@@ -4,8 +4,8 @@ ghost use Rattle.std.specs.Prelude.{◌≡◌, ◌==◌, [], ◌∷◌, MatchOpt
 use sq_lines::place_of;
 use std::marker::Model;
 
-/// The words of a line that are left to read: the parts between its spaces. Where two spaces follow one another, or one
-/// stands at an end, a word is empty. To a contract they are a list.
+/// The words of a line that are left to read: the parts between its spaces. Two spaces in a row have an empty word
+/// between them, and a space at an end has one beyond it. To a contract they are a list.
 #[derive(Drop)]
 pub struct Words<'a> {
     rest: Option<&'a [u8]>,

@@ -62,7 +62,7 @@ pub record IsUnread (echoes : Bool) (t : Trace) (line : List ℕ) (after : Trace
   pub refuses : refused ≡ Some (line_fault_number line_fault.Memory)
 
 -- what a line is answered after this history, the history after it, and the number by which the line is refused, if it is;
--- echoes says whether the line stands before its answer
+-- echoes says whether the line is written before its answer
 abbrev pub AnswersLine : Bool → OpeningValue → Trace → List ℕ → Trace → List ℕ → Option ℕ → Type 0
 AnswersLine echoes o t line after text refused =
     IsStepLine echoes o t line after text refused

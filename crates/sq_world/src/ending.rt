@@ -6,7 +6,7 @@ use sq_text::LocatedFault;
 /// How a run continues.
 #[derive(Clone, Copy, Debug, PartialEq, Eq)]
 pub struct ScriptManner {
-    /// Whether each line of the script stands before its answer.
+    /// Whether each line of the script is written before its answer.
     pub echoes: bool,
     /// Whether the run ends behind the first line that is refused.
     pub strict: bool,

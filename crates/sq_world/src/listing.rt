@@ -59,7 +59,7 @@ impl Telling for Lines {
     }
 }
 
-// Tells what moves, and leaves what is written to be flushed.
+// Writes what moves, and leaves it to be flushed.
 fn list_unflushed<R: Read, W: Write, T: Telling>(
     alloc: Global,
     reader: &mut R,
@@ -76,7 +76,7 @@ fn list_unflushed<R: Read, W: Write, T: Telling>(
     }
 }
 
-// Tells what moves between the plans of the next lines.
+// Writes what moves between the plans of the next lines.
 fn list_moves<R: Read, W: Write, T: Telling>(
     alloc: Global,
     lines: &mut LineReader<R>,
@@ -96,7 +96,7 @@ fn list_moves<R: Read, W: Write, T: Telling>(
     }
 }
 
-// Tells what moves, or else that there is no memory for that.
+// Writes what moves, or else that there is no memory for it.
 fn tell<W: Write, T: Telling>(
     alloc: Global,
     writer: &mut W,

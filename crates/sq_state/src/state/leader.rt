@@ -135,7 +135,7 @@ impl State {
         Ok(Answer::Done)
     }
 
-    // Takes the leader out for a call; an idle one stands there meanwhile.
+    // Takes the leader out for a call; an idle one is there meanwhile.
     fn take_leader(&mut self) -> Leader
         ensures leader { result ≡ self.old.leader }
         ensures after { self.new ≡ record self.old {

@@ -12,7 +12,7 @@ use sq_exec::{CutFault, LoadFault};
 use sq_model::{Answer, Refusal};
 use sq_plan::PartId;
 
-// Where the queue of a link stands, and the partitions at the link's ends.
+// The place of a link's queue, and the partitions at the link's ends.
 #[derive(Clone, Copy)]
 struct LinkPlace {
     at: usize,
@@ -112,7 +112,7 @@ impl State {
         }
     }
 
-    // Where the link from one partition to another stands.
+    // The place of the link from one partition to another.
     pub(super) fn link_at(&self, src: u64, dst: u64) -> Option<usize>
         ensures { result ≡ link_index self.now src dst }
     {
