@@ -13,7 +13,7 @@ use Rattle.sq_tree.proofs.Grown.{grown-free}
 use Rattle.sq_node_model.specs.Spots.{AllGrown}
 use Rattle.sq_audit.specs.Statuses.{IsGrownAt}
 
--- what stands at a place of a list of all nodes
+-- the node at a place of a list of all nodes
 pub numbered_at : (nodes : List ℕ) (k other : ℕ) → length nodes ≡ 63 → ((i : ℕ) → i < 63 → slice_index nodes i ≡ i + 1) → k < 63 → get_or nodes k other ≡ k + 1
 numbered_at nodes k other long numbered low = get_or_default_zero nodes k other (omega (arith, long, low)) ∙ numbered k low
 

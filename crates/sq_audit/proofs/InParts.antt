@@ -39,7 +39,7 @@ reaches count len size some is =
 abbrev OfEach : {X : Type 0} → (X → Type 0) → List X → Type 0
 OfEach {X} P xs = (x : X) → Contains xs x → P x
 
--- what is in a part stands in the whole
+-- an element of a part is in the whole
 module _ {X : Type 0} (xs ys : List X) (size start : ℕ) (part : IsChunk xs size start ys) where
   in_whole_at : (i : ℕ) (x : X) → slice_get ys i ≡ Some x → slice_get xs (start + i) ≡ Some x
   in_whole_at i x at =

@@ -104,7 +104,7 @@ either_family (entry ∷ entries) root =
       ]
     ]
 
--- where the families of root keys below one end, the first family of the root key stands
+-- the first family of a root key is where those of lower root keys end
 module _ (all : List Located) (rise : AreByRoot (entries_in all)) (root count : ℕ)
     (point : PartsAt (λ (located : Located). nat_lt located.family.now.root root) all count) where
   parted : IsPartitionPoint (λ located. nat_lt located.family.now.root root ≡ true) (λ located. nat_lt located.family.now.root root ≡ false) all count
@@ -128,7 +128,7 @@ module _ (all : List Located) (rise : AreByRoot (entries_in all)) (root count : 
       let same = ap (λ (e : Entry). e.1.root) from.2 in
       omega (arith, from_root, same)
 
-  -- a family of the root key stands there or behind
+  -- a family of the root key is there or behind
   behind : (has : HasFamily (entries_in all) root) → count ≤ has.1.0
   behind has =
       ⊎_elim

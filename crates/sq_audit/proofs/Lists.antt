@@ -54,6 +54,6 @@ at_dropped [] i k x at = absurd (nothing_there (i + k) x at)
 at_dropped (y ∷ xs) zero k x at = subst (λ n. slice_get (y ∷ xs) n ≡ Some x) (let e : zero + k ≡ k = omega arith in e) at
 at_dropped (y ∷ xs) (suc i) k x at = at_dropped xs i k x (subst (λ n. slice_get (y ∷ xs) n ≡ Some x) (let e : suc i + k ≡ suc (i + k) = omega arith in e) at)
 
--- where the elements that pass a test stand before the others, they end at this place
+-- where the elements that pass a test come before the others, they end at this place
 abbrev pub PartsAt : {X : Type 0} → (X → Bool) → List X → ℕ → Type 0
 PartsAt test xs count = IsPartitionedBy test xs → IsPartitionPoint (λ x. test x ≡ true) (λ x. test x ≡ false) xs count

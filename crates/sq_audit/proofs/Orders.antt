@@ -88,7 +88,7 @@ module _ (receipts : List ReceiptValue) (sorted : IsSortedByKey receipt_key key_
       same_root : {x y : ReceiptValue} → slice_get receipts j ≡ Some x → slice_get receipts j ≡ Some y → x.root ≡ y.root
       same_root {x} {y} a b = let e : x ≡ y = cc in ap (λ (r : ReceiptValue). r.root) e
 
--- what is kept of a list stands in it in the same order
+-- two elements that a filter keeps are in the list in the same order
 pub record StandApart {X : Type 0} (xs : List X) (x y : X) : Type 0 where
   pub first : ℕ
   pub second : ℕ
@@ -153,7 +153,7 @@ values_kept (r ∷ receipts) root =
           ∙ sym (filter-other (λ (x : ReceiptValue). x.root == root) r.now (values_of receipts) other)
     ]
 
--- what passes stands from one place on, and is this much
+-- the elements that pass are so many from one place on
 pub kept_run : {X : Type 0} (p : X → Bool) (xs : List X) (from n : ℕ)
     → ((k : ℕ) (x : X) → slice_get xs k ≡ Some x → k < from → p x ≡ false)
     → ((k : ℕ) (x : X) → slice_get xs k ≡ Some x → from ≤ k → k < from + n → p x ≡ true)
@@ -174,7 +174,7 @@ kept_run p (x ∷ xs) (suc from) n low mid high =
     kept_run p xs from n (λ k y at below. low (suc k) y at (omega (arith, below))) (λ k y at above below. mid (suc k) y at (omega (arith, above)) (omega (arith, below))) (λ k y at above. high (suc k) y at (omega (arith, above)))
     ∙ sym (filter-other p x xs (low 0 x refl (omega arith)))
 
--- of receipts by root key those of one stand from the first that isn't below it to the first that is above
+-- of receipts by root key those of one key lie from the first that isn't below it to the first that is above
 pub group_is : (sorted : List (Bor ReceiptValue)) (root from end : ℕ) → IsSortedByKey receipt_key key_order (values_of sorted) → from ≤ end
     → ((k : ℕ) (r : ReceiptValue) → k < from → slice_get (values_of sorted) k ≡ Some r → r.root < root)
     → ((r : ReceiptValue) → slice_get (values_of sorted) from ≡ Some r → root ≤ r.root)

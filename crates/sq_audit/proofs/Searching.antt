@@ -1,4 +1,4 @@
--- Lists by id: where an id stands first, and what is counted of it from there on.
+-- Lists by id: the first place of an id, and what is counted of it from there on.
 use Rattle.std.proofs.Common.{◌≡◌, inl, inr, ⊎_elim, ℕ, suc, ◌+◌, ◌==◌, ◌&&◌, ◌<◌, ◌≤◌, nat_lt, Bool, true, false, List, [], ◌∷◌, ◌++◌, take, drop, map, get_or, slice_get, Contains, Some, None, refl, sym, ap, ◌∙◌, subst, arith, eqb-true, eq-eqb, true≢false, ltb-true, ltb-false}
 use Rattle.std.specs.Prelude.{cond, count_by}
 use Rattle.std.specs.List.{take_while}
@@ -35,7 +35,7 @@ count_made f p (x ∷ xs) =
 counted_id : (id root : ℕ) (one : ℕ × ℕ) → is_id_and_root id root one ≡ true → one.0 ≡ id
 counted_id id root one passes = eqb-true one.0 id (and_parts (one.0 == id) (one.1 == root) passes).0
 
--- of a list by id, none of whose ids is below this one, those with this id stand first
+-- in a list by id, none of whose ids is below this one, those with this id come first
 counted_first : (id root : ℕ) (list : List (ℕ × ℕ)) → AreById list → ((one : ℕ × ℕ) → Contains list one → id ≤ one.0)
     → count_by (is_id_and_root id root) list ≡ count_by (λ one. one.1 == root) (take_while (λ one. one.0 == id) list)
 counted_first id root [] by from = refl
@@ -98,7 +98,7 @@ module _ (list : List (ℕ × ℕ)) (by : AreById list) (id first : ℕ) (point 
       let here = get_or_from_slice_get list k one one at in
       ltb-false one.0 id (ap (λ (x : ℕ × ℕ). nat_lt x.0 id) (sym here) ∙ parted.1 k one behind (slice_get_within list k one at))
 
-  -- what has the id stands there or behind
+  -- what has the id is there or behind
   behind : (one : ℕ × ℕ) (has : Contains list one) → one.0 ≡ id → first ≤ has.0
   behind one has same =
       ⊎_elim

@@ -28,7 +28,7 @@ of_last chunks notes loaded n some loaded_is whole each =
     (λ i chunk at. let within = slice_get_within chunks i chunk at in at_dropped notes loaded i chunk.note (each i chunk (omega (arith, within, whole)) at))
     ∙ ap (λ k. drop k notes) loaded_is
 
--- one more chunk has the note that stands where it should
+-- one more chunk has the note of its place
 pub last_more : (chunks : List ChunkValue) (notes : List Note) (loaded n : ℕ) (chunk : ChunkValue) (note : Note) → slice_get chunks n ≡ Some chunk → slice_get notes (loaded + n) ≡ Some note → chunk.note ≡ note
     → ((i : ℕ) (other : ChunkValue) → i < n → slice_get chunks i ≡ Some other → slice_get notes (loaded + i) ≡ Some other.note)
     → (i : ℕ) (other : ChunkValue) → i < n + 1 → slice_get chunks i ≡ Some other → slice_get notes (loaded + i) ≡ Some other.note
@@ -41,7 +41,7 @@ last_more chunks notes loaded n chunk note at there same before i other below al
     ap (λ k. slice_get notes (loaded + k)) here ∙ there ∙ ap Some (sym same) ∙ ap (λ (c : ChunkValue). Some c.note) (sym is))
     (cases_lt i n)
 
--- a chunk has another note than the one that stands where it should
+-- a chunk has another note than the one of its place
 pub not_of_last : (chunks : List ChunkValue) (notes : List Note) (loaded n : ℕ) (chunk : ChunkValue) (note : Note) → loaded ≡ length notes - length chunks
     → slice_get chunks n ≡ Some chunk → slice_get notes (loaded + n) ≡ Some note → (chunk.note ≡ note → ⊥) → AreOfLast chunks notes → ⊥
 not_of_last chunks notes loaded n chunk note loaded_is at there differ last =

@@ -6,7 +6,7 @@ use Rattle.sq_schema.specs.Table.{TableValue}
 use Rattle.sq_audit.specs.Located.{Entry}
 use Rattle.sq_audit.specs.ById.{AreById}
 
--- what stands at this place has this key
+-- the element at this place has this key
 pub record HasKeyAt {X : Type 0} (key : X → ℕ) (xs : List X) (k place : ℕ) : Type 0 where
   pub one : X
   pub there : slice_get xs place ≡ Some one

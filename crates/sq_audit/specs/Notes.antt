@@ -8,7 +8,6 @@ use Rattle.sq_model.specs.Links.{end_of_note}
 use Rattle.sq_node_model.specs.Gathered.{GatheredLink, GatheredValue}
 use Rattle.sq_node_model.specs.Placed.{IsLinkNote, IsLinkPlaced}
 
--- each link is placed
 abbrev pub LinksPlaced : OpeningValue → GatheredValue → Type 0
 LinksPlaced o g = (i : ℕ) (link : GatheredLink) → slice_get g.links i ≡ Some link → IsLinkPlaced o g link
 

@@ -18,11 +18,9 @@ pub struct Folded {
 /// What was to be folded, as it was handed in.
 #[derive(Drop)]
 pub struct Unchanged {
-    /// The opening.
     pub opening: Opening,
     /// What was gathered.
     pub gathered: Gathered,
-    /// All jobs.
     pub jobs: Vec<Job>,
 }
 
@@ -31,6 +29,5 @@ pub struct Unchanged {
 pub enum Unfolded {
     /// The jobs that have a receipt have this defect first.
     Unsound(Defect),
-    /// There was no memory.
     Memory(Unchanged),
 }

@@ -7,7 +7,7 @@ use Rattle.sq_audit.proofs.Searching.{none_past, none_other}
 use Rattle.sq_audit.proofs.by_id.place_of.Goals as goal
 use Rattle.sq_audit.proofs.by_id.place_of.Goals.{After-partition_point-first}
 
--- what is below the id stands before the others
+-- the elements below the id come before the others
 parted : (c : After-partition_point-first) → PartsAt (λ (one : ℕ × ℕ). nat_lt one.0 c.args.id) c.args.places.now c.partition_point-first.result
 parted c = c.partition_point-first.ensures.partitioned (λ one. nat_lt one.0 c.args.id) (always_returns_same _ _ _ (λ a r f k. search rules))
 

@@ -7,7 +7,7 @@ use Rattle.sq_audit.proofs.Indexing.{first_family, no_family}
 use Rattle.sq_audit.proofs.index.has_family.Goals as goal
 use Rattle.sq_audit.proofs.index.has_family.Goals.{After-partition_point-count}
 
--- the families of lower root keys stand before the others
+-- the families of lower root keys come before the others
 parted : (c : After-partition_point-count) → PartsAt (λ (located : Located). nat_lt located.family.now.root c.args.root) c.args.all.now c.partition_point-count.result
 parted c = c.partition_point-count.ensures.partitioned (λ located. nat_lt located.family.now.root c.args.root) (always_returns_same _ _ _ (λ a r f k. search rules))
 

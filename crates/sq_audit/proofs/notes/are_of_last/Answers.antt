@@ -6,7 +6,7 @@ use Rattle.sq_audit.proofs.Ways.{of_last, last_more, not_of_last}
 use Rattle.sq_audit.proofs.notes.are_of_last.Goals as goal
 use Rattle.sq_audit.proofs.notes.are_of_last.Goals.{After-ne}
 
--- the chunk that is looked at, and the note that stands where its note is to stand
+-- the chunk that is looked at, and the note of its place
 chunk_there : (c : After-ne) → slice_get c.args.chunks.now c.loop-at.at ≡ Some c.index-chunks-at.result
 chunk_there c = item_at c.args.chunks.now c.loop-at.at c.index-chunks-at.result c.index-chunks-at.is c.loop-at-test.true
 

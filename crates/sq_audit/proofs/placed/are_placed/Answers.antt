@@ -21,7 +21,7 @@ shuffled c =
 entry_there : (c : After-is_placed) → slice_get (entries_in c.args.all.now) c.loop-located.located-index ≡ Some (entry_of c.located-item.result)
 entry_there c = mapped_at entry_of c.args.all.now c.loop-located.located-index c.located-item.result c.located-item.is c.loop-located-test.true
 
--- whether it stands where the note over its root key says
+-- whether it is where the note over its root key says
 stands : (c : After-is_placed) → Decides c.is_placed.result (IsPlacedBy c.args.opening.now c.args.g.now.stage (marked_in c.in_ok-spans.spans.items) (entry_of c.located-item.result))
 stands c =
     let entry = entry_of c.located-item.result in

@@ -8,7 +8,7 @@ use Rattle.sq_audit.proofs.Spanning.{nothing_covers, last_covers, last_ends}
 use Rattle.sq_audit.proofs.spans.covering.Goals as goal
 use Rattle.sq_audit.proofs.spans.covering.Goals.{After-partition_point-count}
 
--- the spans that begin at the key or before it stand before the others, where they stand by key
+-- the spans that begin at the key or before it come before the others, where spans are in order of key
 parted : (c : After-partition_point-count) → PartsAt (λ (span : Span). nat_le span.note.now.lo c.args.key) c.args.spans.now c.partition_point-count.result
 parted c = c.partition_point-count.ensures.partitioned (λ span. nat_le span.note.now.lo c.args.key) (always_returns_same _ _ _ (λ a r f k. search rules))
 
