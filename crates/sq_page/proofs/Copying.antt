@@ -62,7 +62,7 @@ wanted_found named (family ∷ families) root differ = by (is_wanted named famil
 pub found_stored : (store : StoreValue) (key : ℕ) → HoldsByRoot store → family_in (families_in store) key ≡ get store key
 found_stored store key by = family_in-entries (entries store) key (sorted_is store) (λ key family e. by key family (get-entries store key ∙ e)) ∙ sym (get-entries store key)
 
--- no family stands in an empty store
+-- an empty store has no family
 none_stands : (families : List FamilyValue) → has_none_of empty families ≡ true
 none_stands [] = refl
 none_stands (family ∷ families) = and_from (is_none (get empty family.root)) (has_none_of empty families) (ap is_none (get-empty nat_cmp family.root)) (none_stands families)

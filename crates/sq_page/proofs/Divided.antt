@@ -33,7 +33,7 @@ pub longer : {X : Type 0} (xs : List X) (y : X) → length (xs ++ y ∷ []) ≡ 
 longer [] y = refl
 longer (x ∷ xs) y = let rest = longer xs y in omega (arith, rest)
 
--- one store more is copied, or an empty one stands for it
+-- one store more is copied, or an empty one is in its place
 module _ (named : List ℕ) (stores : List StoreValue) (part : ℕ) (copies : List StoreValue) (so_far : AreCopiesOrEmpty named stores part copies)
     (store copy : StoreValue) (at : slice_get stores (length copies) ≡ Some store) (is : IsCopyOrEmpty (length copies == part) named store copy) where
   pub copied_more : (now : List StoreValue) → now ≡ copies ++ copy ∷ [] → AreCopiesOrEmpty named stores part now

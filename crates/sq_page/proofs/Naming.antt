@@ -14,7 +14,7 @@ use Rattle.sq_node_model.proofs.Members.{Contains-map}
 use Rattle.sq_page.specs.Named.{is_root_named, AreNamed}
 
 module _ (numbers : List ℕ) (root : ℕ) (rising : IsNonDecreasing numbers) where
-  -- what stands at a place is found
+  -- the number at a place is found
   found_at : (i : ℕ) → i < length numbers → get_or numbers i 0 ≡ root → is_root_named numbers root ≡ true
   found_at i low at =
       list_any-Contains (λ (number : ℕ). number == root) numbers root

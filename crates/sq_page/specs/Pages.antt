@@ -46,8 +46,7 @@ NamedStandIn receipts one other =
     (receipt : ReceiptValue) (spot : Spot) (family : FamilyValue) → Contains receipts receipt
     → StandsAt one spot receipt.root family → StandsAt other spot receipt.root family
 
--- the page has all receipts of the run, and families of it, as and where they stand: among them each
--- that a receipt names
+-- the page has all receipts of the run, and families of it, as and where they are, among them each that a receipt names
 pub record IsPageOf (g page : GatheredValue) : Type 0 where
   pub still : IsStill (length g.stores) page
   pub receipts : page.receipts ≡ g.receipts

@@ -52,7 +52,7 @@ pub(crate) fn copy_alone(
     Ok(copies)
 }
 
-// The same of this store where it is the one, and else an empty store.
+// The same of this store, where it is the wanted one; else an empty store.
 fn copy_or_empty(
     alloc: Global,
     named: &NamedRoots,

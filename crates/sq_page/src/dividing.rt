@@ -14,7 +14,7 @@ use sq_runs::RunStore;
 use sq_schema::Root;
 use std::alloc::{AllocError, Global};
 
-/// The part of a page that is a partition's: copies of the receipts and the jobs of the root keys that the plan gives to it, and
+/// A partition's part of a page: copies of the receipts and the jobs of the root keys that the plan gives to it, and
 /// of the families of its store that have a log or that one of these receipts names.
 pub(crate) fn part_of(
     alloc: Global,

@@ -47,7 +47,7 @@ pub fn audit_page<R: Threads + Sync>(
     Ok(verdict)
 }
 
-// The verdict on the part of a page that is a partition's.
+// The verdict on a partition's part of a page.
 fn audit_part<R: Threads + Sync>(
     rt: &R,
     alloc: Global,

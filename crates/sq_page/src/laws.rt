@@ -62,9 +62,9 @@ pub fn a_part_at_rest_is_placed()
         → IsPlaced rest part }
 {}
 
-/// The parts of a run speak for it: where it is placed, and so is each of so many parts, of which each root key has
-/// one, it is sound where each part is sound on its own for the jobs of its root keys; and else the least of the
-/// defects that the parts have first is the first of all.
+/// The parts of a run speak for it, where it is placed, and so is each of so many parts, and each root key belongs to
+/// one of them: it is sound where each part is sound on its own for the jobs of its root keys; and else the least of
+/// the defects that the parts have first is the first of all.
 pub fn parts_speak_for_all()
     ensures { (o : OpeningValue) (g : GatheredValue) (jobs : List Job) (count : ℕ)
         (part_of : ℕ → ℕ) (part : ℕ → GatheredValue) (verdicts : ℕ → Verdict) (verdict : Verdict)

@@ -5,8 +5,8 @@ use sq_gather::Gathered;
 /// A page of a run, to be audited on its own.
 #[derive(Drop)]
 pub struct Page {
-    /// All receipts of the run, and of each partition the families that they name or that have a log, as they stood. Nothing
-    /// moves on it.
+    /// All receipts of the run, and of each partition the families that they name or that have a log, as they were.
+    /// Nothing moves on it.
     pub run: Gathered,
     /// The jobs that the receipts have to answer.
     pub jobs: Vec<Job>,
@@ -15,7 +15,6 @@ pub struct Page {
 /// A page that was taken, and what it left.
 #[derive(Drop)]
 pub struct Paged {
-    /// The page.
     pub page: Page,
     /// What was gathered, with families that start anew from their rows, and without receipts.
     pub left: Gathered,
@@ -26,6 +25,5 @@ pub struct Paged {
 pub struct Untaken {
     /// What was gathered.
     pub gathered: Gathered,
-    /// The jobs.
     pub jobs: Vec<Job>,
 }

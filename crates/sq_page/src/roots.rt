@@ -7,8 +7,8 @@ use sq_schema::Root;
 use std::alloc::{AllocError, Global};
 use std::marker::Model;
 
-/// The numbers of root keys in an order by which one is found: none is lower than one before it. A number stands there once for
-/// each receipt that names it.
+/// The numbers of root keys in an order by which one is found: none is lower than one before it. Each is there once for each
+/// receipt that names it.
 #[derive(Drop)]
 pub(crate) struct NamedRoots {
     numbers: Vec<u64>,
