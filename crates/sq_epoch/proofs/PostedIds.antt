@@ -21,7 +21,7 @@ last_or [] x y (suc i) at = absurd cc
 last_or (z ∷ zs) x y zero at = inl at
 last_or (z ∷ zs) x y (suc i) at = ⊎_elim (λ before. inl before) (λ last. inr (ap suc last.0, last.1)) (last_or zs x y i at)
 
--- what stands before the last stands there with it, and the last stands behind
+-- what is before the last keeps its place, and the last comes behind
 before_last : {X : Type 0} (xs : List X) (x y : X) (i : ℕ) → slice_get xs i ≡ Some y → slice_get (xs ++ x ∷ []) i ≡ Some y
 before_last [] x y i at = absurd cc
 before_last (z ∷ zs) x y zero at = at

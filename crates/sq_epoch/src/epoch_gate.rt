@@ -42,7 +42,7 @@ impl EpochGate {
         self.is_over.load(Ordering::SeqCst)
     }
 
-    /// Tells that the workers have ended.
+    /// Notes that the workers have ended.
     pub(crate) fn workers_end(&self) {
         self.have_ended.store(true, Ordering::SeqCst);
     }

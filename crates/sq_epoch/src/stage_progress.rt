@@ -75,7 +75,7 @@ pub fn whole_segments(recon: &Recon, g: &Gathered) -> u64
     count as u64
 }
 
-// Whether a segment, which stands at this place, moves in the stage that was gathered, and is complete by its tree.
+// Whether the segment at this place moves in the stage that was gathered, and is complete by its tree.
 fn is_complete(recon: &Recon, g: &Gathered, place: usize, segment: &Range) -> bool
     requires { AllGrown g.now.statuses }
     ensures { result ≡ is_complete_in recon.now g.now (place, segment.now) }
