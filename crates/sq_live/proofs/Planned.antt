@@ -97,7 +97,7 @@ module _ (o : OpeningValue) (is : IsOpening o) (jobs : List Job) (differ : IdsDi
       told_more o is jobs differ earlier account.opening.table account.jobs account.committed at.told g account.jobs [] sound_then done_then (all_part g.receipts account.jobs)
       (λ root. rows_of (stored_then o is account.opening.table g account.jobs sound_then done_then root)) (λ root. refl)
 
-  -- a committed job stands in the log of its root key
+  -- a committed job is in the log of its root key
   stands_in_log : (root : ℕ) (job : Job) → Contains jobs job → job.txn.root ≡ root → IsCommitted (receipts_over (g ∷ earlier)) job → Contains (log_over o (g ∷ earlier) root) job.txn
   stands_in_log root job has root_is committed =
       let (receipt, among, of, commit) = committed in

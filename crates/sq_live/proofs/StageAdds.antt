@@ -166,7 +166,7 @@ module _ (o : OpeningValue) (is : IsOpening o) (table : TableValue) where
               at = at_is;
             }
 
-    -- no id stands twice in its log
+    -- no id is twice in its log
     pub once_then : (root id : ℕ) → count_by (λ (txn : TxnValue). txn.id == id) (stored_then root).log ≤ 1
     once_then root id =
         at_most_once (λ (txn : TxnValue). txn.id == id) (stored_then root).log (λ i j x y at there passes also.

@@ -171,7 +171,7 @@ module _ (o : OpeningValue) (is : IsOpening o) (jobs : List Job) (differ : IdsDi
       ))
       (Contains-append_cases (log_over o earlier root) (stored root).log txn has)
 
-  -- no id that stood in the logs before stands in one of this stage
+  -- no id that was in the logs before is in one of this stage
   not_again : (root id : ℕ) → 0 < count_by (λ (txn : TxnValue). txn.id == id) (log_over o earlier root) → 0 < count_by (λ (txn : TxnValue). txn.id == id) (stored root).log → ⊥
   not_again root id some more =
       let has_id : TxnValue → Bool = λ txn. txn.id == id in

@@ -20,7 +20,6 @@ use Rattle.sq_live.specs.declared.outcome.LiveOutcome.TheVariants.{Sound, Stoppe
 use Rattle.sq_live.specs.Account.{AccountValue}
 use Rattle.sq_stages.specs.Leading.{HasGoneOn, HasEnded}
 
--- the line of an outcome
 abbrev pub outcome_line : LiveOutcome → List ℕ
 outcome_line (Sound families committed) =
     line (codes "sound" ∷ decimal families ∷ codes "families" ∷ decimal committed ∷ codes "committed" ∷ [])

@@ -12,7 +12,7 @@ use std::ops::ControlFlow;
 use std::thread::Threads;
 
 /// What a run continues with after a stage whose segments are complete: with all as it is, or, if it folds logs, with
-/// what [`fold`] gives, once that is counted. It breaks off at the first defect of what was gathered.
+/// the outcome of [`fold`], once this is counted. It breaks off at the first defect of what was gathered.
 pub(crate) fn continue_with<R: Threads + Sync>(
     rt: &R,
     alloc: Global,

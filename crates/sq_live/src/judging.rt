@@ -71,7 +71,7 @@ pub(crate) fn judge_stopped(
     Ok(stopped(account, g, moved, answered))
 }
 
-// A run that stopped, of whose jobs so many have a receipt now.
+// A run that stopped; so many of its jobs have a receipt now.
 fn stopped(account: &Account, g: &Gathered, moved: &[bool], answered: usize) -> LiveOutcome
     requires moved { MarksMoved g.now.statuses moved.now }
     requires answered { answered ≡ answered_count g.now.receipts account.now.jobs }
@@ -88,7 +88,7 @@ fn stopped(account: &Account, g: &Gathered, moved: &[bool], answered: usize) -> 
     }
 }
 
-/// Which segments are complete. One without statuses isn't.
+/// Which segments are complete. A segment without statuses isn't.
 pub(crate) fn moved_segments(statuses: &[[Status; NODES]]) -> [bool; SEGMENTS]
     requires { AllGrown statuses.now }
     ensures { MarksMoved statuses.now result }

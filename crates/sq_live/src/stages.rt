@@ -48,8 +48,8 @@ pub(crate) struct Ready {
 }
 
 /// Runs the jobs of an account stage by stage, from the first to the last one or to the first that stops it: each
-/// partition and each pump runs in a thread of its own, and so again in each stage. The outcome of the whole run,
-/// whatever the threads did.
+/// partition and each pump runs in a thread of its own, and so again in each stage. Gives the outcome of the whole
+/// run, whatever the threads did.
 pub(crate) fn run_stages<R: Threads + Wait + Sync, G: Watch>(
     rt: &R,
     alloc: Global,
@@ -97,8 +97,8 @@ fn first_ready<R: Threads + Wait + Sync>(
     })
 }
 
-// Posts each job to its partition. One that its queue doesn't take is dropped, and so not answered: but a queue has as many
-// places as there are jobs at most.
+// Posts each job to its partition. A job that its queue doesn't take is dropped, and so not answered; but a queue has
+// as many places as there are jobs at most.
 fn post_all<R: Wait>(rt: &R, fabric: &Fabric, jobs: &[Job]) -> Result<(), AllocError> {
     for job in jobs {
         drop(fabric.post(rt, job.part, job.txn.clone()?));
