@@ -1,4 +1,4 @@
--- Tests of the elements of lists that stand in one another.
+-- Tests of the elements of the lists that a list leads to.
 use Rattle.std.proofs.Common.{◌≡◌, Bool, List, [], ◌∷◌, ◌++◌, refl, ap, ◌∙◌}
 use Rattle.std.specs.Prelude.{◌||◌}
 use Rattle.std.specs.List.{list_any, flat_map}

@@ -1,4 +1,4 @@
--- What an engine told its clients is what it has receipts of.
+-- The answers that an engine gave its clients are those that it has receipts of.
 use Rattle.std.proofs.Common.{◌≡◌, inl, inr, ℕ, zero, suc, ◌<◌, ◌≤◌, ◌==◌, if◌then◌else◌, Bool, true, false, List, [], ◌∷◌, ◌++◌, length, get_or, refl, sym, ap, ◌∙◌, subst, append_assoc, append-nil, eq-eqb, ne_eqb, ltb-true, ltb-false, arith}
 use Rattle.std.specs.Prelude.{nat_lt}
 use Rattle.std.specs.List.{flat_map}
@@ -69,7 +69,7 @@ rest_nil : (b : Bool) (r : ReceiptValue) (list : List ReceiptValue) → (if b th
 rest_nil true r list none = absurd (not_nil r list none)
 rest_nil false r list none = none
 
--- what was told is what each partition told, in another order
+-- the answers that were given are those of each partition, in another order
 told_by_place : {A : Type 0} (exchanges : List Exchange) (xs : List A) → ((part : ℕ) → length xs ≤ part → given_from part exchanges ≡ [])
     → IsPermutation (told_answers exchanges) (by_place (λ part. given_from part exchanges) xs)
 told_by_place [] xs none = subst (IsPermutation []) (sym (no_place xs)) (IsPermutation-refl [])
@@ -118,7 +118,7 @@ all_grown (o ∷ old) (n ∷ new) more count each =
     sym (append_assoc was front (written_by new)) ∙ ap (λ (list : List ReceiptValue). list ++ written_by new) (sym first) in
     subst (λ (p : List ReceiptValue × List ReceiptValue). IsPermutation p.0 p.1) (λ i. (sym apart i, joined i)) all
 
--- where a client was given all that nodes wrote, they wrote what it was told
+-- where a client was given all answers that nodes wrote, they wrote just what it was given
 told_is_written : (is_whole : Bool) (exchanges : List Exchange) (old new : List NodeState) → is_whole ≡ true → length new ≡ length old
     → AllAreGiven is_whole exchanges old new → IsPermutation (written_by old ++ told_answers exchanges) (written_by new)
 told_is_written is_whole exchanges old new whole count given =
@@ -131,7 +131,7 @@ told_is_written is_whole exchanges old new whole count given =
     (IsPermutation-append_right (written_by old) (told_answers exchanges) (by_place more old) (told_by_place exchanges old given.no_other))
     (all_grown old new more count each)
 
--- over an epoch that was served the receipts since the last page grew by what was told
+-- over an epoch that was served the receipts since the last page grew by the answers that were given
 pub epoch_grows : {X : Type 0} (becomes : X → ClientCall → X → Type 0) (old : EpochValue) (before : X) (new : EpochValue) (after : X)
     (is_whole lacks_threads : Bool) (served : EpochIsServed becomes old before new after is_whole lacks_threads)
     → is_whole ≡ true → GrowByTold (receipts_since_page old) served.exchanges (receipts_since_page new)
@@ -164,7 +164,7 @@ reopened_keeps o stage stores told count fabric nodes pumps run =
     ap (λ (list : List ReceiptValue). fabric.receipts ++ list) (new_wrote_nothing o fabric stores nodes run.each_node)
     ∙ append-nil fabric.receipts ∙ run.receipts
 
--- what was told in turn is what an engine got receipts of
+-- the answers that were given in turn are those that an engine got receipts of
 pub grown_in_turn : (told : List (List Exchange)) (old new : Standing) → TellsInTurn told old new
     → IsPermutation (receipts_in old ++ flat_map told_answers told) (receipts_in new)
 grown_in_turn [] old new keeps =

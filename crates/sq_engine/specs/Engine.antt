@@ -53,7 +53,7 @@ HasProgress (Due due) progress =
 abbrev pub EngineRests : Standing → Type 0
 EngineRests standing = (opening_in standing).recon.ranges ≡ []
 
--- an engine that opened with this stands so after these episodes
+-- an engine that opened with this is in this state after these episodes
 abbrev pub Stands : OpeningValue → List Episode → Standing → Type 0
 Stands o past (Running epoch) = RunsAfter o past epoch
 Stands o past (Paused pause) = PausesAfter o past pause

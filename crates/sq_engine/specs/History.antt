@@ -101,7 +101,7 @@ pub record IsRunning (start : StartValue) (epoch : EpochValue) : Type 0 where
   pub run : IsRunInStage start.opening start.began epoch.fabric epoch.nodes epoch.pumps
 
 -- an epoch that began so left this, whatever its threads did: it is placed, each family continues the one that its root
--- key was given, and the receipts so far stand before those of the epoch
+-- key was given, and the receipts so far come before those of the epoch
 pub record HasLeft (start : StartValue) (pause : PauseValue) : Type 0 where
   pub opening : pause.opening ≡ start.opening
   pub jobs : HaveGrown start.jobs pause.jobs

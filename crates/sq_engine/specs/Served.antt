@@ -22,7 +22,7 @@ told_answer Ends = []
 abbrev pub told_answers : List Exchange → List ReceiptValue
 told_answers exchanges = flat_map told_answer exchanges
 
--- receipts grew by the answers that were given, each once: those of each partition stand together
+-- receipts grew by the answers that were given, each once, in whatever order
 abbrev pub GrowByTold : List ReceiptValue → List Exchange → List ReceiptValue → Type 0
 GrowByTold old exchanges new = IsPermutation (old ++ told_answers exchanges) new
 
@@ -36,8 +36,8 @@ pub record EpochIsServed {X : Type 0} (becomes : X → ClientCall → X → Type
   pub given : AllAreGiven is_whole exchanges old.nodes new.nodes
   pub none_asked : lacks_threads ≡ true → commands_in exchanges ≡ []
 
--- an engine went on to an epoch, that was served, and the engine went on from there. Where each answer was given, its receipts since
--- the last page grew by just these
+-- an engine came to an epoch, this was served, and the engine continued from there. Where each answer was given, its receipts since the
+-- last page grew by just these
 pub record EngineIsServed {X : Type 0} (becomes : X → ClientCall → X → Type 0) (old : Standing) (before : X)
     (new : Standing) (after : X) (is_whole lacks_threads : Bool) : Type 0 where
   pub epoch : EpochValue

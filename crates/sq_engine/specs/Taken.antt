@@ -19,8 +19,8 @@ LeavesPage pause left =
     (o : OpeningValue) (past : List Episode)
     → PausesAfter o past pause → GoesOnAfterPage o past left
 
--- a page was taken of an engine once it had gone on to a pause at which the last stage of a move was done, with the receipts since
--- the page before, and it went on from what that left, without receipts
+-- a page was taken of an engine once it had come to a pause at which the last stage of a move was done, with the receipts since the page
+-- before, and it continued from what that left, without receipts
 pub record TakesItsPage (old : Standing) (page : Page) (new : Standing) : Type 0 where
   pub pause : PauseValue
   pub comes : KeepsHistoryAndJobs old (Paused pause)
@@ -49,8 +49,7 @@ abbrev pub IsNotPaused : Standing → NotTaken → Standing → Type 0
 IsNotPaused old Moving new = (new ≡ old) × (EngineRests old → ⊥)
 IsNotPaused old Memory new = (new ≡ old) × EngineRests old
 
--- an engine was closed once it had gone on to a pause at which the last stage of a move was done, with the receipts since the last
--- page
+-- an engine was closed once it had come to a pause at which the last stage of a move was done, with the receipts since the last page
 pub record HasClosedAfter (standing : Standing) (closed : Closed) : Type 0 where
   pub pause : PauseValue
   pub comes : KeepsHistoryAndJobs standing (Paused pause)

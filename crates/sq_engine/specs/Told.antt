@@ -1,11 +1,11 @@
--- What an engine told its clients since its last page.
+-- The answers that an engine gave its clients since its last page.
 use Rattle.std.specs.Prelude.{List, [], ◌∷◌}
 use Rattle.sq_epoch.specs.Exchanges.{Exchange}
 use Rattle.sq_engine.specs.declared.standing.Standing.{Standing}
 use Rattle.sq_engine.specs.Engine.{receipts_in, KeepsReceipts}
 use Rattle.sq_engine.specs.Served.{GrowByTold}
 
--- an engine told the answers of these exchanges, a list for each time that it was served, and got no other receipts
+-- an engine gave the answers of these exchanges, a list for each time that it was served, and got no other receipts
 abbrev pub TellsInTurn : List (List Exchange) → Standing → Standing → Type 0
 TellsInTurn [] old new = KeepsReceipts old new
 TellsInTurn (exchanges ∷ later) old new =

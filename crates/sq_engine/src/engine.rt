@@ -214,10 +214,11 @@ impl Engine {
         }
     }
 
-    /// Runs the epoch with a client, as [`Epoch::serve`] does, and then goes on where it can, as [`Engine::run_epoch`] does. At
-    /// rest the epoch ends too where an answer shows that a page should be taken ([`Engine::wants_page`]). Where each answer was
-    /// given, the receipts since the last page have grown by just these. Where there is no memory the engine comes back, perhaps
-    /// in a later stage, and the client was not called.
+    /// Runs the epoch with a client, as [`Epoch::serve`] does, and then continues where it can, as
+    /// [`Engine::run_epoch`] does. At rest the epoch ends too where an answer shows that a page should be taken
+    /// ([`Engine::wants_page`]). Where each answer was given, the receipts since the last page have grown by just
+    /// these. Where there is no memory the engine comes back, perhaps in a later stage, and the client was not
+    /// called.
     pub fn serve<C: Client, R: Threads + Wait + Sync>(
         self,
         rt: &R,

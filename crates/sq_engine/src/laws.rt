@@ -60,8 +60,9 @@ pub fn a_sound_engine_ends_where_planned()
         → EngineEndsAsPlanned o (episode ∷ past) (pause_after episode) }
 {}
 
-/// What an engine told is on its pages: where it told, since it was opened or since its last page, each answer that was written, the
-/// receipts of its next page, or of the last one, are just the answers that its clients were given, each once.
+/// The answers that an engine gave are on its pages: where it gave, since it was opened or since its last page, each
+/// answer that was written, the receipts of its next page, or of the last one, are just the answers that its clients
+/// were given, each once.
 pub fn what_was_told_is_on_the_page()
     ensures page { (first last next : Standing) (told : List (List Exchange)) (page : Page)
         → receipts_in first ≡ [] → TellsInTurn told first last → TakesItsPage last page next

@@ -15,7 +15,6 @@ use std::thread::Threads;
 /// in another thread while the engine continues.
 #[derive(Drop)]
 pub struct RestPage {
-    /// The page.
     pub page: Page,
     /// Which tables there are.
     pub schema: Schema,
