@@ -29,7 +29,7 @@ abbrev pub StaysBegun : StageRunValue → StageRunValue → Type 0
 StaysBegun old new = (o : OpeningValue) (began : BeganWith) → IsOpening o → BeganFrom o began old → BeganFrom o began new
 
 -- a stage that began so ran, and left this: it is placed, each family continues the one that its root key was given,
--- and the receipts so far stand before those of the stage
+-- and the receipts so far come before those of the stage
 pub record RanFrom (o : OpeningValue) (began : BeganWith) (g : GatheredValue) : Type 0 where
   pub stage : g.stage ≡ began.stage
   pub placed : IsPlaced o g
