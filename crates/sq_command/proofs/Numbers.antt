@@ -43,7 +43,7 @@ module _ (least most : ℕ) where
   number_given default None n given = absurd (no_some n given)
   number_given default (Some t) n given = inl given
 
-  -- and one in whose place another number stands
+  -- and one that is missing, which another number replaces
   pub number_missing : (default : ℕ) (text : Option Text) → GivenNumberOf least most text None → NumberOf least most default text default
   number_missing default None given = refl
   number_missing default (Some t) given = inr (given, refl)

@@ -44,7 +44,7 @@ ArePlansOf rows (Some plans) =
     IsNameOf (codes "old") rows (Some plans.old) × IsNameOf (codes "new") rows (Some plans.new)
     × IsNameOf (codes "rows") rows plans.rows
 
--- the main part of an input comes from the file that is named, and from standard input where none is, or '-' stands for it
+-- the main part of an input comes from the file that is named, and from standard input where none is, or '-' is named
 abbrev pub IsMainOf : List Row → Option (Bor Text) → Type 0
 IsMainOf rows None =
     IsNameOf (codes "file") rows None ⊎ (first_of (codes "file") rows ≡ Some (codes "-"))

@@ -22,7 +22,6 @@ abbrev pub SpellsKey : Text → Type 0
 SpellsKey text =
     let digits = without_leading_plus text in IsNumeral 10 digits × (digits_value 10 digits < 2 ^ 32)
 
--- which one it spells
 abbrev pub spelled_key : Text → ℕ
 spelled_key text = digits_value 10 (without_leading_plus text)
 

@@ -72,7 +72,7 @@ impl Clash {
         }
     }
 
-    // What may stand behind the subcommand.
+    // What may follow the subcommand.
     fn usage(self) -> &'static str {
         match self {
             Clash::NoOld | Clash::NoNew => "--old <FILE> --new <FILE> [FILE]",

@@ -23,7 +23,7 @@ pub enum Line<'a> {
         task: Task<'a>,
         input: Input<'a>,
     },
-    /// Tell which partition owns root keys before a move and after it, and where in the move they stand.
+    /// Say which partition owns root keys before a move and after it, and where in the move they are.
     Owner {
         /// The root keys, in the order in which they are written.
         keys: Vec<u32>,
@@ -52,7 +52,7 @@ pub enum Line<'a> {
         /// The files into which it is written what the engine did.
         reports: EngineReports<'a>,
     },
-    /// Tell what this number means, or all numbers.
+    /// Say what this number means, or all numbers.
     Explain {
         number: Option<u16>,
     },
@@ -112,14 +112,14 @@ pub enum Form {
 pub enum Task<'a> {
     /// Make the steps of a script.
     Run {
-        /// Whether each step stands before its answer.
+        /// Whether each step is written before its answer.
         echoes: bool,
         /// Whether the first step that is refused ends the run.
         strict: bool,
-        /// The name of the file into which the rows are written that stand at the end, where there is to be one.
+        /// The name of the file for the rows at the end, if there is one.
         rows_out: Option<&'a str>,
     },
-    /// Tell what moves between two plans.
+    /// Say what moves between two plans.
     Ranges {
         /// The form.
         form: Form,
@@ -136,13 +136,13 @@ pub enum Task<'a> {
         folds: bool,
         /// Whether a summary is written.
         summary: bool,
-        /// The name of the file into which a longer account of it is written, where there is to be one.
+        /// The name of the file for a longer account of it, if there is one.
         summary_out: Option<&'a str>,
-        /// The name of the file into which it is written when each thing was done, where there is to be one.
+        /// The name of the file for the times of its events, if there is one.
         timeline: Option<&'a str>,
-        /// The name of the file into which the answers of the jobs are written, where there is to be one.
+        /// The name of the file for the answers of the jobs, if there is one.
         replies: Option<&'a str>,
-        /// The name of the file into which the rows are written that stand at the end, where there is to be one.
+        /// The name of the file for the rows at the end, if there is one.
         rows_out: Option<&'a str>,
     },
     /// Write the script that makes the whole move.
@@ -168,11 +168,11 @@ pub struct Demo {
     pub seed: u64,
 }
 
-/// What the words of a command line ask for; the first of them is the program's name. An error is in `clap`'s form: the
-/// words aren't of the command's form, or ask for a help text or the version, or have options that don't go together,
-/// or memory ran out. `--old` and `--new` stand together or not at all, `--rows` wants both, and of `--json` and
-/// `--svg` there is one at most. `owner` wants the plans and a key, `demo` a folder, and the `--rows` of `serve` its
-/// `--plan`.
+/// What the words of a command line ask for; the first of them is the program's name. An error is in `clap`'s form:
+/// the words aren't of the command's form, or ask for a help text or the version, or have options that don't go
+/// together, or memory ran out. `--old` and `--new` come together or not at all, `--rows` wants both, and of `--json`
+/// and `--svg` there is one at most. `owner` wants the plans and a key, `demo` a folder, and the `--rows` of `serve`
+/// its `--plan`.
 pub fn line_of<'a, S: AsStr>(alloc: Global, words: &'a [S]) -> Result<Line<'a>, Error>
     ensures comes { ComesOf (map S.text words.now) result }
     ensures within { IfOk result LineIsWithin }

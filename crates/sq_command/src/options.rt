@@ -8,7 +8,7 @@ use crate::clash::Clash;
 use crate::line::{Input, Plans};
 use clap::ArgMatches;
 
-// What stands for standard input in place of a file's name.
+// What names standard input in place of a file.
 const STANDARD_INPUT: &str = "-";
 
 /// The input that options name.
