@@ -49,7 +49,7 @@ pub note_of_some : (bytes : List ℕ) → length bytes ≢ 0 → flat_map hex_by
 note_of_some [] some = absurd (some refl)
 note_of_some (byte ∷ bytes) some = refl
 
--- a field that is there stands at its place
+-- a field that is there is at its place
 pub field_found : (fields : List (List ℕ)) (i : ℕ) (x : List ℕ) → field_at fields i ≡ Some x → get_or fields i x ≡ x
 unfolding field_at
 field_found [] i x there = cc

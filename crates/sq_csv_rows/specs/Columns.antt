@@ -5,11 +5,11 @@ use Rattle.sq_text.specs.Words.{Word}
 use Rattle.sq_text.specs.Texts.{line, note_text}
 use Rattle.sq_csv_rows.specs.declared.columns.TheConstants.{NOTE_COLUMN}
 
--- a byte as it stands in a word: a question mark in the place of one that no word has
+-- the byte of a word for this one: a question mark for one that no word has
 abbrev pub word_byte : ℕ → ℕ
 word_byte byte = if nat_lt 32 byte then byte else 63
 
--- the same among hexadecimal digits, where no hyphen stands
+-- the same among hexadecimal digits, which have no hyphen
 abbrev pub digit_byte : ℕ → ℕ
 digit_byte byte = if byte == 45 then 63 else word_byte byte
 

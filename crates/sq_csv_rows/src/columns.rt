@@ -15,7 +15,7 @@ const NAMES: [&[u8]; 5] = [b"root", b"table", b"sub", b"number", b"note"];
 /// The column of the note, from 0.
 pub const NOTE_COLUMN: usize = 4;
 
-// What stands in front of the digits of a note.
+// The front of a note in hexadecimal digits.
 const HEX: [u8; 4] = *b"hex:";
 
 // What takes the place of a byte that a word can't have.
@@ -114,7 +114,7 @@ fn push_word(line: &mut Vec<u8>, bytes: &[u8]) -> Result<(), AllocError>
     Ok(())
 }
 
-// A byte as it stands in a word.
+// The byte of a word for this one.
 fn word_byte(byte: u8) -> u8
     ensures { result ≡ word_byte byte }
 {

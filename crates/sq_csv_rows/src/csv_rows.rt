@@ -89,7 +89,7 @@ impl<R: Read> CsvRows<'_, R> {
     }
 }
 
-// How many line ends stand within a record.
+// How many line ends are within a record.
 fn line_ends(record: &ByteRecord) -> u64 {
     record
         .as_slice()

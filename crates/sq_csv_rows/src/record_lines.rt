@@ -1,4 +1,4 @@
-// Where the records of a table stand.
+// The lines of a table's records.
 use std::alloc::{AllocError, Global};
 use std::cell::RefCell;
 
@@ -9,7 +9,7 @@ pub struct RecordLines {
     lines: RefCell<LineList>,
 }
 
-/// From the record of this number on, each stands on the line behind that of the one before it, the first of them on this line.
+/// From the record of this number on, each is on the line behind that of the one before it, the first of them on this line.
 #[derive(Clone, Copy, Debug, PartialEq, Eq)]
 struct Jump {
     record: u64,
@@ -61,7 +61,7 @@ impl LineList {
         Ok(())
     }
 
-    // The line of the record of this number, if each behind the last jump stands on the line behind that of the one before it.
+    // The line of the record of this number, if each behind the last jump is on the line behind that of the one before it.
     fn line_of(&self, record: u64) -> Option<u64> {
         let jump = self.jumps.iter().rev().find(|jump| jump.record <= record)?;
         Some(jump.line.saturating_add(record - jump.record))

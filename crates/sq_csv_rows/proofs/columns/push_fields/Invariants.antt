@@ -4,7 +4,7 @@ use Rattle.csv.specs.Records.{fields_of}
 use Rattle.sq_csv_rows.specs.Columns.{field_word}
 use Rattle.sq_csv_rows.proofs.columns.push_fields.Given as goal
 
--- the words so far stand behind what was there
+-- the words so far follow what was there
 abbrev pub invariant-loop-column : goal.invariant-loop-column
 invariant-loop-column l =
     l.line.items
