@@ -8,7 +8,7 @@ use Rattle.sq_plan.specs.PlanValue.{PlanValue, owner}
 use Rattle.sq_text.proofs.Appending.{both, appends_none}
 use Rattle.sq_demo.specs.Demo.{job_line, job_lines, AddsJobs}
 
--- the text of one more number stands at the end
+-- the text of one more number is at the end
 one_number : (text : ℕ → List ℕ) (a n j : ℕ) → a + n ≡ j → flat_map text (range_with_len a (suc n)) ≡ flat_map text (range_with_len a n) ++ text j
 one_number text a zero j e = let same : a ≡ j = omega (arith, e) in append-nil (text a) ∙ ap text same
 one_number text a (suc n) j e =

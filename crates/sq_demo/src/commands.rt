@@ -83,7 +83,7 @@ fn write_between_quotes<W: Write>(writer: &mut W, name: &[u8]) -> io::Result<()>
     writer.write_all(b"'")
 }
 
-// Writes bytes as they stand between single quotes.
+// Writes bytes as they are written between single quotes.
 fn write_quoted<W: Write>(writer: &mut W, bytes: &[u8]) -> io::Result<()>
     ensures { OnOk result (Appends
         (W.contents writer.old) (W.contents writer.new) (flat_map quoted_byte bytes.now)) }
@@ -94,7 +94,7 @@ fn write_quoted<W: Write>(writer: &mut W, bytes: &[u8]) -> io::Result<()>
     Ok(())
 }
 
-// Writes a byte as it stands there.
+// Writes a byte as it is written there.
 fn write_quoted_byte<W: Write>(writer: &mut W, byte: u8) -> io::Result<()>
     ensures { OnOk result (Appends
         (W.contents writer.old) (W.contents writer.new) (quoted_byte byte)) }

@@ -29,7 +29,6 @@ fn write_config<W: Write>(writer: &mut W, sizes: &DemoSizes) -> io::Result<()>
     writeln!(writer, "config {width} 1024 4")
 }
 
-// Writes the lines of the jobs.
 fn write_job_lines<W: Write>(writer: &mut W, sizes: &DemoSizes, old: &Plan) -> io::Result<()>
     ensures { OnOk result (AddsJobs old.now sizes.now.roots sizes.now.jobs
         (W.contents writer.old) (W.contents writer.new)) }
