@@ -35,7 +35,7 @@ abbrev pub unless_named : LineFlaw → (OpName → Option LineFlaw) → Option O
 unless_named flaw goes_on None = Some flaw
 unless_named flaw goes_on (Some name) = goes_on name
 
--- the first word that isn't of this form, or of what may stand behind it; the first of the words has this number
+-- the first word that isn't of this form, or of what may follow it; the first of the words has this number
 abbrev pub misfit : Behind → ℕ → List Wanted → List Word → Option LineFlaw
 misfit behind at [] [] = None
 misfit behind at (wanted ∷ form) [] = Some (Missing at wanted)

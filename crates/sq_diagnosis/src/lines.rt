@@ -14,7 +14,7 @@ pub enum LineFlaw {
     Mark,
     /// It ends with a carriage return.
     CarriageReturn,
-    /// A word is empty: two spaces follow one another, or one stands at an end.
+    /// A word is empty: two spaces follow one another, or one is at an end.
     Empty { at: usize },
     /// A word isn't what it is to be.
     Wrong { at: usize, wanted: Wanted },
@@ -24,7 +24,7 @@ pub enum LineFlaw {
     Extra { at: usize },
 }
 
-/// What may stand behind the words of a form.
+/// What may follow the words of a form.
 #[derive(Clone, Copy, Debug, PartialEq, Eq)]
 enum Behind {
     Nothing,
@@ -103,7 +103,7 @@ fn line_flaw(behind: Behind, form: &'static [Wanted], line: &[u8]) -> Option<Lin
     }
 }
 
-// The first word that isn't of a form, or of what may stand behind it.
+// The first word that isn't of a form, or of what may follow it.
 fn misfit(behind: Behind, form: &'static [Wanted], mut words: Words<'_>) -> Option<LineFlaw>
     ensures { result ≡ misfit behind 1 form.now words.entry }
 {
