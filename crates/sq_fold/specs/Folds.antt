@@ -34,7 +34,7 @@ pub record AppendsFold (width : ℕ) (line before now : List ℕ) : Type 0 where
 abbrev pub IsOneLine : List ℕ → Type 0
 IsOneLine text = All (λ byte. (byte == 10) ≡ false) text
 
--- the first line of a text, behind which a line end stands, and what stands behind that
+-- the first line of a text, which a line end follows, and the rest behind that
 pub record EndsFirstLine (text line rest : List ℕ) : Type 0 where
   pub joined : text ≡ line ++ 10 ∷ rest
   pub whole : IsOneLine line

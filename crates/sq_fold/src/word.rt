@@ -6,10 +6,10 @@ ghost use Rattle.sq_fold.specs.NextWords.{IsNextWord, SplitsBlanks, SplitsWord};
 /// The next word of a line.
 #[derive(Clone, Copy)]
 pub(crate) struct NextWord<'a> {
-    /// How many blanks stand before it.
+    /// How many blanks are before it.
     pub(crate) gap: usize,
     pub(crate) word: &'a [u8],
-    /// What stands behind it.
+    /// The rest of the text, behind it.
     pub(crate) rest: &'a [u8],
 }
 
