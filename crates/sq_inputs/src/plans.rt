@@ -1,4 +1,4 @@
-// The lines of the plans, from files in which a plan may stand over many lines.
+// The lines of the plans, from files in which a plan may have many lines.
 ghost use Rattle.std.specs.Prelude.{◌≡◌, ◌++◌, IfOk, IfSome, take};
 ghost use Rattle.sq_inputs.specs.Inputs.{plan_lines, on_one_line};
 

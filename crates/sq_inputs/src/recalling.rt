@@ -10,7 +10,7 @@ use std::io::Read;
 // No line that may be asked for is longer, and no read.
 const ROOM: usize = 262_144;
 
-// As many lines stand first, each with a plan.
+// How many lines come first, each with a plan.
 const PLANS: usize = 2;
 
 /// A reader that keeps the lines which its last read touched, so that one who has read a line can ask for it again; and the
