@@ -5,11 +5,11 @@ use Rattle.sq_outputs.specs.declared.conflict.Output.{Output}
 use Rattle.sq_outputs.specs.declared.conflict.Conflict.{Conflict}
 use Rattle.sq_outputs.specs.declared.conflict.Conflict.TheVariants.{IsRead, NamedTwice}
 
--- the file that stands here is read
+-- the file at this place is read
 abbrev pub IsReadAt : List (String Global) → List ℕ → Type 0
 IsReadAt read place = Any (λ (file : String Global). string_bytes file ≡ place) read
 
--- the file that stands here is written
+-- the file at this place is written
 abbrev pub IsWrittenAt : List Output → List ℕ → Type 0
 IsWrittenAt outputs place = Any (λ (output : Output). string_bytes output.place ≡ place) outputs
 

@@ -43,7 +43,7 @@ impl<T: Files> Folder for SystemFolder<'_, T> {
     }
 }
 
-/// Where the file of this name stands, in one spelling for all names that lead to it, by links or hard links too. Where it
+/// The place of the file of this name, in one spelling for all names that lead to it, by links or hard links too. Where it
 /// isn't there yet that is a place in its folder, and where its folder can't be found the name.
 pub fn place_of<T: Files + AllocGlobal>(rt: &T, name: &str) -> io::Result<String> {
     match fs::metadata(rt, name) {
@@ -55,7 +55,7 @@ pub fn place_of<T: Files + AllocGlobal>(rt: &T, name: &str) -> io::Result<String
     }
 }
 
-/// Where standard input stands, if it is a file.
+/// The place of standard input, if it is a file.
 pub fn place_of_standard_input<T: Files + AllocGlobal>(rt: &T) -> io::Result<Option<String>> {
     match fs::metadata(rt, STANDARD_INPUT) {
         Ok(there) if there.is_file() => Ok(Some(place_of(rt, STANDARD_INPUT)?)),
@@ -63,7 +63,7 @@ pub fn place_of_standard_input<T: Files + AllocGlobal>(rt: &T) -> io::Result<Opt
     }
 }
 
-// Where the file of this name is to stand.
+// The place that a file of this name would have in its folder.
 fn place_in_folder<T: Files + AllocGlobal>(rt: &T, name: &str) -> io::Result<String> {
     let path = Path::new(name);
     let (Some(folder), Some(file)) = (path.parent(), path.file_name()) else {
@@ -81,7 +81,7 @@ fn place_in_folder<T: Files + AllocGlobal>(rt: &T, name: &str) -> io::Result<Str
     }
 }
 
-// The path of what stands there, without links.
+// The path of what is there, without links.
 fn text_of_path<T: Files + AllocGlobal>(rt: &T, name: &str) -> io::Result<String> {
     let path = fs::canonicalize(rt, name)?;
     Ok(String::from_str(rt.alloc(), path.as_str())?)
