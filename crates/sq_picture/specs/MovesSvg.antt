@@ -106,7 +106,7 @@ marks_text recon range =
     let end = begun_below recon.segments range.hi in
     segments_text first end ++ numbers_text first end (stage_in recon range)
 
--- the column of a range but for its end, before which more may stand
+-- the column of a range but for its end, before which more may come
 abbrev pub open_column_text : ReconValue → ℕ × Range → List ℕ
 open_column_text recon (i, range) =
     place_text i ++ (keys_text range ++ (owners_text range ++ marks_text recon range))

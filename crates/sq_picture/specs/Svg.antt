@@ -14,7 +14,7 @@ size_text width height title =
 abbrev pub start_text : ℕ → ℕ → List ℕ → List ℕ
 start_text width height title = size_text width height title ++ STYLE.now
 
--- words at a place, which stand there as their class says
+-- words at a place, laid out as their class says
 abbrev pub words_text : List ℕ → ℕ → ℕ → List ℕ → List ℕ
 words_text class x y words =
     concat (codes "<text class=\"" ∷ class ∷ codes "\" x=\"" ∷ decimal x ∷ codes "\" y=\"" ∷ decimal y ∷ codes "\">" ∷ words

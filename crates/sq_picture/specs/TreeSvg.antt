@@ -1,4 +1,4 @@
--- The tree of a segment, as a picture: a column for each level, from the whole segment to its leaves, which stand below one another.
+-- The tree of a segment, as a picture: a column for each level, from the whole segment to its leaves, each below the one before it.
 use Rattle.std.specs.Prelude.{ℕ, Bool, true, false, ◌+◌, ◌-◌, ◌*◌, nat_lt, if◌then◌else◌, List, [], ◌∷◌, ◌++◌, decimal, codes}
 use Rattle.std.specs.List.{concat, flat_map, range_with_len}
 use Rattle.sq_tree.specs.declared.node.TheConstants.{NODES}

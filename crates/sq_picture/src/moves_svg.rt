@@ -227,7 +227,7 @@ fn write_marks<W: Write>(writer: &mut W, recon: &Recon, range: &Range) -> io::Re
     write_numbers(writer, first, end, recon.stage_on(range.src, range.dst))
 }
 
-/// Writes the column of a range but for its end, before which more may stand. An error is the writer's.
+/// Writes the column of a range but for its end, before which more may come. An error is the writer's.
 pub fn write_open_column<W: Write>(
     writer: &mut W,
     recon: &Recon,
@@ -298,7 +298,7 @@ pub fn write_top<W: Write>(writer: &mut W, count: usize) -> io::Result<()>
 
 /// Writes what moves as a picture, in SVG: a column for each reconfiguration range, in key order and not to scale, with its
 /// keys, its old and its new owner in the partitions' colours, an arrow from the one to the other, and its segments with
-/// their numbers and their stage. Six columns stand side by side. An error is the writer's.
+/// their numbers and their stage. Six columns are side by side. An error is the writer's.
 pub fn write_moves_svg<W: Write>(writer: &mut W, recon: &Recon) -> io::Result<()>
     ensures { OnOk result (Appends (W.contents writer.old) (W.contents writer.new)
         (moves_svg recon.now)) }

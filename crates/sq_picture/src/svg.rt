@@ -69,7 +69,7 @@ pub(crate) fn write_start<W: Write>(
     write_style(writer)
 }
 
-/// Writes words at a place, which stand there as their class says.
+/// Writes words at a place, laid out as their class says.
 pub(crate) fn write_words<W: Write>(
     writer: &mut W,
     class: &str,
