@@ -27,7 +27,7 @@ use Rattle.sq_text.specs.Texts.{hex_byte_text, note_text}
 use Rattle.sq_steps.proofs.ReadBack.{number_is_read, all_digits}
 use Rattle.sq_read_back.specs.ReadAgain.{IsFitRow}
 
--- each byte stands above a space
+-- each byte is above a space
 abbrev pub is_solid : Word → Bool
 is_solid word = list_all (λ byte. nat_lt 32 byte) word
 
@@ -109,7 +109,7 @@ high_no_digit d from = grind (arith, nat_tests)
 high_letter : (d : ℕ) → 10 ≤ d → d < 16 → (nat_le 97 (87 + d) && nat_le (87 + d) 102) ≡ true
 high_letter d from small = grind (arith, nat_tests)
 
--- what stands for a digit, or else for a letter
+-- the value of a digit, or else of a letter
 abbrev letter_in : ℕ → Option ℕ
 letter_in c = if nat_le 97 c && nat_le c 102 then Some (c - 87) else None
 

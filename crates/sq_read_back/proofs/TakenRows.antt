@@ -29,12 +29,12 @@ use Rattle.sq_read_back.proofs.TakenLines.{GoesOn, stands, goes_twice, row_goes_
 abbrev Entry : Type 0
 Entry = RowKey × RowValue
 
--- each of these rows stands before a key
+-- each of these rows is before a key
 abbrev StandBefore : RowList → RowKey → Type 0
 StandBefore [] key = Unit {0}
 StandBefore (entry ∷ rows) key = (key_cmp key entry.0 ≡ Greater) × StandBefore rows key
 
--- a key below all of some rows, of which this is one
+-- a key below all of some rows, and so below this one
 below_one : (key : RowKey) (done todo : RowList) (entry : Entry) → below_all key_cmp key (done ++ entry ∷ todo) ≡ true → key_cmp key entry.0 ≡ Less
 below_one key [] todo entry below = less_from_test (key_cmp key entry.0) (and_parts (is_lt (key_cmp key entry.0)) (below_all key_cmp key todo) below).0
 below_one key (first ∷ done) todo entry below = below_one key done todo entry (and_parts (is_lt (key_cmp key first.0)) (below_all key_cmp key (done ++ entry ∷ todo)) below).1
@@ -69,7 +69,7 @@ found_before (entry ∷ done) todo key none = ap (λ (found : Option RowValue). 
 root_first : (table sub : ℕ) → (table == 0) ≡ false → key_cmp root_key (record { table = table; sub = sub }) ≡ Less
 root_first table sub other = let before : nat_cmp 0 table ≡ Less = grind (arith, nat_tests) in ap (λ order. ordering_then order (nat_cmp 0 sub)) before
 
--- rows of other tables stand behind the root row
+-- rows of other tables come behind the root row
 root_before : (done todo : RowList) (entry : Entry) → is_sorted key_cmp (done ++ entry ∷ todo) ≡ true → (entry.0.table == 0) ≡ false → is_some (row_at (done ++ entry ∷ todo) root_key) ≡ true → is_some (row_at done root_key) ≡ true
 root_before done todo entry rising other some =
     let less = root_first entry.0.table entry.0.sub other in

@@ -12,14 +12,14 @@ use Rattle.sq_schema.specs.declared.root.TheConstants.{ROOT_END}
 use Rattle.sq_lines.specs.Pieces.{PieceValue}
 use Rattle.sq_text.specs.Header.{HeaderValue, header_of}
 
--- a row as it stands in memory, which a schema of this many tables takes
+-- a row in memory that a schema of this many tables takes
 pub record IsFitRow (tables : ℕ) (entry : RowKey × RowValue) : Type 0 where
   pub in_range : is_entry entry ≡ true
   pub schema : row_fault tables entry.0 entry.1 ≡ None
   pub number : is_i64 entry.1.number ≡ true
   pub note : All (λ byte. byte < 2 ^ 8) entry.1.note
 
--- a family of such rows: their keys rise, and those of other tables stand under the root row
+-- a family of such rows: their keys rise, and it has a root row where it has rows of other tables
 pub record IsFitFamily (tables : ℕ) (family : FamilyValue) : Type 0 where
   pub root : family.root < ROOT_END
   pub rising : is_sorted key_cmp (rows_of family) ≡ true

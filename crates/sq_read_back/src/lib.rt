@@ -12,8 +12,8 @@ ghost use Rattle.sq_read_back.specs.ReadAgain.{AreFit, count_of_rows, IsHeaderWi
 ghost use Rattle.sq_read_back.specs.Examples.{two_rows, last_root};
 
 /// What is written of families is read as the rows of a header, where a schema takes these rows and no two families have one root
-/// key. In an input it stands behind the plans and the sizes. The header then has the rows of these families, each at its root key,
-/// and no others; what stands behind them in the input is left.
+/// key. In an input it comes behind the plans and the sizes. The header then has the rows of these families, each at its root key,
+/// and no others; what follows them in the input is left.
 pub fn rows_are_read_back()
     ensures { (tables : ℕ) (families : List FamilyValue) (text : List ℕ)
         → AreFit tables families → WritesRows families (Some []) (Some text)
