@@ -80,7 +80,7 @@ impl AnswerMarks {
         }
     }
 
-    // Gives the marks of a node from this place on their jobs.
+    // Gives a node's marks their jobs, from this place on.
     fn name_by(&self, node: &Node, first: usize) {
         let part = node.part().number();
         let mut receipts = node.receipts().iter();

@@ -2,7 +2,7 @@
 use std::sync::atomic::{AtomicU64, Ordering};
 use std::time::{Clock, Instant};
 
-/// Tells the time since it was started.
+/// Measures the time since it was started.
 #[derive(Drop)]
 pub struct Stopwatch<'a, C> {
     clock: &'a C,

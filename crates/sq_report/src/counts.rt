@@ -41,7 +41,7 @@ impl PartCount {
         aborted: 0,
     };
 
-    /// With the jobs of these receipts. A count that no number holds stays at the greatest.
+    /// These counts, with the jobs of these receipts added. A count that no number holds stays at the greatest.
     pub(crate) fn with(self, receipts: &[Receipt]) -> PartCount
         ensures { result ≡ counted self receipts.now }
     {

@@ -11,7 +11,7 @@ use std::alloc::{AllocError, Global};
 use std::sync::atomic::{AtomicBool, Ordering};
 use std::sync::{Mutex, Wait};
 
-/// What moved along each link so far, and whether there was memory for all of it.
+/// What moved along each link so far, and whether memory sufficed for all of it.
 #[derive(Drop)]
 pub(crate) struct KeptLinks {
     links: Mutex<Vec<LinkFigures>>,

@@ -29,9 +29,7 @@ use std::time::Clock;
 /// What a run is recorded for, besides a summary.
 #[derive(Clone, Copy, Debug, PartialEq, Eq)]
 pub struct Records {
-    /// For a timeline.
     pub timeline: bool,
-    /// For its figures.
     pub figures: bool,
     /// For what the jobs are answered.
     pub replies: bool,

@@ -59,7 +59,7 @@ impl KeptReplies {
     }
 }
 
-/// The text of the rows that stood when a stage had ended; `None` where there was no memory for it.
+/// The text of the rows that there were when a stage had ended; `None` where there was no memory for it.
 #[derive(Drop)]
 pub(crate) struct KeptRows {
     text: Mutex<Option<Vec<u8>>>,
