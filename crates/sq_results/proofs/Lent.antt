@@ -34,7 +34,7 @@ pub next_lent : {X : Type 0} (families : X → List FamilyValue) (xs : List X) (
 next_lent families xs i next x before old new is at so_far added =
     more_lent families xs i x before old new (slice_get_within xs i x at) (sym (get_or_from_slice_get xs i x x at)) so_far added ∙ ap (λ k. before ++ flat_map families (take k xs)) (sym is)
 
--- the place at which nothing stands, where something stands before it, is behind the last
+-- a place of a list or its end, with nothing there, is the end
 pub place_behind : {X : Type 0} (xs : List X) (i : ℕ) → i ≤ length xs → slice_get xs i ≡ None → length xs ≡ i
 place_behind xs i within none = ⊎_elim (λ below. let there = stands_at xs i below in absurd (cc (sym none ∙ there.1))) (λ over. omega (arith, within, over)) (cases_lt i (length xs))
 
