@@ -10,7 +10,7 @@ const LINE_END: u8 = 10;
 // The front of a row's line.
 const FRONT: [u8; 4] = *b"row ";
 
-/// What stands in place of a line that isn't a row's: it is no row's line, and begins as one.
+/// What replaces a line that isn't a row's: it is no row's line, and begins as one.
 pub const NO_ROW: &[u8] = b"row ?";
 
 // The same with its end.
