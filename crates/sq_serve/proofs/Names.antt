@@ -1,4 +1,4 @@
--- What stands behind the first word of a line; names that are text, and those that aren't.
+-- What follows the first word of a line; names that are text, and those that aren't.
 use Rattle.std.proofs.Common.{◌≡◌, ◌-◌, Bool, true, false, ℕ, List, length, take, drop, refl, ap, sym, subst, if◌then◌else◌, arith}
 use Rattle.std.specs.Prelude.{Result, Ok, Err}
 use Rattle.std.specs.Str.{IsUtf8, is_utf8}

@@ -29,7 +29,7 @@ pub enum ServeAnswer {
         families: u64,
         committed: u64,
     },
-    /// So many rows were told, or written into a file.
+    /// So many rows were written, as lines or into a file.
     Rows {
         count: u64,
     },

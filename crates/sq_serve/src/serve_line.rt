@@ -27,7 +27,7 @@ pub enum ServeLine {
     Status,
     /// Which rows there are.
     Rows,
-    /// That they are written into this file.
+    /// The rows are written into this file.
     RowsTo(RowsFile),
     /// Which plan is in force.
     Plan,

@@ -36,7 +36,7 @@ pub enum ServeMark {
 /// Who watches an engine that is served, and saves its rows. It changes nothing of what lines are answered, but for whether rows
 /// were saved.
 pub trait ServeWatch {
-    // That a text was to be saved under a name, and was or wasn't.
+    // A text was to be saved under a name, and was or wasn't.
     ghost Saves: { Self → List ℕ → List ℕ → Bool → Type 0 };
 
     /// Takes note of what is done.
