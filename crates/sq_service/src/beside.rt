@@ -1,4 +1,4 @@
-// What stands beside an engine that is served.
+// What runs beside an engine that is served.
 use sq_serve::ServeWatch;
 use sq_server::AuditProgress;
 
