@@ -43,7 +43,7 @@ pub fn tell_opening<R: Read, W: Write, T: OpeningTelling>(
     Ok(ending)
 }
 
-// Tells of an opening, and leaves what is written to be flushed.
+// Writes the text about an opening, and leaves it to be flushed.
 fn tell_unflushed<R: Read, W: Write, T: OpeningTelling>(
     alloc: Global,
     reader: &mut R,
@@ -60,7 +60,7 @@ fn tell_unflushed<R: Read, W: Write, T: OpeningTelling>(
     }
 }
 
-// Tells of the opening that the next lines spell.
+// Writes the text about the opening that the next lines spell.
 fn tell_of_lines<R: Read, W: Write, T: OpeningTelling>(
     alloc: Global,
     lines: &mut LineReader<R>,
@@ -80,7 +80,7 @@ fn tell_of_lines<R: Read, W: Write, T: OpeningTelling>(
     }
 }
 
-// Tells of an opening, or else that there is no memory for that.
+// Writes the text about an opening, or else that there is no memory for it.
 fn tell<W: Write, T: OpeningTelling>(
     alloc: Global,
     writer: &mut W,
