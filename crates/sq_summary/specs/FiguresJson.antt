@@ -10,7 +10,6 @@ use Rattle.sq_summary.specs.declared.figures.LinkFigures.{LinkFigures}
 use Rattle.sq_summary.specs.declared.part_figures.PartFigures.{PartFigures}
 use Rattle.sq_summary.specs.declared.figures.RunFigures.{RunFigures}
 
--- a figure
 abbrev pub figure_data : ℕ → Data
 figure_data n = number (unsigned n)
 

@@ -24,8 +24,8 @@ pub struct PartFigures {
 }
 
 impl PartFigures {
-    /// Those of a partition that committed and aborted so many jobs, where these are the answers of all partitions. The only
-    /// fault is that memory ran out.
+    /// The figures of a partition that committed and aborted so many jobs, where these are the answers of all
+    /// partitions. The only fault is that memory ran out.
     pub fn of_answers(
         alloc: Global,
         part: u8,
