@@ -214,7 +214,7 @@ fn run_failing(alloc: Global, given: &[u8], most: usize) -> Result<(Vec<u8>, End
     run_of(alloc, &mut reader)
 }
 
-// The ending by a failed read in this line of the script, which stands behind the four lines of the header.
+// The ending by a failed read in this line of the script, which follows the four lines of the header.
 fn failed_at(line: u32) -> Ending {
     Ending::Fault(InputFault::ReadFailed.at(InputLine::Later(line.saturating_add(5))))
 }
