@@ -36,11 +36,11 @@ enum Change {
     Nothing,
     // The family of root key 5 is taken out.
     FamilyOut,
-    // A second one stands at partition 1.
+    // A second one is at partition 1.
     FamilyTwice,
-    // One that opens with this number stands in its place, with an empty log.
+    // One that opens with this number is in its place, with an empty log.
     FamilyOpened(i64),
-    // It stands at partition 1.
+    // It is at partition 1.
     FamilyMoved,
     // The receipt of the first job has this id.
     ReceiptId(u64),

@@ -64,7 +64,7 @@ fn defect_of<R: Threads + Sync>(rt: &R, alloc: Global, page: &Page) -> Result<Op
     }
 }
 
-// The page has the family with a log and the one that the abort names, as they stood, and both receipts.
+// The page has the family with a log and the one that the abort names, as they were, and both receipts.
 const PAGE: &str = "at 0 5 0 0.0=10/-
 at 1 12 1 0.0=4/-
 receipt 5 0 abort 1 0 small
