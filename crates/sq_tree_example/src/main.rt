@@ -7,7 +7,7 @@ use sq_picture::write_tree_svg;
 use sq_tree::{Leaf, NodeId, PlainTree};
 use std::io;
 
-// How many levels of nodes stand above a leaf.
+// How many levels of nodes are above a leaf.
 const LEVELS: u32 = 5;
 
 // The number of the pull.
