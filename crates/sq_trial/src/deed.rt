@@ -3,9 +3,9 @@
 /// Where an engine goes.
 #[derive(Clone, Copy, Debug)]
 pub enum PlanChoice {
-    /// The root keys stand at all partitions. Rows go there in stages.
+    /// The root keys are spread over all partitions. Rows go there in stages.
     Spread,
-    /// All root keys that have rows stand at the first partition.
+    /// All root keys that have rows are at the first partition.
     Gathered,
     /// Six ranges of five root keys, each at any partition by a seed, in one stage or in several.
     Any(u64),
