@@ -48,7 +48,7 @@ abbrev pub live_status : Result LiveEnding WriteFault → ℕ
 live_status (Ok ending) = ending_status ending
 live_status (Err fault) = 2
 
--- the run had an outcome of which this holds, unless a write failed, and ended with its status
+-- the run had an outcome with this property, unless a write failed, and ended with its status
 pub record EndsAs {E : Type 0} (Holds : E → Type 0) (status_of : Result E WriteFault → ℕ) (status : ℕ) : Type 0 where
   pub ran : Result E WriteFault
   pub holds : IfOk ran Holds

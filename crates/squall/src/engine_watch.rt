@@ -23,7 +23,7 @@ pub struct EngineWatch<'a, T> {
     rt: &'a T,
     stopwatch: Stopwatch<'a, T>,
     record: Option<Mutex<ServeRecord>>,
-    // Where the files stand in which no rows are saved.
+    // The places of the files in which no rows are saved.
     places: Vec<String>,
 }
 
@@ -119,8 +119,8 @@ fn record_of<T: AllocGlobal>(rt: &T, input: EngineInput<'_>) -> Option<Mutex<Ser
     Some(Mutex::new(ServeRecord::new(rt.alloc())))
 }
 
-// Where the files stand that an engine with this input reads or reports in. `None` where a report would be written over a file
-// that it reads, or over another report, which standard error says. An error is that there is no memory to tell.
+// The places of the files that an engine with this input reads or reports in. `None` where a report would be written over
+// a file that it reads, or over another report, which standard error says. An error is that memory ran out.
 fn places_of<T: Eprint + Files + AllocGlobal>(
     rt: &T,
     input: EngineInput<'_>,
@@ -137,7 +137,7 @@ fn places_of<T: Eprint + Files + AllocGlobal>(
     Ok(Some(places))
 }
 
-// Where the files stand that an engine with this input reads, standard input among them.
+// The places of the files that an engine with this input reads, standard input among them.
 fn read_places<T: Files + AllocGlobal>(rt: &T, input: EngineInput<'_>) -> io::Result<Vec<String>> {
     let names = [
         input.file,
@@ -156,7 +156,7 @@ fn read_places<T: Files + AllocGlobal>(rt: &T, input: EngineInput<'_>) -> io::Re
     Ok(places)
 }
 
-// The reports of an engine, and where they stand, with the files beside them that are written first.
+// The reports of an engine and their places, with the files beside them that are written first.
 fn outputs_of<'a, T: Files + AllocGlobal>(
     rt: &T,
     input: EngineInput<'a>,
@@ -176,7 +176,7 @@ fn outputs_of<'a, T: Files + AllocGlobal>(
     Ok(outputs)
 }
 
-// The file that an option names, or the one beside it that is written first, and where it stands.
+// The file that an option names, or the one beside it that is written first, and its place.
 fn output_of<'a, T: Files + AllocGlobal>(
     rt: &T,
     option: &'a str,

@@ -26,7 +26,7 @@ use std::time::Clock;
 // The byte that ends a line.
 const LINE_END: u8 = 10;
 
-// The most bytes that are read of the line of the sizes, where it stands before the rows of a file.
+// The most bytes that are read of the line of the sizes, where it comes before the rows of a file.
 const MAX_SIZES_LINE: usize = 65_537;
 
 /// Where the input of an engine comes from.

@@ -13,13 +13,13 @@ pub struct Source<'a> {
     pub input: Input<'a>,
     /// How many lines the file of the rows has, once all of them were read.
     pub rows: &'a Cell<Option<usize>>,
-    /// Where the records of a table of values stand, if the file of the rows is one.
+    /// The lines of a table's records, if the file of the rows is a table of values.
     pub records: &'a RecordLines,
     /// Whether a write found that no one reads the output any more.
     pub is_closed: &'a Cell<bool>,
 }
 
-/// Where a line stands.
+/// Where a line is.
 #[derive(Clone, Copy)]
 pub enum FaultPlace<'a> {
     /// The line of the input that has this number.

@@ -22,7 +22,7 @@ pub fn columns_of(rt: &(impl Env + AllocGlobal)) -> Option<usize> {
 
 /// Prints what `clap` says of a command line: a help text that was asked for to standard output, folded to so many
 /// columns, anything else to standard error. Gives the exit status, 0 after a help text that was printed, and 2 where it
-/// can't be, which standard error then tells, unless no one reads it.
+/// can't be, which standard error then says, unless no one reads it.
 pub fn print_usage<R: Print + Eprint + AllocGlobal>(
     rt: &R,
     error: &Error,
