@@ -51,8 +51,9 @@ pub enum WorkerEvent {
     SegmentComplete,
     /// A node has loaded a chunk.
     Loaded {
-        /// How many families the chunk had.
+        /// How many families the chunk had, and how many bytes these have.
         families: u64,
+        bytes: u64,
     },
     /// The worker has made this step, in which it did none of these.
     Made(NodeStep),

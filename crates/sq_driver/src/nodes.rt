@@ -215,11 +215,11 @@ fn try_step<T: Teller, R: Wait, G: Gate>(
         return Turn::Ended;
     }
     let receipts = node.receipts().len();
-    let loaded = node.effort().loaded;
+    let before = node.effort();
     if step_and_tell(rt, fabric, node, teller, step) != Stepped::Did {
         return Turn::Rested;
     }
-    gate.did(who, event_of(node, step, receipts, loaded));
+    gate.did(who, event_of(node, step, receipts, before));
     Turn::Worked
 }
 
@@ -244,8 +244,8 @@ fn step_and_tell<T: Teller, R: Wait>(
 }
 
 // What the gate hears of a step in which a node did something. Before the step the node had so many receipts, and had
-// loaded so many families.
-fn event_of(node: &Node, step: NodeStep, receipts: usize, loaded: u64) -> WorkerEvent {
+// done this.
+fn event_of(node: &Node, step: NodeStep, receipts: usize, before: Effort) -> WorkerEvent {
     if node.receipts().len() != receipts {
         return WorkerEvent::Answered(step);
     }
@@ -253,8 +253,11 @@ fn event_of(node: &Node, step: NodeStep, receipts: usize, loaded: u64) -> Worker
         return WorkerEvent::SegmentComplete;
     }
     if step == NodeStep::Load {
-        let families = node.effort().loaded.saturating_sub(loaded);
-        return WorkerEvent::Loaded { families };
+        let now = node.effort();
+        return WorkerEvent::Loaded {
+            families: now.loaded.saturating_sub(before.loaded),
+            bytes: now.loaded_bytes.saturating_sub(before.loaded_bytes),
+        };
     }
     WorkerEvent::Made(step)
 }

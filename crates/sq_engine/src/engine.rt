@@ -87,6 +87,8 @@ pub struct EngineServed {
     pub is_whole: bool,
     /// Whether the epoch ended since no thread could be had for a node, as in [`Served`].
     pub lacks_threads: bool,
+    /// How far its stage was as the epoch ended, by the reports of the workers.
+    pub progress: StageProgress,
 }
 
 impl Engine {
@@ -236,6 +238,8 @@ impl Engine {
         ensures not_served { IfErr result (KeepsHistoryAndJobs self) }
         ensures none_written { IfErr result (KeepsReceipts self) }
         ensures not_called { OnErr result (client.new ≡ client.old) }
+        ensures progress { IfOk result (λ served.
+            served.progress.complete ≤ served.progress.segments) }
     {
         let Engine { standing, pumps } = self;
         match resume(alloc, standing, pumps) {
@@ -247,11 +251,13 @@ impl Engine {
                         lacks_threads,
                     },
                 ) => {
+                    let progress = epoch.progress();
                     let standing = end_stage(rt, alloc, epoch, pumps);
                     Ok(EngineServed {
                         engine: Engine { standing, pumps },
                         is_whole,
                         lacks_threads,
+                        progress,
                     })
                 }
                 Err(epoch) => Err(Engine {

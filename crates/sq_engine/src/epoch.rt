@@ -129,6 +129,7 @@ impl Epoch {
             segments,
             complete: self.progress.complete.min(segments),
             moved: self.progress.moved,
+            moved_bytes: self.progress.moved_bytes,
         }
     }
 

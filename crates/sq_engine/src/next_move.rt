@@ -64,6 +64,7 @@ impl NextMove {
           segments = stage_segments self.now.opening.recon 0;
           complete = 0;
           moved = 0;
+          moved_bytes = 0;
         } }
     {
         StageProgress::at_start(stage_segments(self.opening.recon(), FIRST_STAGE))

@@ -107,12 +107,14 @@ impl Pause {
             ≡ stage_segments self.now.opening.recon self.now.gathered.stage }
         ensures complete { result.complete ≡ whole_segments self.now }
         ensures moved { result.moved ≡ 0 }
+        ensures moved_bytes { result.moved_bytes ≡ 0 }
     {
         let recon = self.opening.recon();
         StageProgress {
             segments: stage_segments(recon, self.gathered.stage),
             complete: whole_segments(recon, &self.gathered),
             moved: 0,
+            moved_bytes: 0,
         }
     }
 

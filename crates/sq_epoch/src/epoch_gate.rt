@@ -14,6 +14,7 @@ pub(crate) struct EpochGate {
     segments: u64,
     complete: AtomicU64,
     moved: AtomicU64,
+    moved_bytes: AtomicU64,
     answers: AtomicU64,
 }
 
@@ -28,6 +29,7 @@ impl EpochGate {
             segments: progress.segments,
             complete: AtomicU64::new(progress.complete),
             moved: AtomicU64::new(progress.moved),
+            moved_bytes: AtomicU64::new(progress.moved_bytes),
             answers: AtomicU64::new(0),
         }
     }
@@ -63,6 +65,7 @@ impl EpochGate {
             segments: self.segments,
             complete: self.complete.load(Ordering::SeqCst).min(self.segments),
             moved: self.moved.load(Ordering::SeqCst),
+            moved_bytes: self.moved_bytes.load(Ordering::SeqCst),
         }
     }
 
@@ -89,8 +92,9 @@ impl Gate for EpochGate {
                     self.end();
                 }
             }
-            WorkerEvent::Loaded { families } => {
+            WorkerEvent::Loaded { families, bytes } => {
                 self.moved.fetch_add(families, Ordering::SeqCst);
+                self.moved_bytes.fetch_add(bytes, Ordering::SeqCst);
             }
             WorkerEvent::Made(_) => {}
         }

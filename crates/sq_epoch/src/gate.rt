@@ -5,8 +5,8 @@ use sq_driver::{Gate, NodeStep, WorkerEvent, WorkerId};
 use std::sync::Wait;
 use std::sync::atomic::{AtomicBool, AtomicU64, Ordering};
 
-/// A gate before another gate, which counts the segments of a stage that are complete, and the families that were moved. Once
-/// all segments are, it ends workers that don't end where they are idle, so that the next stage can begin. And it ends all
+/// A gate before another gate, which counts the segments of a stage that are complete, and the families and bytes that were moved.
+/// Once all segments are, it ends workers that don't end where they are idle, so that the next stage can begin. And it ends all
 /// workers where one rests for some seconds while a node hasn't come, for want of a thread.
 #[derive(Drop)]
 pub struct CountingGate<'a, G> {
@@ -14,6 +14,7 @@ pub struct CountingGate<'a, G> {
     segments: u64,
     complete: AtomicU64,
     moved: AtomicU64,
+    moved_bytes: AtomicU64,
     nodes: Attendance,
     lacks_threads: AtomicBool,
 }
@@ -26,6 +27,7 @@ impl<'a, G: Gate> CountingGate<'a, G> {
             segments: progress.segments,
             complete: AtomicU64::new(progress.complete),
             moved: AtomicU64::new(progress.moved),
+            moved_bytes: AtomicU64::new(progress.moved_bytes),
             nodes: Attendance::new(parts),
             lacks_threads: AtomicBool::new(false),
         }
@@ -37,6 +39,7 @@ impl<'a, G: Gate> CountingGate<'a, G> {
             segments: self.segments,
             complete: self.complete.load(Ordering::SeqCst),
             moved: self.moved.load(Ordering::SeqCst),
+            moved_bytes: self.moved_bytes.load(Ordering::SeqCst),
         }
     }
 
@@ -61,8 +64,9 @@ impl<G: Gate> Gate for CountingGate<'_, G> {
             WorkerEvent::SegmentComplete => {
                 self.complete.fetch_add(1, Ordering::SeqCst);
             }
-            WorkerEvent::Loaded { families } => {
+            WorkerEvent::Loaded { families, bytes } => {
                 self.moved.fetch_add(families, Ordering::SeqCst);
+                self.moved_bytes.fetch_add(bytes, Ordering::SeqCst);
             }
             WorkerEvent::Answered(_) | WorkerEvent::Made(_) => {}
         }

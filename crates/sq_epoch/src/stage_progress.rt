@@ -8,26 +8,29 @@ use sq_node::Fabric;
 use sq_ranges::{Opening, Range, Recon};
 use sq_tree::NodeId;
 
-/// How many segments move in a stage, how many of them are complete, and how many families were moved.
+/// How many segments move in a stage, how many of them are complete, and how much was moved.
 #[derive(Clone, Copy, Debug, PartialEq, Eq)]
 pub struct StageProgress {
     /// How many move in the stage.
     pub segments: u64,
     /// How many of these are complete.
     pub complete: u64,
-    /// How many families its workers have loaded since its epoch began.
+    /// How many families its workers have loaded since its epoch began, and how many bytes these have.
     pub moved: u64,
+    pub moved_bytes: u64,
 }
 
 impl StageProgress {
     /// At the beginning of a stage in which so many segments move.
     pub fn at_start(segments: u64) -> StageProgress
-        ensures { result ≡ record { segments = segments; complete = 0; moved = 0 } }
+        ensures { result
+            ≡ record { segments = segments; complete = 0; moved = 0; moved_bytes = 0 } }
     {
         StageProgress {
             segments,
             complete: 0,
             moved: 0,
+            moved_bytes: 0,
         }
     }
 

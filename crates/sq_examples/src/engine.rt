@@ -184,6 +184,7 @@ fn serve_until<R: Threads + Wait + Sync>(
         engine,
         is_whole,
         lacks_threads,
+        ..
     } = engine.serve(rt, alloc, TURNS, broker).ok()?;
     if lacks_threads || !is_whole || engine.wants_page() {
         return None;

@@ -8,8 +8,9 @@ pub struct Effort {
     pub jobs: u64,
     /// For chunks that it cut or loaded.
     pub chunks: u64,
-    /// How many families it loaded.
+    /// How many families it loaded, and how many bytes these had.
     pub loaded: u64,
+    pub loaded_bytes: u64,
 }
 
 impl Effort {
@@ -18,6 +19,7 @@ impl Effort {
         jobs: 0,
         chunks: 0,
         loaded: 0,
+        loaded_bytes: 0,
     };
 
     /// Counts a job that was answered after so many operations, and two more, for its way there and its receipt.
@@ -45,10 +47,11 @@ impl Effort {
             .saturating_add(4);
     }
 
-    /// Counts a chunk of so many families that was loaded, like one that was cut.
-    pub(crate) fn add_load(&mut self, families: usize) {
+    /// Counts a chunk of so many families and bytes that was loaded, like one that was cut.
+    pub(crate) fn add_load(&mut self, families: usize, bytes: u64) {
         self.add_chunk(families);
         self.loaded = self.loaded.saturating_add(families as u64);
+        self.loaded_bytes = self.loaded_bytes.saturating_add(bytes);
     }
 
     fn add_jobs(&mut self, operations: u64) {

@@ -122,6 +122,7 @@ fn whole_engine(served: Result<EngineServed, Engine>) -> Result<Engine, ServeEnd
                 engine,
                 is_whole: true,
                 lacks_threads: false,
+                ..
             },
         ) => Ok(engine),
         Ok(_) | Err(_) => Err(ServeEnding::Memory),

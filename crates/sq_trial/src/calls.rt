@@ -93,6 +93,7 @@ fn serve<R: Threads + Wait + Sync>(
                 engine,
                 is_whole,
                 lacks_threads,
+                ..
             },
         ) => value_if(engine, check_served(is_whole, lacks_threads)),
         Err(engine) => value_if(engine, Err(Failure::Memory)),

@@ -132,10 +132,11 @@ impl Node {
             return Stepped::Memory;
         }
         let families = self.core.inbox(src).map_or(0, Chunk::len);
+        let bytes = self.core.inbox(src).map_or(0, bytes_of);
         let Ok(note) = self.core.load(src) else {
             return Stepped::Memory;
         };
-        self.effort.add_load(families);
+        self.effort.add_load(families, bytes);
         if note.last {
             self.to_complete.push_reserved((note.seg, note.node));
         }
@@ -170,4 +171,10 @@ impl Node {
     {
         self.core.may_load(src) && fabric.recon().stage_on(src, self.core.part()) == fabric.stage()
     }
+}
+
+// How many bytes the families of a chunk have.
+fn bytes_of(chunk: &Chunk) -> u64 {
+    let families = chunk.families().iter();
+    families.fold(0, |bytes: u64, family| bytes.saturating_add(family.size()))
 }
