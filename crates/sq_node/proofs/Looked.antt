@@ -1,10 +1,10 @@
 -- Looks at nodes, and what they leave as it was.
-use Rattle.std.proofs.Common.{◌≡◌, ℕ, ◌+◌, ◌*◌, ◌<◌, Bool, true, false, IsTrue, List, [], ◌∷◌, ◌++◌, length, get_or, Some, refl, sym, ap, ◌∙◌, subst, inl, inr, ⊎_elim, append_assoc, arith}
+use Rattle.std.proofs.Common.{◌≡◌, ℕ, ◌+◌, ◌*◌, ◌<◌, ◌≤◌, Bool, true, false, IsTrue, List, [], ◌∷◌, ◌++◌, length, get_or, Some, refl, sym, ap, ◌∙◌, subst, inl, inr, ⊎_elim, append_assoc, arith}
 use Rattle.std.specs.Prelude.{◌⊎◌, ◌≢◌, slice_get, slice_set, Result, Ok, Err, is_ok, MatchResult, MatchBool}
-use Rattle.std.proofs.lemmas.Bool.{eqb-true, lt-leb, cases_Bool}
-use Rattle.std.proofs.lemmas.List.{length-set}
+use Rattle.std.proofs.lemmas.Bool.{eqb-true, lt-leb, cases_Bool, cases_lt}
+use Rattle.std.proofs.lemmas.List.{length-set, length-map, get_or-map}
 use Rattle.std.proofs.lemmas.List.Elements.{Contains-append_right, Contains-append_left}
-use Rattle.std.proofs.lemmas.Option.{same_Some, slice_get_within, slice_get-get_or}
+use Rattle.std.proofs.lemmas.Option.{same_Some, slice_get_read, slice_get_within, slice_get-get_or}
 use Rattle.sq_tree.specs.declared.status.Status.{Status}
 use Rattle.sq_tree.specs.declared.status.Status.TheVariants.{Free, Split, Claimed, Partial, Complete}
 use Rattle.sq_tree.specs.declared.fault.BeginFault.{BeginFault}
@@ -223,3 +223,44 @@ settled_none old new looked s n settled =
       then = there;
       why = inl (settled_looked settled.0.view after.view n (looked.each s settled.0 after settled.1 there).1 settled.2);
     }
+
+pub same_again : (first second third : SeatValue) → IsSameSeat first second → IsSameSeat second third → IsSameSeat first third
+same_again first second third one two =
+    record {
+      tree = two.tree ∙ one.tree;
+      role = record {
+        first = two.role.first ∙ one.role.first;
+        spent = two.role.spent ∙ one.role.spent;
+        given = two.role.given ∙ one.role.given;
+        taken = two.role.taken ∙ one.role.taken;
+      };
+    }
+
+-- none of the nodes before a place is to be completed, and none of those up to it where its own isn't
+pub more_none : (nodes : List (ℕ × ℕ)) (at : ℕ) (pair : ℕ × ℕ) (old cur new : List SeatValue) → slice_get nodes at ≡ Some pair → SeatsLooked old cur → StepsAt pair.0 (λ v w. LooksOnly v pair.1 w) cur new
+    → ((place seg n : ℕ) → place < at → slice_get nodes place ≡ Some (seg, n) → HasNoneToComplete old cur seg n)
+    → (place seg n : ℕ) → place < at + 1 → slice_get nodes place ≡ Some (seg, n) → HasNoneToComplete old new seg n
+more_none nodes at pair old cur new there looked step none place seg n below stands =
+    ⊎_elim
+    (λ (before : place < at). none_still pair.1 pair.0 old cur new step seg n (none place seg n before stands))
+    (λ (here : at ≤ place).
+    let same : at ≡ place = omega arith in
+    let is : pair ≡ (seg, n) = same_Some pair (seg, n) (sym there ∙ ap (slice_get nodes) same ∙ stands) in
+    subst (λ (p : ℕ × ℕ). HasNoneToComplete old new p.0 p.1) is (none_now pair.1 pair.0 old cur new looked step))
+    (cases_lt place at)
+
+-- the node that was read stands at its place
+pub stands_at : (nodes now : List (ℕ × ℕ)) (at : ℕ) (pair : ℕ × ℕ) → now ≡ nodes → at < length nodes → pair ≡ get_or now at pair → slice_get nodes at ≡ Some pair
+stands_at nodes now at pair same within read = slice_get_read nodes (length nodes) at pair refl within (read ∙ ap (λ (xs : List (ℕ × ℕ)). get_or xs at pair) same)
+
+-- the seat at a segment's place is of the tree there
+pub of_its_tree : (trees : List TableId) (seats : List SeatValue) (seg i j : ℕ) (tree : TableId) (seat : SeatValue) → AreSeatsOf trees seats → seg < length trees → i ≡ seg → j ≡ seg
+    → tree ≡ get_or trees i tree → seat ≡ get_or seats j seat → seat.tree ≡ tree
+of_its_tree trees seats seg i j tree seat kept within i_is j_is tree_is seat_is =
+    let inside : seg < length seats = omega (arith, length-map seats (λ (s : SeatValue). s.tree), ap length kept) in
+    let same : j ≡ i = j_is ∙ sym i_is in
+    ap (λ (s : SeatValue). s.tree) (seat_is ∙ ap (λ (k : ℕ). get_or seats k seat) j_is)
+    ∙ sym (get_or-map (λ (s : SeatValue). s.tree) seats seg seat tree inside)
+    ∙ ap (λ (ts : List TableId). get_or ts seg tree) kept
+    ∙ ap (λ (k : ℕ). get_or trees k tree) (sym i_is)
+    ∙ sym tree_is

@@ -2,12 +2,11 @@
 ghost use Rattle.std.specs.Prelude.{◌≡◌, ℕ, ◌<◌, true, length, Contains, MatchBool, MatchOption, IfSome};
 ghost use Rattle.sq_tree.specs.declared.status.Status.TheVariants.{Partial};
 ghost use Rattle.sq_status.specs.Plays.{Won};
-ghost use Rattle.sq_status.specs.Seat.{IsSameSeat};
 ghost use Rattle.sq_exec.specs.Prelude.{begun_core};
 ghost use Rattle.sq_pull.specs.Seats.{AreSeatsOf, StepsAt};
 ghost use Rattle.sq_node.specs.NodeState.{IsNodeOf};
 ghost use Rattle.sq_node.specs.Holds.{DoesAndKeeps};
-ghost use Rattle.sq_node.specs.Looks.{OnlyLooked, LooksOnly, LooksAndCompletes, CompletesOne, CompletesNone};
+ghost use Rattle.sq_node.specs.Looks.{OnlyLooked, CompletesOne, CompletesNone};
 ghost use Rattle.sq_node.specs.Steps.{IsOutward, RequestStep, CompleteStep};
 
 use super::Node;
@@ -155,36 +154,15 @@ fn complete_first(
 {
     for at in 0..nodes.len() {
         let (seg, node) = nodes[at];
-        if complete_at(trees, seats, TreeNode { seg, node }) {
+        let tree = &trees[seg.index()];
+        let seat = &mut seats[seg.index()];
+        let Status::Partial(pull) = tree.look(seat, node) else {
+            continue;
+        };
+        if tree.complete(seat, node, pull).is_ok() {
             nodes.remove(at);
             return Some(seg);
         }
     }
     None
-}
-
-// Completes a node, if it is partial.
-fn complete_at(trees: &[StatusTree], seats: &mut Vec<TreeSeat>, at: TreeNode) -> bool
-    requires seats { AreSeatsOf trees.now seats.old.items }
-    requires segment { at.seg < length trees.now }
-    ensures seats { AreSeatsOf trees.now seats.new.items }
-    ensures step { MatchBool result
-        (StepsAt at.seg (λ v w. LooksAndCompletes v at.node w) seats.old.items seats.new.items)
-        (StepsAt at.seg (λ v w. LooksOnly v at.node w) seats.old.items seats.new.items) }
-{
-    let index = at.seg.index();
-    complete(&trees[index], &mut seats[index], at.node)
-}
-
-// The same in the node's tree.
-fn complete(tree: &StatusTree, seat: &mut TreeSeat, node: NodeId) -> bool
-    requires { seat.old.tree ≡ tree.now }
-    ensures seat { IsSameSeat seat.old seat.new }
-    ensures step { MatchBool result (LooksAndCompletes seat.old.view node seat.new.view)
-        (LooksOnly seat.old.view node seat.new.view) }
-{
-    let Status::Partial(pull) = tree.look(seat, node) else {
-        return false;
-    };
-    tree.complete(seat, node, pull).is_ok()
 }
