@@ -47,6 +47,11 @@ pub enum NodeStep {
 pub enum WorkerEvent {
     /// A node has written a receipt in this step.
     Answered(NodeStep),
+    /// A node has taken a job, which waits for rows from now on.
+    Waits {
+        /// The id of the job.
+        id: u64,
+    },
     /// A segment is complete: the partition that it moves to has completed the last of its tree nodes.
     SegmentComplete,
     /// A node has loaded a chunk.

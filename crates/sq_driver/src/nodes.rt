@@ -249,11 +249,14 @@ fn event_of(node: &Node, step: NodeStep, receipts: usize, before: Effort) -> Wor
     if node.receipts().len() != receipts {
         return WorkerEvent::Answered(step);
     }
+    let now = node.effort();
+    if now.waits != before.waits {
+        return WorkerEvent::Waits { id: now.last_wait };
+    }
     if step == NodeStep::Complete && node.completes_segment() {
         return WorkerEvent::SegmentComplete;
     }
     if step == NodeStep::Load {
-        let now = node.effort();
         return WorkerEvent::Loaded {
             families: now.loaded.saturating_sub(before.loaded),
             bytes: now.loaded_bytes.saturating_sub(before.loaded_bytes),

@@ -96,7 +96,7 @@ impl Gate for EpochGate {
                 self.moved.fetch_add(families, Ordering::SeqCst);
                 self.moved_bytes.fetch_add(bytes, Ordering::SeqCst);
             }
-            WorkerEvent::Made(_) => {}
+            WorkerEvent::Waits { .. } | WorkerEvent::Made(_) => {}
         }
     }
 

@@ -68,7 +68,7 @@ impl<G: Gate> Gate for CountingGate<'_, G> {
                 self.moved.fetch_add(families, Ordering::SeqCst);
                 self.moved_bytes.fetch_add(bytes, Ordering::SeqCst);
             }
-            WorkerEvent::Answered(_) | WorkerEvent::Made(_) => {}
+            WorkerEvent::Answered(_) | WorkerEvent::Waits { .. } | WorkerEvent::Made(_) => {}
         }
         self.gate.did(who, event);
     }

@@ -11,6 +11,10 @@ pub struct Effort {
     /// How many families it loaded, and how many bytes these had.
     pub loaded: u64,
     pub loaded_bytes: u64,
+    /// How many jobs it took that then waited for rows.
+    pub waits: u64,
+    /// The id of the last of these jobs; 0 where there is none.
+    pub last_wait: u64,
 }
 
 impl Effort {
@@ -20,6 +24,8 @@ impl Effort {
         chunks: 0,
         loaded: 0,
         loaded_bytes: 0,
+        waits: 0,
+        last_wait: 0,
     };
 
     /// Counts a job that was answered after so many operations, and two more, for its way there and its receipt.
@@ -28,10 +34,12 @@ impl Effort {
         self.add_jobs(operations as u64);
     }
 
-    /// Counts a job of so many operations that waits, by an eighth of them, for its copy, and two more.
-    pub(crate) fn add_wait(&mut self, operations: usize) {
+    /// Counts a job of this id and so many operations that waits, by an eighth of them, for its copy, and two more.
+    pub(crate) fn add_wait(&mut self, id: u64, operations: usize) {
         self.add_jobs(2);
         self.add_jobs(operations as u64 / 8);
+        self.waits = self.waits.saturating_add(1);
+        self.last_wait = id;
     }
 
     /// Counts a job that is posted on, as two operations.

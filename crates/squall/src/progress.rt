@@ -86,7 +86,7 @@ impl<E: Eprint + Clock + Sync> Gate for Progress<'_, E> {
             WorkerEvent::Answered(_) => self.add(&self.answered, 1),
             WorkerEvent::SegmentComplete => self.add(&self.complete, 1),
             WorkerEvent::Loaded { families, .. } => self.add(&self.moved, families),
-            WorkerEvent::Made(_) => {}
+            WorkerEvent::Waits { .. } | WorkerEvent::Made(_) => {}
         }
     }
 }

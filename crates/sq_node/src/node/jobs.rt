@@ -45,7 +45,7 @@ impl Node {
                 self.desk.post(rt, fabric, to, job);
             }
             Outcome::Waits(seg, leaf) => {
-                self.effort.add_wait(job.ops().len());
+                self.effort.add_wait(job.id(), job.ops().len());
                 drop(job);
                 let shared = fabric.shared();
                 let _ = self

@@ -101,7 +101,7 @@ impl Gate for Recorder {
                 }
             }
             WorkerEvent::SegmentComplete => self.hear(who, SEGMENT),
-            WorkerEvent::Loaded { .. } | WorkerEvent::Made(_) => {}
+            WorkerEvent::Loaded { .. } | WorkerEvent::Waits { .. } | WorkerEvent::Made(_) => {}
         }
     }
 }
@@ -303,7 +303,7 @@ impl Gate for Counter {
             WorkerEvent::SegmentComplete => {
                 self.complete.fetch_add(1, Ordering::SeqCst);
             }
-            WorkerEvent::Loaded { .. } | WorkerEvent::Made(_) => {}
+            WorkerEvent::Loaded { .. } | WorkerEvent::Waits { .. } | WorkerEvent::Made(_) => {}
         }
     }
 }
