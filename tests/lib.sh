@@ -157,13 +157,11 @@ try_readme() {
     count answers_as_they_are_told "$(difference "$examples/first-move.out" "$room/told")"
 }
 
-# Each block of code in docs/guide/library.md stands in a caller of the library: the first in the one, the second in the one that
-# embeds threads, the third and fourth in that of an engine.
+# Each block of code in docs/guide/library.md is in a caller of the library: the first in that of a world, the second in that of an
+# engine.
 try_library() {
     try_block 1 code_as_it_is_told crates/sq_examples/src/world.rt
-    try_block 2 code_of_threads_as_it_is_told crates/sq_examples/src/threads.rt
-    try_block 3 code_of_an_engine_as_it_is_told crates/sq_examples/src/engine.rt
-    try_block 4 code_of_a_client_as_it_is_told crates/sq_examples/src/engine/broker.rt
+    try_block 2 code_of_an_engine_as_it_is_told crates/sq_examples/src/engine.rt
 }
 
 # try_block NUMBER NAME FILE: whether the block of this number isn't empty and stands in the file, line by line.

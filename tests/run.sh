@@ -46,8 +46,8 @@ compare() {
     judge "$1" "$3" "$room/wanted" "$room/said"
 }
 
-# What is told of a number is of one table: the texts of faults in tests/texts, the table of docs/guide/numbers.md, and what
-# 'squall explain' tells of each number alone.
+# What is told of a number is of one table: the texts of faults in tests/texts, and what 'squall explain' tells of each number
+# alone. The case usage/explain has the whole table.
 try_numbers() {
     local number text
     give /dev/null explain
@@ -58,10 +58,6 @@ try_numbers() {
         cat "$room/out" >> "$room/one_by_one"
     done < <(grep '^[0-9]' "$room/all")
     count numbers_one_by_one "$(difference "$room/all" "$room/one_by_one")"
-    awk '/^[0-9]/ { number = $1; sub(/^[0-9]+ /, ""); meaning = $0; getline; sub(/^ +/, ""); print "| " number " | " meaning " | " $0 " |" }' \
-        "$room/all" > "$room/wanted"
-    sed -n '/^## Numbers/,/^## How/p' "$top/docs/guide/numbers.md" | grep '^| [0-9]' > "$room/told"
-    count numbers_as_they_are_told "$(difference "$room/wanted" "$room/told")"
     grep '^[0-9]' "$room/all" > "$room/meanings"
     while read -r number text; do
         case $text in
