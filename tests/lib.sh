@@ -135,20 +135,13 @@ try_pages() {
     try_drawings
 }
 
-# The tour has two walks.
+# The walk of the tour is a case: the lines of its blocks that begin with '> ' are the input, and the others the output.
 try_tour() {
     local page=$top/docs/guide/tour.md
-    walk tour "$(sed '/^## A second walk/,$d' "$page")"
-    walk tour_in_stages "$(sed -n '/^## A second walk/,$p' "$page")"
-}
-
-# walk NAME TEXT: a walk of the tour is a case: the lines of its blocks that begin with '> ' are the input, and the others the
-# output.
-walk() {
-    sed -n 's/^    > //p' <<< "$2" > "$room/in"
-    sed -n '/^    > /d; s/^    //p' <<< "$2" > "$room/out"
-    count "$1_as_it_is_told" \
-        "$(difference "$tests/cases/run/$1/in" "$room/in"; difference "$tests/cases/run/$1/out" "$room/out")"
+    sed -n 's/^    > //p' "$page" > "$room/in"
+    sed -n '/^    > /d; s/^    //p' "$page" > "$room/out"
+    count tour_as_it_is_told \
+        "$(difference "$tests/cases/run/tour/in" "$room/in"; difference "$tests/cases/run/tour/out" "$room/out")"
 }
 
 # The answers in the README are those of its first example.
