@@ -104,11 +104,20 @@ fn serve_one_epoch<T: Threads + Wait + Sync, W: Write + Drop, V: ServeWatch>(
         audit: _,
         mut marks,
     } = control;
-    // Its client isn't asked to end an epoch whose stage is done.
-    marks.end();
+    mark_served(&mut marks, &served);
     ServiceStep {
         desk,
         engine: whole_engine(served),
+    }
+}
+
+// Marks what is not marked of an epoch that was served.
+fn mark_served<V: ServeWatch>(
+    marks: &mut EpochMarks<'_, V>,
+    served: &Result<EngineServed, Engine>,
+) {
+    if let Ok(served) = served {
+        marks.end_served(served.progress);
     }
 }
 
