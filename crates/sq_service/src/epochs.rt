@@ -78,7 +78,10 @@ fn unless_ended(
 {
     match entered {
         Ok(()) => engine,
-        Err(ending) => Err(ending),
+        Err(ending) => {
+            drop(engine);
+            Err(ending)
+        }
     }
 }
 
@@ -134,7 +137,14 @@ fn whole_engine(served: Result<EngineServed, Engine>) -> Result<Engine, ServeEnd
                 ..
             },
         ) => Ok(engine),
-        Ok(_) | Err(_) => Err(ServeEnding::Memory),
+        Ok(served) => {
+            drop(served);
+            Err(ServeEnding::Memory)
+        }
+        Err(engine) => {
+            drop(engine);
+            Err(ServeEnding::Memory)
+        }
     }
 }
 

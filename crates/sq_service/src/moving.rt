@@ -46,7 +46,10 @@ fn refuse_move<W: Write + Drop>(
             desk.say_refused(fault.number());
             Ok(engine)
         }
-        NotMoved::Moving | NotMoved::Memory => Err(ServeEnding::Memory),
+        NotMoved::Moving | NotMoved::Memory => {
+            drop(engine);
+            Err(ServeEnding::Memory)
+        }
     }
 }
 
@@ -69,7 +72,10 @@ fn tell_begun<W: Write + Drop, V: ServeWatch>(
     tell_moving(desk, progress);
     match note_rest(&engine, desk, watch) {
         Ok(()) => Ok(engine),
-        Err(ending) => Err(ending),
+        Err(ending) => {
+            drop(engine);
+            Err(ending)
+        }
     }
 }
 

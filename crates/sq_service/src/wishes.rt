@@ -30,11 +30,15 @@ pub(crate) fn go_on<T: Threads + Wait + Sync, W: Write + Drop, V: ServeWatch>(
         book.new result (desk_value W.contents desk.new) }
 {
     if let Some(ending) = desk.stop_ending() {
+        drop(engine);
         return Err(ending);
     }
     match note_rest(&engine, desk, watch) {
         Ok(()) => page_or_wish(rt, alloc, engine, desk, watch, book),
-        Err(ending) => Err(ending),
+        Err(ending) => {
+            drop(engine);
+            Err(ending)
+        }
     }
 }
 
@@ -122,6 +126,9 @@ fn take_page<T: Threads + Wait + Sync, W: Write + Drop>(
             book.put_due(PageToAudit { page, is_asked });
             Ok(engine)
         }
-        Err(_) => Err(ServeEnding::Memory),
+        Err(refused) => {
+            drop(refused);
+            Err(ServeEnding::Memory)
+        }
     }
 }
