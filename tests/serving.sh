@@ -259,9 +259,8 @@ served_slow_client() {
     count 'serve: a client that reads late' "$([ "$ended" = 0 ] || echo "status $ended; ")$(difference "$room/wanted" "$room/told")$(cat "$room/err")"
 }
 
-# What an engine did: each answer is in one interval, no more families moved than there are, and the account has the same. No report is
-# written over what is read, standard input too, nor over another one. The move is of 2,000 chunks: one that is over before the client of
-# its epoch is asked for the first time stands in no report.
+# What an engine did: each answer is in one interval, and each of the 2,000 families, of 56 bytes each; the account has the same. No
+# report is written over what is read, standard input too, nor over another one.
 served_reports() {
     local longest text
     {
@@ -274,14 +273,15 @@ served_reports() {
     } > "$room/jobs"
     give "$room/jobs" serve --timeline "$room/line.csv" --summary-out "$room/account"
     awk -F, 'NR == 1 { print; last = -1; next }
-        NF != 7 || $1 % 10 != 0 || $1 <= last || $3 > $4 || $4 > $5 || ($2 > 0) != ($5 != "") { print "line " NR ": " $0 }
-        { last = $1; answered += $2; moved += $6 }
-        END { print answered, (moved > 2000 ? "families " moved : "answers") }' "$room/line.csv" > "$room/told"
+        NF != 8 || $1 % 10 != 0 || $1 <= last || $3 > $4 || $4 > $5 || ($2 > 0) != ($5 != "") { print "line " NR ": " $0 }
+        { last = $1; answered += $2; families += $6; bytes += $7 }
+        END { print answered, families, bytes }' "$room/line.csv" > "$room/told"
     longest=$(awk -F, 'NR > 1 && $5 > most { most = $5 } END { print most + 0 }' "$room/line.csv")
     sed 's/^epochs: [0-9]*, longest pause [0-9]* us, all pauses [0-9]* us$/epochs/
-        s/families [0-9]*, from [0-9]* to [0-9]* us, committed [0-9]*, aborted [0-9]*, longest wait [0-9]* us$/.. us/' "$room/account" >> "$room/told"
-    printf '%s\n' 'milliseconds,answered,median,p99,longest,families,segments' '101 answers' \
-        "jobs: committed 100, aborted 1, longest wait $longest us" 'epochs' 'move: segments 1, .. us' > "$room/wanted"
+        s/from [0-9]* to [0-9]* us, committed [0-9]*, aborted [0-9]*, longest wait [0-9]* us$/.. us/' "$room/account" >> "$room/told"
+    printf '%s\n' 'milliseconds,answered,median,p99,longest,families,bytes,segments' '101 2000 112000' \
+        "jobs: committed 100, aborted 1, longest wait $longest us" 'epochs' \
+        'move: segments 1, families 2000, bytes 112000, .. us' > "$room/wanted"
     count 'serve: reports' "$([ "$ended" = 0 ] || echo "status $ended; ")$(difference "$room/wanted" "$room/told")"
     : > "$room/wanted"
     for text in "$room/jobs" /dev/null; do
@@ -295,6 +295,17 @@ served_reports() {
     give "$room/jobs" serve --timeline "$room/none/line.csv"
     echo "squall: the file '$room/none/line.csv' can't be written: No such file or directory (os error 2)" > "$room/said"
     count 'serve: a report that can not be written' "$([ "$ended" = 2 ] || echo "status $ended; ")$(difference "$room/said" "$room/err")"
+}
+
+# Moves of one family there and back, and one of none, which may be over before a job is wanted: each has its line.
+served_short_moves() {
+    { opening; printf 'move %s\n' "$four_at_1" "$four_at_1" "$all_at_0"; } > "$room/jobs"
+    give "$room/jobs" serve --timeline "$room/line.csv" --summary-out "$room/account"
+    sed -n 's/, from .*//p' "$room/account" > "$room/told"
+    awk -F, 'NR > 1 { families += $6; bytes += $7 } END { print families, bytes }' "$room/line.csv" >> "$room/told"
+    printf '%s\n' 'move: segments 1, families 1, bytes 56' 'move: segments 0, families 0, bytes 0' \
+        'move: segments 1, families 1, bytes 56' '2 112' > "$room/wanted"
+    count 'serve: reports of short moves' "$([ "$ended" = 0 ] || echo "status $ended; ")$(difference "$room/wanted" "$room/told")"
 }
 
 # A closed output ends the engine at once, also while its input is silent; and so does a full device.
@@ -330,4 +341,5 @@ try_serve() {
     served_many_lines
     served_slow_client
     served_reports
+    served_short_moves
 }

@@ -7,17 +7,22 @@ use std::io;
 /// What is done by an engine that is served.
 #[derive(Clone, Copy, Debug, PartialEq, Eq)]
 pub enum ServeMark {
-    /// An epoch begins: in a move of so many segments, or at rest.
-    EpochBegins {
-        segments: Option<u64>,
+    /// A move of so many segments begins.
+    MoveBegins {
+        segments: u64,
     },
+    /// It is done.
+    MoveEnds,
+    /// An epoch begins.
+    EpochBegins,
     /// So many segments of its stage are complete.
     SegmentsComplete {
         complete: u64,
     },
-    /// So many families more were moved in it.
+    /// So many families more were moved in it, of so many bytes.
     FamiliesMoved {
         families: u64,
+        bytes: u64,
     },
     /// It is to end.
     EpochEnds,

@@ -17,9 +17,10 @@ spread_fields None = codes ",,,"
 spread_fields (Some s) =
     concat (decimal s.median ∷ codes "," ∷ decimal s.p99 ∷ codes "," ∷ decimal s.longest ∷ codes "," ∷ [])
 
--- how many families were moved, and how many segments were complete
+-- how many families and bytes were moved, and how many segments were complete
 abbrev pub progress_text : IntervalFigures → List ℕ
-progress_text i = concat (decimal i.families ∷ codes "," ∷ decimal i.complete ∷ codes "\n" ∷ [])
+progress_text i =
+    concat (decimal i.moved.families ∷ codes "," ∷ decimal i.moved.bytes ∷ codes "," ∷ decimal i.complete ∷ codes "\n" ∷ [])
 
 -- the line of an interval
 abbrev pub interval_line : IntervalFigures → List ℕ
@@ -27,7 +28,7 @@ interval_line i = interval_front i ++ (spread_fields i.waits ++ progress_text i)
 
 -- the heading, and the line of each interval
 abbrev pub interval_heading : List ℕ
-interval_heading = codes "milliseconds,answered,median,p99,longest,families,segments\n"
+interval_heading = codes "milliseconds,answered,median,p99,longest,families,bytes,segments\n"
 
 abbrev pub interval_lines : List IntervalFigures → List ℕ
 interval_lines intervals = interval_heading ++ flat_map interval_line intervals
@@ -54,8 +55,8 @@ epochs_line t =
 -- how much moved and when, and the jobs that were answered meanwhile
 abbrev pub move_front : MoveTally → List ℕ
 move_front t =
-    concat (codes "move: segments " ∷ decimal t.segments ∷ codes ", families " ∷ decimal t.families
-    ∷ codes ", from " ∷ decimal t.began ∷ codes " to " ∷ decimal t.done ∷ codes " us, " ∷ [])
+    concat (codes "move: segments " ∷ decimal t.segments ∷ codes ", families " ∷ decimal t.moved.families
+    ∷ codes ", bytes " ∷ decimal t.moved.bytes ∷ codes ", from " ∷ decimal t.began ∷ codes " to " ∷ decimal t.done ∷ codes " us, " ∷ [])
 
 unfoldable pub move_report_line : MoveTally → List ℕ
 move_report_line t = move_front t ++ jobs_text t.answers

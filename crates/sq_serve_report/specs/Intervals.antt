@@ -3,6 +3,7 @@ use Rattle.std.specs.Prelude.{◌≡◌, ◌⊎◌, ℕ, ◌+◌, List, [], ◌�
 use Rattle.sq_summary.specs.Spreads.{IsSpreadOf}
 use Rattle.sq_serve.specs.declared.watch.ServeMark.{ServeMark}
 use Rattle.sq_serve.specs.declared.watch.ServeMark.TheVariants.{JobAnswered}
+use Rattle.sq_serve_report.specs.declared.tallies.MovedTally.{MovedTally}
 use Rattle.sq_serve_report.specs.declared.intervals.IntervalFigures.{IntervalFigures}
 use Rattle.sq_serve_report.specs.declared.intervals.Intervals.{Intervals}
 
@@ -19,16 +20,16 @@ abbrev pub answers_recorded : Intervals → ℕ
 answers_recorded intervals = answered_over intervals.over.items + length intervals.waits.items
 
 -- these are the figures of an interval in which jobs were answered that had waited so long
-pub record IsIntervalOf (number : ℕ) (waits : List ℕ) (families complete : ℕ) (figures : IntervalFigures) : Type 0 where
+pub record IsIntervalOf (number : ℕ) (waits : List ℕ) (moved : MovedTally) (complete : ℕ) (figures : IntervalFigures) : Type 0 where
   pub number_is : figures.number ≡ number
   pub answered_is : figures.answered ≡ length waits
   pub spread : IsSpreadOf waits figures.waits
-  pub families_are : figures.families ≡ families
+  pub moved_is : figures.moved ≡ moved
   pub complete_is : figures.complete ≡ complete
 
 -- the running interval has ended: its figures are behind those before, unless nothing was answered or moved in it
 abbrev pub EndsInterval : Intervals → Intervals → Type 0
 EndsInterval old new =
-    ((new.over.items ≡ old.over.items) × (old.waits.items ≡ []) × (old.families ≡ 0))
+    ((new.over.items ≡ old.over.items) × (old.waits.items ≡ []) × (old.moved.families ≡ 0))
     ⊎ ((figures : IntervalFigures) × (new.over.items ≡ old.over.items ++ figures ∷ [])
-    × IsIntervalOf old.number old.waits.items old.families old.complete figures)
+    × IsIntervalOf old.number old.waits.items old.moved old.complete figures)

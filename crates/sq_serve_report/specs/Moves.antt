@@ -1,8 +1,8 @@
 -- The moves of an engine while it was served.
 use Rattle.std.specs.Prelude.{◌≡◌, ℕ, List, [], ◌∷◌, ◌++◌, Option, Some, None, option_map}
 use Rattle.sq_serve.specs.declared.watch.ServeMark.{ServeMark}
-use Rattle.sq_serve.specs.declared.watch.ServeMark.TheVariants.{EpochBegins, FamiliesMoved}
-use Rattle.sq_serve_report.specs.Tallies.{capped_sum, answers_noted}
+use Rattle.sq_serve.specs.declared.watch.ServeMark.TheVariants.{MoveBegins, MoveEnds}
+use Rattle.sq_serve_report.specs.Tallies.{answers_noted, moved_noted}
 use Rattle.sq_serve_report.specs.declared.moves.MoveTally.{MoveTally}
 use Rattle.sq_serve_report.specs.declared.moves.MoveRecord.{MoveRecord}
 
@@ -10,7 +10,7 @@ use Rattle.sq_serve_report.specs.declared.moves.MoveRecord.{MoveRecord}
 abbrev pub move_begun : ℕ → ℕ → MoveTally
 move_begun segments micros = record {
   segments = segments;
-  families = 0;
+  moved = record { families = 0; bytes = 0 };
   began = micros;
   done = micros;
   answers = record { committed = 0; aborted = 0; longest = 0 };
@@ -18,13 +18,8 @@ move_begun segments micros = record {
 
 -- what is known of the running move after a mark, where a job that it answers has waited so long
 abbrev pub move_noted : MoveTally → ServeMark → ℕ → MoveTally
-move_noted t (FamiliesMoved families) wait = record t { families = capped_sum t.families families }
-move_noted t mark wait = record t { answers = answers_noted t.answers mark wait }
-
--- the running move, or else one that begins at this time
-abbrev pub running_or_begun : Option MoveTally → ℕ → ℕ → MoveTally
-running_or_begun None segments micros = move_begun segments micros
-running_or_begun (Some running) segments micros = running
+move_noted t mark wait =
+    record t { moved = moved_noted t.moved mark; answers = answers_noted t.answers mark wait }
 
 -- the moves that are done once the running one is, at this time
 abbrev pub done_with : List MoveTally → Option MoveTally → ℕ → List MoveTally
@@ -36,16 +31,16 @@ abbrev pub EndsMove : MoveRecord → ℕ → MoveRecord → Type 0
 EndsMove old micros new =
     (new.done.items ≡ done_with old.done.items old.running micros) × (new.running ≡ None)
 
--- what an epoch that begins makes of the moves: in a move of so many segments, or at rest
-abbrev pub BeginsEpoch : MoveRecord → Option ℕ → ℕ → MoveRecord → Type 0
-BeginsEpoch old None micros new = EndsMove old micros new
-BeginsEpoch old (Some segments) micros new =
-    (new.done.items ≡ old.done.items)
-    × (new.running ≡ Some (running_or_begun old.running segments micros))
+-- a move of so many segments begins at this time, where one that runs ends
+abbrev pub BeginsMove : MoveRecord → ℕ → ℕ → MoveRecord → Type 0
+BeginsMove old segments micros new =
+    (new.done.items ≡ done_with old.done.items old.running micros)
+    × (new.running ≡ Some (move_begun segments micros))
 
 -- the moves after a mark that is made at this time
 abbrev pub NotesMove : MoveRecord → ServeMark → ℕ → ℕ → MoveRecord → Type 0
-NotesMove old (EpochBegins segments) micros wait new = BeginsEpoch old segments micros new
+NotesMove old (MoveBegins segments) micros wait new = BeginsMove old segments micros new
+NotesMove old MoveEnds micros wait new = EndsMove old micros new
 NotesMove old mark micros wait new =
     (new.done.items ≡ old.done.items)
     × (new.running ≡ option_map (λ running. move_noted running mark wait) old.running)

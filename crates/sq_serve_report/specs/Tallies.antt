@@ -1,8 +1,9 @@
 -- What is counted of an engine while it is served.
 use Rattle.std.specs.Prelude.{ℕ, ◌+◌, ◌-◌, ◌^◌, Bool, true, false, Option, Some, None, min, max}
 use Rattle.sq_serve.specs.declared.watch.ServeMark.{ServeMark}
-use Rattle.sq_serve.specs.declared.watch.ServeMark.TheVariants.{EpochBegins, EpochEnds, JobAnswered}
+use Rattle.sq_serve.specs.declared.watch.ServeMark.TheVariants.{EpochBegins, EpochEnds, FamiliesMoved, JobAnswered}
 use Rattle.sq_serve_report.specs.declared.tallies.AnswerTally.{AnswerTally}
+use Rattle.sq_serve_report.specs.declared.tallies.MovedTally.{MovedTally}
 use Rattle.sq_serve_report.specs.declared.tallies.EpochTally.{EpochTally}
 
 -- a sum, or the greatest number of 64 bits
@@ -20,6 +21,12 @@ answer_counted t false wait =
 abbrev pub answers_noted : AnswerTally → ServeMark → ℕ → AnswerTally
 answers_noted t (JobAnswered part id is_commit) wait = answer_counted t is_commit wait
 answers_noted t mark wait = t
+
+-- the tally of what was moved after a mark
+abbrev pub moved_noted : MovedTally → ServeMark → MovedTally
+moved_noted t (FamiliesMoved families bytes) =
+    record { families = capped_sum t.families families; bytes = capped_sum t.bytes bytes }
+moved_noted t mark = t
 
 -- how long a pause took that ends at this time
 abbrev pub pause_since : Option ℕ → ℕ → ℕ
@@ -43,6 +50,6 @@ epoch_begun t micros =
 
 -- the tally of epochs after a mark that is made at this time
 abbrev pub epochs_noted : EpochTally → ServeMark → ℕ → EpochTally
-epochs_noted t (EpochBegins segments) micros = epoch_begun t micros
+epochs_noted t EpochBegins micros = epoch_begun t micros
 epochs_noted t EpochEnds micros = epoch_ended t micros
 epochs_noted t mark micros = t

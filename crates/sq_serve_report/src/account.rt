@@ -6,14 +6,14 @@ ghost use Rattle.sq_serve_report.specs.Account.{account_text, epochs_line, inter
 
 use crate::intervals::IntervalFigures;
 use crate::moves::MoveTally;
-use crate::tallies::{AnswerTally, EpochTally};
+use crate::tallies::{AnswerTally, EpochTally, MovedTally};
 use sq_summary::Spread;
 use std::io;
 use std::io::Write;
 
 /// Writes a heading, and a line for each interval: when it began, in milliseconds, how many jobs were answered in it, the
 /// median, the 99th in a hundred and the longest of their waits in microseconds, which are empty where there is none, how many
-/// families were moved in it, and how many segments of the running stage were complete.
+/// families and bytes were moved in it, and how many segments of the running stage were complete.
 pub(crate) fn write_interval_lines<W: Write>(
     writer: &mut W,
     intervals: &[IntervalFigures],
@@ -23,7 +23,7 @@ pub(crate) fn write_interval_lines<W: Write>(
 {
     writeln!(
         writer,
-        "milliseconds,answered,median,p99,longest,families,segments"
+        "milliseconds,answered,median,p99,longest,families,bytes,segments"
     )?;
     for interval in intervals {
         write_interval(writer, *interval)?;
@@ -73,11 +73,12 @@ fn write_progress<W: Write>(writer: &mut W, interval: IntervalFigures) -> io::Re
         (progress_text interval)) }
 {
     let IntervalFigures {
-        families,
+        moved,
         complete,
         ..
     } = interval;
-    writeln!(writer, "{families},{complete}")
+    let MovedTally { families, bytes } = moved;
+    writeln!(writer, "{families},{bytes},{complete}")
 }
 
 /// Writes an account that has these parts.
@@ -178,13 +179,14 @@ fn write_move_front<W: Write>(writer: &mut W, tally: MoveTally) -> io::Result<()
 {
     let MoveTally {
         segments,
-        families,
+        moved,
         began,
         done,
         ..
     } = tally;
+    let MovedTally { families, bytes } = moved;
     write!(
         writer,
-        "move: segments {segments}, families {families}, from {began} to {done} us, "
+        "move: segments {segments}, families {families}, bytes {bytes}, from {began} to {done} us, "
     )
 }

@@ -2,6 +2,7 @@
 ghost use Rattle.std.specs.Prelude.{◌≡◌, ◌+◌, OnOk};
 ghost use Rattle.sq_serve_report.specs.Intervals.{answers_in, answers_recorded, IsIntervalOf, EndsInterval};
 
+use crate::tallies::MovedTally;
 use sq_serve::ServeMark;
 use sq_summary::{Spread, spread_of};
 use std::alloc::{AllocError, Global};
@@ -19,8 +20,8 @@ pub(crate) struct IntervalFigures {
     pub(crate) answered: u64,
     /// How long these waited.
     pub(crate) waits: Option<Spread>,
-    /// How many families were moved in it.
-    pub(crate) families: u64,
+    /// What was moved in it.
+    pub(crate) moved: MovedTally,
     /// How many segments of the running stage were complete at its end.
     pub(crate) complete: u64,
 }
@@ -31,9 +32,9 @@ pub(crate) struct Intervals {
     pub(crate) over: Vec<IntervalFigures>,
     alloc: Global,
     number: u64,
-    // How long the jobs waited that were answered in the running one, and how many families were moved in it.
+    // How long the jobs waited that were answered in the running one, and what was moved in it.
     waits: Vec<u64>,
-    families: u64,
+    moved: MovedTally,
     complete: u64,
 }
 
@@ -45,7 +46,7 @@ impl Intervals {
             alloc,
             number: 0,
             waits: Vec::new(alloc),
-            families: 0,
+            moved: MovedTally::NONE,
             complete: 0,
         }
     }
@@ -69,12 +70,12 @@ impl Intervals {
         ensures answered { OnOk result (answers_recorded self.new ≡ answers_recorded self.old) }
     {
         let waits = mem::replace(&mut self.waits, Vec::new(self.alloc));
-        let families = mem::replace(&mut self.families, 0);
-        if waits.is_empty() && families == 0 {
+        let moved = mem::replace(&mut self.moved, MovedTally::NONE);
+        if waits.is_empty() && moved.families == 0 {
             return Ok(());
         }
         self.over
-            .push(figures_of(self.number, waits, families, self.complete))?;
+            .push(figures_of(self.number, waits, moved, self.complete))?;
         Ok(())
     }
 
@@ -94,29 +95,27 @@ impl Intervals {
     fn enter(&mut self, mark: &ServeMark, wait: u64) -> Result<(), AllocError>
         ensures { OnOk result (answers_recorded self.new ≡ answers_recorded self.old + answers_in mark.now) }
     {
+        self.moved = self.moved.noted(mark);
         match *mark {
             ServeMark::JobAnswered { .. } => self.waits.push(wait)?,
-            ServeMark::FamiliesMoved { families } => {
-                self.families = self.families.saturating_add(families);
-            }
             ServeMark::SegmentsComplete { complete } => self.complete = complete,
-            ServeMark::EpochBegins { .. } => self.complete = 0,
-            ServeMark::EpochEnds | ServeMark::JobOffered { .. } => {}
+            ServeMark::EpochBegins => self.complete = 0,
+            _ => {}
         }
         Ok(())
     }
 }
 
 // The figures of the interval with this number, in which jobs were answered that had waited so long.
-fn figures_of(number: u64, waits: Vec<u64>, families: u64, complete: u64) -> IntervalFigures
-    ensures { IsIntervalOf number waits.items families complete result }
+fn figures_of(number: u64, waits: Vec<u64>, moved: MovedTally, complete: u64) -> IntervalFigures
+    ensures { IsIntervalOf number waits.items moved complete result }
 {
     let answered = waits.len() as u64;
     IntervalFigures {
         number,
         answered,
         waits: spread_of(waits),
-        families,
+        moved,
         complete,
     }
 }

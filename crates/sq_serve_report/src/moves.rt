@@ -1,17 +1,18 @@
 // The moves of an engine while it was served.
 ghost use Rattle.std.specs.Prelude.{◌≡◌, OnOk, option_map};
-ghost use Rattle.sq_serve_report.specs.Moves.{move_begun, move_noted, EndsMove, BeginsEpoch, NotesMove};
+ghost use Rattle.sq_serve_report.specs.Moves.{move_begun, move_noted, EndsMove, BeginsMove, NotesMove};
 
-use crate::tallies::AnswerTally;
+use crate::tallies::{AnswerTally, MovedTally};
 use sq_serve::ServeMark;
 use std::alloc::{AllocError, Global};
 
 /// What was done while rows moved.
 #[derive(Clone, Copy)]
 pub(crate) struct MoveTally {
-    /// How many segments and families moved.
+    /// How many segments moved.
     pub(crate) segments: u64,
-    pub(crate) families: u64,
+    /// What moved.
+    pub(crate) moved: MovedTally,
     /// When it began and when it was done, in microseconds.
     pub(crate) began: u64,
     pub(crate) done: u64,
@@ -26,7 +27,7 @@ impl MoveTally {
     {
         MoveTally {
             segments,
-            families: 0,
+            moved: MovedTally::NONE,
             began: micros,
             done: micros,
             answers: AnswerTally::NONE,
@@ -37,15 +38,10 @@ impl MoveTally {
     fn noted(self, mark: &ServeMark, wait: u64) -> MoveTally
         ensures { result ≡ move_noted self mark.now wait }
     {
-        match *mark {
-            ServeMark::FamiliesMoved { families } => MoveTally {
-                families: self.families.saturating_add(families),
-                ..self
-            },
-            _ => MoveTally {
-                answers: self.answers.noted(mark, wait),
-                ..self
-            },
+        MoveTally {
+            moved: self.moved.noted(mark),
+            answers: self.answers.noted(mark, wait),
+            ..self
         }
     }
 }
@@ -76,7 +72,8 @@ impl MoveRecord {
         ensures { OnOk result (NotesMove self.old mark.now micros wait self.new) }
     {
         match *mark {
-            ServeMark::EpochBegins { segments } => self.begin_epoch(segments, micros),
+            ServeMark::MoveBegins { segments } => self.begin(segments, micros),
+            ServeMark::MoveEnds => self.end(micros),
             _ => {
                 self.enter(mark, wait);
                 Ok(())
@@ -100,19 +97,13 @@ impl MoveRecord {
         }
     }
 
-    // An epoch begins: in a move of so many segments, of which it may be a later epoch, or at rest.
-    fn begin_epoch(&mut self, segments: Option<u64>, micros: u64) -> Result<(), AllocError>
-        ensures { OnOk result (BeginsEpoch self.old segments micros self.new) }
+    // A move of so many segments begins at this time, where one that runs ends.
+    fn begin(&mut self, segments: u64, micros: u64) -> Result<(), AllocError>
+        ensures { OnOk result (BeginsMove self.old segments micros self.new) }
     {
-        match segments {
-            Some(segments) => {
-                if self.running.is_none() {
-                    self.running = Some(MoveTally::begun(segments, micros));
-                }
-                Ok(())
-            }
-            None => self.end(micros),
-        }
+        self.end(micros)?;
+        self.running = Some(MoveTally::begun(segments, micros));
+        Ok(())
     }
 
     // Takes note of a mark in the running move.

@@ -1,6 +1,6 @@
 // What is counted of an engine while it is served.
 ghost use Rattle.std.specs.Prelude.{◌≡◌};
-ghost use Rattle.sq_serve_report.specs.Tallies.{answer_counted, answers_noted, epoch_begun, epoch_ended, epochs_noted};
+ghost use Rattle.sq_serve_report.specs.Tallies.{answer_counted, answers_noted, moved_noted, epoch_begun, epoch_ended, epochs_noted};
 
 use sq_serve::ServeMark;
 
@@ -52,6 +52,34 @@ impl AnswerTally {
     }
 }
 
+/// How many families and bytes were moved. A count that no number holds stays at the greatest.
+#[derive(Clone, Copy)]
+pub(crate) struct MovedTally {
+    pub(crate) families: u64,
+    pub(crate) bytes: u64,
+}
+
+impl MovedTally {
+    /// Of no family.
+    pub(crate) const NONE: MovedTally = MovedTally {
+        families: 0,
+        bytes: 0,
+    };
+
+    /// After a mark.
+    pub(crate) fn noted(self, mark: &ServeMark) -> MovedTally
+        ensures { result ≡ moved_noted self mark.now }
+    {
+        match *mark {
+            ServeMark::FamiliesMoved { families, bytes } => MovedTally {
+                families: self.families.saturating_add(families),
+                bytes: self.bytes.saturating_add(bytes),
+            },
+            _ => self,
+        }
+    }
+}
+
 /// How many epochs there were, and the pauses between them.
 #[derive(Clone, Copy)]
 pub(crate) struct EpochTally {
@@ -77,7 +105,7 @@ impl EpochTally {
         ensures { result ≡ epochs_noted self mark.now micros }
     {
         match *mark {
-            ServeMark::EpochBegins { .. } => self.begin(micros),
+            ServeMark::EpochBegins => self.begin(micros),
             ServeMark::EpochEnds => self.end(micros),
             _ => self,
         }

@@ -34,7 +34,7 @@ impl<W: Write + Drop, V: ServeWatch> Client for Control<'_, W, V> {
         DeskBecomes (desk_value W.contents old.desk) call (desk_value W.contents new.desk) };
 
     fn next(&mut self, progress: StageProgress) -> Command {
-        self.marks.begin(self.desk.moving);
+        self.marks.begin();
         self.marks.note_progress(progress);
         self.desk.note_stage(progress);
         self.desk.begin_call(self.audit.goes_on());

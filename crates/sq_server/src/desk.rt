@@ -149,6 +149,13 @@ impl<W: Write + Drop> ServeDesk<W> {
         }
     }
 
+    /// The outlet; all else is dropped.
+    pub fn into_outlet(self) -> Outlet<W>
+        ensures { result ≡ self.outlet }
+    {
+        self.outlet
+    }
+
     /// Whether nothing more can be done: there is no memory, or nothing can be written.
     pub fn has_stopped(&self) -> bool
         ensures { result ≡ (self.now.lacks_memory || self.now.outlet.has_failed) }

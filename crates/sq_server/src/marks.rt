@@ -1,5 +1,4 @@
 // What is done in an epoch, as it is marked for who watches.
-use crate::desk::MoveProgress;
 use sq_engine::{Command, StageProgress};
 use sq_node::Receipt;
 use sq_plan::PartId;
@@ -12,9 +11,10 @@ pub struct EpochMarks<'a, V: ServeWatch> {
     watch: &'a V,
     has_begun: bool,
     has_ended: bool,
-    // How many segments were complete and how many families were moved, as was marked last.
+    // How many segments were complete and how many families and bytes were moved, as was marked last.
     complete: u64,
     moved: u64,
+    moved_bytes: u64,
 }
 
 impl<'a, V: ServeWatch> EpochMarks<'a, V> {
@@ -26,17 +26,16 @@ impl<'a, V: ServeWatch> EpochMarks<'a, V> {
             has_ended: false,
             complete: 0,
             moved: 0,
+            moved_bytes: 0,
         }
     }
 
     // Marks at the first call that the epoch begins.
-    pub(crate) fn begin(&mut self, moving: Option<MoveProgress>) {
-        if self.has_begun {
-            return;
+    pub(crate) fn begin(&mut self) {
+        if !self.has_begun {
+            self.has_begun = true;
+            self.watch.mark(ServeMark::EpochBegins);
         }
-        self.has_begun = true;
-        let segments = moving.map(|moving| moving.segments);
-        self.watch.mark(ServeMark::EpochBegins { segments });
     }
 
     // Marks how far the stage is, where that has changed.
@@ -47,9 +46,12 @@ impl<'a, V: ServeWatch> EpochMarks<'a, V> {
             self.watch.mark(ServeMark::SegmentsComplete { complete });
         }
         let families = stage.moved.saturating_sub(self.moved);
-        if families != 0 {
+        let bytes = stage.moved_bytes.saturating_sub(self.moved_bytes);
+        if families != 0 || bytes != 0 {
             self.moved = stage.moved;
-            self.watch.mark(ServeMark::FamiliesMoved { families });
+            self.moved_bytes = stage.moved_bytes;
+            self.watch
+                .mark(ServeMark::FamiliesMoved { families, bytes });
         }
     }
 
@@ -71,9 +73,17 @@ impl<'a, V: ServeWatch> EpochMarks<'a, V> {
         });
     }
 
-    /// Marks once that the epoch ends, if it began.
-    pub fn end(&mut self) {
-        if self.has_begun && !self.has_ended {
+    /// Marks what is not marked of an epoch that was served, and whose stage was so far in the end. Its client may not have been
+    /// asked.
+    pub fn end_served(&mut self, stage: StageProgress) {
+        self.begin();
+        self.note_progress(stage);
+        self.end();
+    }
+
+    // Marks once that the epoch ends.
+    pub(crate) fn end(&mut self) {
+        if !self.has_ended {
             self.has_ended = true;
             self.watch.mark(ServeMark::EpochEnds);
         }

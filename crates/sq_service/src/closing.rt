@@ -22,8 +22,15 @@ pub(crate) fn close<T: Threads + Wait + Sync>(
     ensures { ServiceEndsBy committed [] engine result }
 {
     match engine.close(rt, alloc) {
-        Ok(closed) => judge_closed(rt, alloc, &closed, committed, is_whole),
-        Err(_) => ServeEnding::Memory,
+        Ok(closed) => {
+            let ending = judge_closed(rt, alloc, &closed, committed, is_whole);
+            drop(closed);
+            ending
+        }
+        Err(refused) => {
+            drop(refused);
+            ServeEnding::Memory
+        }
     }
 }
 

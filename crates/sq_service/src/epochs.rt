@@ -78,7 +78,10 @@ fn unless_ended(
 {
     match entered {
         Ok(()) => engine,
-        Err(ending) => Err(ending),
+        Err(ending) => {
+            drop(engine);
+            Err(ending)
+        }
     }
 }
 
@@ -104,11 +107,20 @@ fn serve_one_epoch<T: Threads + Wait + Sync, W: Write + Drop, V: ServeWatch>(
         audit: _,
         mut marks,
     } = control;
-    // Its client isn't asked to end an epoch whose stage is done.
-    marks.end();
+    mark_served(&mut marks, &served);
     ServiceStep {
         desk,
         engine: whole_engine(served),
+    }
+}
+
+// Marks what is not marked of an epoch that was served.
+fn mark_served<V: ServeWatch>(
+    marks: &mut EpochMarks<'_, V>,
+    served: &Result<EngineServed, Engine>,
+) {
+    if let Ok(served) = served {
+        marks.end_served(served.progress);
     }
 }
 
@@ -125,7 +137,14 @@ fn whole_engine(served: Result<EngineServed, Engine>) -> Result<Engine, ServeEnd
                 ..
             },
         ) => Ok(engine),
-        Ok(_) | Err(_) => Err(ServeEnding::Memory),
+        Ok(served) => {
+            drop(served);
+            Err(ServeEnding::Memory)
+        }
+        Err(engine) => {
+            drop(engine);
+            Err(ServeEnding::Memory)
+        }
     }
 }
 

@@ -7,6 +7,7 @@ ghost use Rattle.sq_service.specs.Steps.{GoesOrLacksMemory};
 use crate::telling::{tell_moved, tell_moving};
 use sq_engine::{Engine, NotMoved};
 use sq_plan::Plan;
+use sq_serve::{ServeMark, ServeWatch};
 use sq_server::{MoveProgress, ServeDesk, ServeEnding};
 use std::alloc::{AllocError, Global};
 use std::io::Write;
@@ -14,18 +15,19 @@ use std::sync::Wait;
 use std::thread::Threads;
 
 /// Begins a move to a plan, or refuses it.
-pub(crate) fn begin_move<T: Threads + Wait + Sync, W: Write + Drop>(
+pub(crate) fn begin_move<T: Threads + Wait + Sync, W: Write + Drop, V: ServeWatch>(
     rt: &T,
     alloc: Global,
     engine: Engine,
     plan: Plan,
     desk: &mut ServeDesk<W>,
+    watch: &V,
 ) -> Result<Engine, ServeEnding>
     ensures { GoesOrLacksMemory engine (desk_value W.contents desk.old)
         result (desk_value W.contents desk.new) }
 {
     match engine.move_to(rt, alloc, plan) {
-        Ok(engine) => tell_begun(engine, desk),
+        Ok(engine) => tell_begun(engine, desk, watch),
         Err((why, engine)) => refuse_move(engine, why, desk),
     }
 }
@@ -44,14 +46,18 @@ fn refuse_move<W: Write + Drop>(
             desk.say_refused(fault.number());
             Ok(engine)
         }
-        NotMoved::Moving | NotMoved::Memory => Err(ServeEnding::Memory),
+        NotMoved::Moving | NotMoved::Memory => {
+            drop(engine);
+            Err(ServeEnding::Memory)
+        }
     }
 }
 
 // Writes that the move of an engine begins, and where nothing moves that it is done.
-fn tell_begun<W: Write + Drop>(
+fn tell_begun<W: Write + Drop, V: ServeWatch>(
     engine: Engine,
     desk: &mut ServeDesk<W>,
+    watch: &V,
 ) -> Result<Engine, ServeEnding>
     ensures { GoesOrLacksMemory engine (desk_value W.contents desk.old)
         result (desk_value W.contents desk.new) }
@@ -60,23 +66,33 @@ fn tell_begun<W: Write + Drop>(
         segments: engine.opening().recon().segments().len() as u64,
         stage: engine.progress(),
     };
+    watch.mark(ServeMark::MoveBegins {
+        segments: progress.segments,
+    });
     tell_moving(desk, progress);
-    match note_rest(&engine, desk) {
+    match note_rest(&engine, desk, watch) {
         Ok(()) => Ok(engine),
-        Err(ending) => Err(ending),
+        Err(ending) => {
+            drop(engine);
+            Err(ending)
+        }
     }
 }
 
 /// Tells where a move is done.
-pub(crate) fn note_rest<W: Write + Drop>(
+pub(crate) fn note_rest<W: Write + Drop, V: ServeWatch>(
     engine: &Engine,
     desk: &mut ServeDesk<W>,
+    watch: &V,
 ) -> Result<(), ServeEnding>
     ensures speaks { Speaks (desk_value W.contents desk.old) (desk_value W.contents desk.new) }
     ensures memory { IfErr result (λ ending. ending ≡ Memory) }
 {
     match desk.moving {
-        Some(progress) if engine.is_at_rest() => end_move(engine, desk, progress.segments),
+        Some(progress) if engine.is_at_rest() => {
+            watch.mark(ServeMark::MoveEnds);
+            end_move(engine, desk, progress.segments)
+        }
         _ => Ok(()),
     }
 }

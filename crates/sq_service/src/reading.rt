@@ -130,31 +130,32 @@ fn read_lines<R: Wait, I: Read + Drop>(
         let before = u64::from(lines.next_line_number()).saturating_sub(1);
         let number = first.saturating_add(before);
         let next = lines.next_read(MAX_UNENDED);
-        match asks_or_end(alloc, next, number, lines.piece()) {
-            Ok(asks) => {
-                if !give(rt, feed, Fed::Line { number, asks }) {
+        match fed_of(alloc, next, number, lines.piece()) {
+            Fed::End(end) => return Some(end),
+            line => {
+                if !give(rt, feed, line) {
                     return None;
                 }
             }
-            Err(end) => return Some(end),
         }
     }
     unreachable!()
 }
 
-// What the next piece of an input asks, or else how the input ends.
-fn asks_or_end(
-    alloc: Global,
-    next: Next,
-    number: u64,
-    piece: &[u8],
-) -> Result<Result<ServeLine, ServeFault>, InputEnd> {
+// What the next piece of an input, in the line with this number, is to be handed on as.
+fn fed_of(alloc: Global, next: Next, number: u64, piece: &[u8]) -> Fed {
     match next {
-        Next::Line => Ok(read_asks(alloc, piece)),
-        Next::Rest => Ok(Err(ServeFault::NotAServeLine)),
-        Next::End => Err(InputEnd::Whole),
-        Next::Failed => Err(broken(InputFault::ReadFailed, number)),
-        Next::Long | Next::TooMany | Next::Unread => Err(broken(InputFault::TooLong, number)),
+        Next::Line => Fed::Line {
+            number,
+            asks: read_asks(alloc, piece),
+        },
+        Next::Rest => Fed::Line {
+            number,
+            asks: Err(ServeFault::NotAServeLine),
+        },
+        Next::End => Fed::End(InputEnd::Whole),
+        Next::Failed => Fed::End(broken(InputFault::ReadFailed, number)),
+        Next::Long | Next::TooMany | Next::Unread => Fed::End(broken(InputFault::TooLong, number)),
     }
 }
 

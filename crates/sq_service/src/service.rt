@@ -36,7 +36,10 @@ pub(crate) fn serve_engine<T: Threads + Wait + Sync, W: Write + Drop, V: ServeWa
         desk = step.desk;
         match step.engine {
             Ok(next) => engine = next,
-            Err(ending) => return (desk.outlet, ending),
+            Err(ending) => {
+                drop(book);
+                return (desk.into_outlet(), ending);
+            }
         }
     }
     unreachable!()

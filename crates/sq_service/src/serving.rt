@@ -88,17 +88,26 @@ where
     T: Threads + Wait + Sync + Copy + Send + 'static,
     I: Read + Send + Drop + 'static,
 {
+    let (feeds, handed) = open_rings(alloc)?;
+    let there = *rt;
+    match Builder::new().spawn(rt, move || read_all(&there, alloc, feeds, input)) {
+        Ok(_handle) => Ok(handed),
+        Err(_) => {
+            drop(handed);
+            Err(AllocError)
+        }
+    }
+}
+
+// Opens the rings over which a reader hands on what it reads.
+fn open_rings(alloc: Global) -> Result<(Feeds, Handed), AllocError> {
     let (header_end, header) = RingBuffer::new(alloc, 1)?;
     let (lines_end, lines) = RingBuffer::new(alloc, FEED_ROOM)?;
     let feeds = Feeds {
         header: header_end,
         lines: lines_end,
     };
-    let there = *rt;
-    match Builder::new().spawn(rt, move || read_all(&there, alloc, feeds, input)) {
-        Ok(_handle) => Ok(Handed { header, lines }),
-        Err(_) => Err(AllocError),
-    }
+    Ok((feeds, Handed { header, lines }))
 }
 
 // Serves an engine whose input is handed on there.
@@ -114,10 +123,18 @@ fn serve_handed<T: Threads + Wait + Sync, W: Write + Drop, V: ServeWatch>(
     ensures { ServesSome W.contents outlet result.1 result.0 }
 {
     let Handed { mut header, lines } = handed;
-    match wait_for(rt, &mut header) {
+    let read = wait_for(rt, &mut header);
+    drop(header);
+    match read {
         Some(Ok(opening)) => serve_opening(rt, alloc, opening, lines, outlet, config, watch),
-        Some(Err(fault)) => (outlet, ServeEnding::NoHeader(fault)),
-        None => (outlet, ServeEnding::Memory),
+        Some(Err(fault)) => {
+            drop(lines);
+            (outlet, ServeEnding::NoHeader(fault))
+        }
+        None => {
+            drop(lines);
+            (outlet, ServeEnding::Memory)
+        }
     }
 }
 
@@ -180,6 +197,9 @@ fn serve_at_desk<T: Threads + Wait + Sync, W: Write + Drop, V: ServeWatch>(
 {
     match Engine::open(rt, alloc, opening, pumps) {
         Ok(engine) => serve_engine(rt, alloc, engine, desk, watch),
-        Err(_) => (desk.outlet, ServeEnding::Memory),
+        Err(opening) => {
+            drop(opening);
+            (desk.into_outlet(), ServeEnding::Memory)
+        }
     }
 }

@@ -30,11 +30,15 @@ pub(crate) fn go_on<T: Threads + Wait + Sync, W: Write + Drop, V: ServeWatch>(
         book.new result (desk_value W.contents desk.new) }
 {
     if let Some(ending) = desk.stop_ending() {
+        drop(engine);
         return Err(ending);
     }
-    match note_rest(&engine, desk) {
+    match note_rest(&engine, desk, watch) {
         Ok(()) => page_or_wish(rt, alloc, engine, desk, watch, book),
-        Err(ending) => Err(ending),
+        Err(ending) => {
+            drop(engine);
+            Err(ending)
+        }
     }
 }
 
@@ -94,7 +98,7 @@ fn grant<T: Threads + Wait + Sync, W: Write + Drop, V: ServeWatch>(
     match wish {
         Wish::Page => take_page(rt, alloc, engine, desk, book, false),
         Wish::Fold => take_page(rt, alloc, engine, desk, book, true),
-        Wish::Move(plan) => begin_move(rt, alloc, engine, plan, desk),
+        Wish::Move(plan) => begin_move(rt, alloc, engine, plan, desk, watch),
         Wish::Rows(asked) => Ok(tell_rows(rt, alloc, engine, desk, watch, asked)),
         Wish::Close => {
             let is_whole = desk.end == Some(InputEnd::Whole);
@@ -122,6 +126,9 @@ fn take_page<T: Threads + Wait + Sync, W: Write + Drop>(
             book.put_due(PageToAudit { page, is_asked });
             Ok(engine)
         }
-        Err(_) => Err(ServeEnding::Memory),
+        Err(refused) => {
+            drop(refused);
+            Err(ServeEnding::Memory)
+        }
     }
 }
