@@ -19,7 +19,6 @@ pub enum ServeMark {
     FamiliesMoved {
         families: u64,
     },
-    /// It is to end.
     EpochEnds,
     /// The job with this id is offered to the engine, for the first time or once more.
     JobOffered {
