@@ -35,7 +35,6 @@ pub enum PlanFlaw {
     NotThreeNumbers {
         at: usize,
     },
-    /// There is no range.
     NoRange,
     /// A range doesn't begin where the one before it ends, or the first one at 0.
     Begins {

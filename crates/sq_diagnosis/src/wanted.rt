@@ -9,19 +9,13 @@ use std::fmt::{Display, Formatter, Write};
 /// What a word of a line is to be.
 #[derive(Clone, Copy, Debug, PartialEq, Eq)]
 pub enum Wanted {
-    /// `old`.
     Old,
-    /// `new`.
     New,
-    /// `config`.
     Config,
-    /// `row`.
     Row,
-    /// `txn`.
     Txn,
     /// A plan, or the front of one.
     Plan,
-    /// A number.
     Number,
     /// A table, a number up to 255.
     Table,
@@ -29,7 +23,6 @@ pub enum Wanted {
     Sub,
     /// A number that may have a minus.
     Signed,
-    /// A note.
     Note,
     /// The name of an operation.
     OpName,

@@ -16,7 +16,6 @@ use std::fmt::{Display, Formatter, Write};
 pub struct MoveLines<'a> {
     pub old: &'a [u8],
     pub new: &'a [u8],
-    /// The sizes.
     pub sizes: &'a [u8],
 }
 

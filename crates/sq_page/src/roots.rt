@@ -26,7 +26,7 @@ impl Model for NamedRoots {
 }
 
 impl NamedRoots {
-    /// Those that these receipts name.
+    /// The root keys that these receipts name.
     pub(crate) fn of(alloc: Global, receipts: &[Receipt]) -> Result<NamedRoots, AllocError>
         ensures { IfOk result (AreNamed receipts.now) }
     {

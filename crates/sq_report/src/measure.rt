@@ -13,9 +13,7 @@ use sq_schema::Family;
 /// What is summed up over families.
 #[derive(Clone, Copy, Debug, PartialEq, Eq)]
 pub(crate) enum Measure {
-    /// Their rows.
     Rows,
-    /// Their bytes.
     Bytes,
 }
 

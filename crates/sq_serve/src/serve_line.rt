@@ -25,7 +25,6 @@ pub enum ServeLine {
     Fold,
     /// How far a move is.
     Status,
-    /// Which rows there are.
     Rows,
     /// The rows are written into this file.
     RowsTo(RowsFile),

@@ -24,7 +24,6 @@ pub enum ServeMark {
         families: u64,
         bytes: u64,
     },
-    /// It is to end.
     EpochEnds,
     /// The job with this id is offered to the engine, for the first time or once more.
     JobOffered {

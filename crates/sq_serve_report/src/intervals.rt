@@ -11,7 +11,6 @@ use std::mem;
 // How many microseconds an interval has.
 const MICROS_IN_INTERVAL: u64 = 10_000;
 
-/// The figures of an interval.
 #[derive(Clone, Copy)]
 pub(crate) struct IntervalFigures {
     /// Its number, from 0.

@@ -13,7 +13,6 @@ use sq_server::{AuditProgress, ServeEnding};
 use std::alloc::Global;
 use std::thread::Threads;
 
-/// A page that is to be audited.
 #[derive(Drop)]
 pub(crate) struct PageToAudit {
     pub(crate) page: RestPage,

@@ -52,7 +52,6 @@ fn range_value(alloc: Global, opening: &Opening, range: Range) -> Result<Value, 
     })
 }
 
-// The ranges, one for one.
 fn ranges_value(alloc: Global, opening: &Opening) -> Result<Value, AllocError>
     ensures { IfOk result (λ value. view value
         ≡ array (items_of (map (sized_range_data opening.now) opening.now.recon.ranges))) }
@@ -84,7 +83,6 @@ fn segment_value(alloc: Global, opening: &Opening, segment: Range) -> Result<Val
     })
 }
 
-// The segments, one for one.
 fn segments_value(alloc: Global, opening: &Opening) -> Result<Value, AllocError>
     ensures { IfOk result (λ value. view value
         ≡ array (items_of (map (sized_segment_data opening.now) opening.now.recon.segments))) }

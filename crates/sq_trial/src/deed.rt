@@ -11,7 +11,6 @@ pub enum PlanChoice {
     Any(u64),
 }
 
-/// A call of an engine.
 #[derive(Clone, Copy, Debug)]
 pub(crate) enum EngineCall {
     /// It goes to a plan from rest.
