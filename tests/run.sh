@@ -363,10 +363,10 @@ try_told() {
     give "$stages/in" live --timeline "$room/moments.csv"
     judge 'live --timeline moments.csv' 0 "$stages/out" /dev/null
     # One more job or segment on each line, no sooner than on the line before. An answer has its job, posted once the run had begun.
-    why=$(awk -F, 'NR == 1 { if ($0 != "milliseconds,jobs,segments,partition,id,microseconds_since_post,waited") print "heading " $0; next }
-        NF != 7 || $1 + 0 < at + 0 || $1 !~ /^[0-9]+\.[0-9][0-9][0-9]$/ || $2 + $3 != NR - 1 || $2 < jobs || $3 < segments { print "line " NR ": " $0 }
-        $2 > jobs && ($4 !~ /^[012]$/ || seen[$5]++ || $6 !~ /^[0-9]+$/ || $6 > $1 * 1000 + 0.5 || $7 !~ /^(yes|no)$/) { print "answer " $0 }
-        $2 == jobs && $4 $5 $6 $7 != "" { print "segment " $0 }
+    why=$(awk -F, 'NR == 1 { if ($0 != "milliseconds,jobs,segments,partition,id,microseconds_since_post,waited,microseconds_waited") print "heading " $0; next }
+        NF != 8 || $1 + 0 < at + 0 || $1 !~ /^[0-9]+\.[0-9][0-9][0-9]$/ || $2 + $3 != NR - 1 || $2 < jobs || $3 < segments { print "line " NR ": " $0 }
+        $2 > jobs && ($4 !~ /^[012]$/ || seen[$5]++ || $6 !~ /^[0-9]+$/ || $6 > $1 * 1000 + 0.5 || ($7 == "yes" ? $8 !~ /^[0-9]+$/ || $8 > $6 + 0 : $7 $8 != "no")) { print "answer " $0 }
+        $2 == jobs && $4 $5 $6 $7 $8 != "" { print "segment " $0 }
         { at = $1; jobs = $2 + 0; segments = $3 + 0 }
         END { if (jobs != 21 || segments != 3 || NR != 25) print "ends with " $0 }' "$room/moments.csv")
     count moments_of_a_run "$why"
@@ -383,7 +383,7 @@ try_told() {
     count chart_of_a_run "$why"
     give "$stages/in" live --timeline "$room/nowhere/moments.csv"
     echo "squall: the file '$room/nowhere/moments.csv' can't be written: No such file or directory (os error 2)" > "$room/said"
-    judge 'live --timeline in no folder' 2 "$stages/out" "$room/said"
+    judge 'live --timeline in no folder' 2 /dev/null "$room/said"
     give "$stages/in" live --timeline /dev/full
     echo "squall: the file '/dev/full' can't be written: No space left on device (os error 28)" > "$room/said"
     judge 'live --timeline on a full device' 2 "$stages/out" "$room/said"
@@ -403,9 +403,10 @@ try_figures() {
     sed -E 's/"chunks":[1-9][0-9]*/"chunks":C/g; s/,"microseconds":\{"audits":[0-9]+,"reading":[0-9]+,"threads":[0-9]+\},"partitions":\[.*\],"whole":true\}$//' \
         "$room/figures.json" > "$room/told"
     count figures_of_links "$(difference "$room/wanted" "$room/told")"
-    # Of each partition: aborted, the longest, median and 99th of all, committed, its number, those that waited, and the same of these.
+    # Of each partition: aborted, the longest, median and 99th of all, committed, its number, those that waited, the same of these,
+    # and of their waits.
     why=$(sed 's/.*"partitions"//; s/p99/p/g; s/null/{"longest":0,"median":0,"p":0}/g; s/"aborted"/\n&/g' "$room/figures.json" | sed -E '1d; s/[^0-9]+/ /g' |
-        awk 'NF != 10 || $6 != NR - 1 || $3 > $4 || $4 > $2 || $9 > $10 || $10 > $8 || $8 > $2 || $7 > $1 + $5 || ($2 > 0) != ($1 + $5 > 0) || ($8 > 0) != ($7 > 0) { print "partition " $0 }
+        awk 'NF != 13 || $6 != NR - 1 || $3 > $4 || $4 > $2 || $9 > $10 || $10 > $8 || $8 > $2 || $12 > $13 || $13 > $11 || $11 > $8 || $12 > $9 || $7 > $1 + $5 || ($2 > 0) != ($1 + $5 > 0) || ($8 > 0) != ($7 > 0) { print "partition " $0 }
         { committed += $5; aborted += $1 }
         END { if (NR != 3 || committed != 21 || aborted != 0) print NR " partitions, " committed " committed, " aborted " aborted" }')
     count figures_of_partitions "$why"
@@ -419,13 +420,15 @@ try_figures() {
         echo 'partition      median   99 of 100     longest'
         echo 'of those that waited'
         echo 'partition      median   99 of 100     longest'
+        echo 'microseconds for which these waited for rows'
+        echo 'partition      median   99 of 100     longest'
         echo 'milliseconds: reading TIME, threads TIME, audits TIME'
     } > "$room/wanted"
     sed -E '/^ *[0-9]+ +[0-9]+ +[0-9]+ +[0-9]+$/d; s/^(.* -> .*[^ ]) +[1-9][0-9]*$/\1 chunks/; s/[0-9]+\.[0-9]{3}/TIME/g' "$room/figures.txt" > "$room/told"
     count figures_as_text "$(difference "$room/wanted" "$room/told")"
     echo "squall: the file '$room/nowhere/figures.json' can't be written: No such file or directory (os error 2)" > "$room/said"
     give "$1/in" live --summary-out "$room/nowhere/figures.json"
-    judge 'live --summary-out in no folder' 2 "$1/out" "$room/said"
+    judge 'live --summary-out in no folder' 2 /dev/null "$room/said"
     echo "squall: --timeline names the file '$room/figures.txt', which another option names too" > "$room/said"
     give "$1/in" live --summary-out "$room/figures.txt" --timeline "$room/figures.txt"
     judge 'live --summary-out and --timeline into one file' 2 /dev/null "$room/said"
@@ -580,7 +583,10 @@ try_bad_outputs() {
     echo 'sound 10 families 10 committed' > "$room/wanted"
     echo "squall: the file '$1/nowhere/rows' can't be written: No such file or directory (os error 2)" > "$room/said"
     give "$1/jobs" live "${words[@]}" --rows-out "$1/nowhere/rows"
-    judge 'live --rows-out in no folder' 2 "$room/wanted" "$room/said"
+    judge 'live --rows-out in no folder' 2 /dev/null "$room/said"
+    echo "squall: the file '$1/jobs/rows' can't be written: Not a directory (os error 20)" > "$room/said"
+    give "$1/jobs" live "${words[@]}" --rows-out "$1/jobs/rows"
+    judge 'live --rows-out in a file' 2 /dev/null "$room/said"
     mkfifo "$1/pipe"
     echo "squall: the file '$1/pipe' can't be written: entity already exists" > "$room/said"
     give "$1/jobs" live "${words[@]}" --rows-out "$1/pipe"

@@ -13,8 +13,8 @@ pub struct TimedAnswer {
     pub id: u64,
     /// How many microseconds had gone by since the job was posted.
     pub micros_since_post: u64,
-    /// Whether the job had waited for rows at that partition.
-    pub has_waited: bool,
+    /// For how many microseconds the job had waited for rows at that partition, if it had.
+    pub waited: Option<u64>,
 }
 
 /// What happened in a run.

@@ -1,4 +1,5 @@
 // When jobs are answered, by whom, and which.
+use crate::wait_marks::WaitBegins;
 use sq_chart::{Event, Happened, TimedAnswer};
 use sq_node::Node;
 use std::alloc::{AllocError, Global};
@@ -36,13 +37,21 @@ impl AnswerMark {
         }
     }
 
-    // The answer, of a job that was posted at this time.
-    fn answer(&self, posted: u64) -> TimedAnswer {
+    // The answer, of a job that was posted at this time, where jobs that waited began so.
+    fn answer(&self, posted: u64, begins: &WaitBegins) -> TimedAnswer {
+        let part = self.part.load(Ordering::SeqCst);
+        let id = self.id.load(Ordering::SeqCst);
+        let micros = self.micros.load(Ordering::SeqCst);
+        let waited = if self.has_waited.load(Ordering::SeqCst) {
+            Some(begins.waited(part, id, micros, posted))
+        } else {
+            None
+        };
         TimedAnswer {
-            part: self.part.load(Ordering::SeqCst),
-            id: self.id.load(Ordering::SeqCst),
-            micros_since_post: self.micros.load(Ordering::SeqCst).saturating_sub(posted),
-            has_waited: self.has_waited.load(Ordering::SeqCst),
+            part,
+            id,
+            micros_since_post: micros.saturating_sub(posted),
+            waited,
         }
     }
 }
@@ -93,16 +102,17 @@ impl AnswerMarks {
         }
     }
 
-    /// The answers of jobs that were posted at this time, in any order.
+    /// The answers of jobs that were posted at this time, in any order. Those that waited began so.
     pub(crate) fn answers(
         &self,
         alloc: Global,
         posted: u64,
+        begins: &WaitBegins,
     ) -> Result<Vec<TimedAnswer>, AllocError> {
         let count = self.count.load(Ordering::SeqCst) as usize;
         let mut answers = Vec::new(alloc);
         for mark in self.marks.iter().take(count) {
-            answers.push(mark.answer(posted))?;
+            answers.push(mark.answer(posted, begins))?;
         }
         Ok(answers)
     }
@@ -113,13 +123,14 @@ impl AnswerMarks {
         events: &mut Vec<Event>,
         posted: u64,
         began: u64,
+        begins: &WaitBegins,
     ) -> Result<(), AllocError> {
         let count = self.count.load(Ordering::SeqCst) as usize;
         for mark in self.marks.iter().take(count) {
             let micros = mark.micros.load(Ordering::SeqCst).saturating_sub(began);
             events.push(Event {
                 micros,
-                what: Happened::JobAnswered(mark.answer(posted)),
+                what: Happened::JobAnswered(mark.answer(posted, begins)),
             })?;
         }
         Ok(())

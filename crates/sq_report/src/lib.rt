@@ -14,6 +14,7 @@ mod results;
 mod summary;
 mod table;
 mod timeline;
+mod wait_marks;
 mod waits;
 
 pub use clock::Stopwatch;

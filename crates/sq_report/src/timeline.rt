@@ -1,6 +1,7 @@
-// When jobs are answered and segments complete.
+// When jobs begin to wait and are answered, and segments complete.
 use crate::answers::AnswerMarks;
 use crate::clock::Stopwatch;
+use crate::wait_marks::WaitMarks;
 use sq_chart::{Event, Happened, Moment, StageStart, TimedAnswer};
 use sq_driver::{NodeStep, WorkerEvent, WorkerId};
 use sq_node::Node;
@@ -8,12 +9,13 @@ use std::alloc::{AllocError, Global};
 use std::sync::atomic::{AtomicU64, Ordering};
 use std::time::Clock;
 
-/// Marks when jobs are answered, segments complete and stages begin, for many threads. It takes no memory meanwhile: it
+/// Marks when jobs begin to wait and are answered, segments complete and stages begin, for many threads. It takes no memory meanwhile: it
 /// has places for as many as were asked for, and one more than that is left out.
 #[derive(Drop)]
 pub struct Timeline<'a, C> {
     clock: Stopwatch<'a, C>,
     answered: AnswerMarks,
+    waits: WaitMarks,
     complete: Marks,
     /// When each stage began.
     stages: Marks,
@@ -37,6 +39,7 @@ impl<'a, C: Clock> Timeline<'a, C> {
         Ok(Timeline {
             clock: Stopwatch::start(clock),
             answered: AnswerMarks::new(alloc, jobs)?,
+            waits: WaitMarks::new(alloc, jobs)?,
             complete: Marks::new(alloc, segments)?,
             stages: Marks::new(alloc, segments)?,
             jobs: AtomicU64::new(0),
@@ -64,12 +67,15 @@ impl<'a, C: Clock> Timeline<'a, C> {
         self.answered.name(nodes);
     }
 
-    /// Marks a job that was answered, or a segment that is complete. Other events of a worker are none of these.
+    /// Marks a job that was answered or begins to wait, or a segment that is complete. Other events of a worker are none of these.
     pub fn record(&self, who: WorkerId, event: WorkerEvent) {
         match (who, event) {
             (WorkerId::Node(part), WorkerEvent::Answered(step)) => {
                 let has_waited = step == NodeStep::Resume;
                 self.answered.mark(self.clock.micros(), part, has_waited);
+            }
+            (WorkerId::Node(part), WorkerEvent::Waits { id }) => {
+                self.waits.mark(self.clock.micros(), part, id);
             }
             (_, WorkerEvent::SegmentComplete) => self.complete.mark(self.clock.micros()),
             _ => {}
@@ -80,8 +86,9 @@ impl<'a, C: Clock> Timeline<'a, C> {
     pub fn events(&self, alloc: Global) -> Result<Vec<Event>, AllocError> {
         let mut events = Vec::new(alloc);
         let began = self.began.load(Ordering::SeqCst);
+        let begins = self.waits.begins(alloc)?;
         self.answered
-            .add_to(&mut events, self.stages.first(), began)?;
+            .add_to(&mut events, self.stages.first(), began, &begins)?;
         self.complete.add_to(&mut events, began)?;
         events.sort_unstable_by_key(|event| event.micros);
         Ok(events)
@@ -89,7 +96,8 @@ impl<'a, C: Clock> Timeline<'a, C> {
 
     /// The answers of jobs, in any order.
     pub fn answers(&self, alloc: Global) -> Result<Vec<TimedAnswer>, AllocError> {
-        self.answered.answers(alloc, self.stages.first())
+        let begins = self.waits.begins(alloc)?;
+        self.answered.answers(alloc, self.stages.first(), &begins)
     }
 
     /// When each stage began, by its time since the timeline began.

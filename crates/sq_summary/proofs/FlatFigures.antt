@@ -25,6 +25,7 @@ spread_is_flat None = omega arith
 part_is_flat : (part : PartFigures) → depth (part_data part) ≤ 2
 part_is_flat part =
     let answers = spread_is_flat part.answers in
+    let waited_answers = spread_is_flat part.waited_answers in
     let waits = spread_is_flat part.waits in
     omega arith
 
@@ -33,7 +34,7 @@ spread_is_whole (Some spread) = refl
 spread_is_whole None = refl
 
 part_is_whole : (part : PartFigures) → has_float (part_data part) ≡ false
-part_is_whole part = rw (spread_is_whole part.answers, spread_is_whole part.waits) refl
+part_is_whole part = rw (spread_is_whole part.answers, spread_is_whole part.waited_answers, spread_is_whole part.waits) refl
 
 -- it nests four deep
 pub figures_are_flat : (figures : RunFigures) → depth (figures_data figures) ≤ max_depth

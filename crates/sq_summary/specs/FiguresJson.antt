@@ -1,7 +1,7 @@
 -- The figures of a live run as a JSON value: {"links":[{"bytes":B,"chunks":C,"dst":D,"families":F,"keys":K,"rows":R,"src":S,"stage":I},..],
 -- "microseconds":{"audits":A,"reading":R,"threads":T},"partitions":[{"aborted":A,"answers":{"longest":L,"median":M,"p99":P},
--- "committed":C,"partition":N,"waited":W,"waits":null},..],"whole":true}.
-use Rattle.std.specs.Prelude.{ℕ, List, map, codes, Option, Some, None}
+-- "committed":C,"partition":N,"waited":W,"waited_answers":null,"waits":null},..],"whole":true}.
+use Rattle.std.specs.Prelude.{ℕ, map, codes, Option, Some, None}
 use Rattle.serde_json.specs.Data.{Data, null, boolean, number, unsigned, array, object, member, no_members}
 use Rattle.serde_json.specs.View.{items_of}
 use Rattle.sq_summary.specs.declared.spread.Spread.{Spread}
@@ -33,7 +33,8 @@ abbrev pub part_data : PartFigures → Data
 part_data part =
     object (member (codes "aborted") (figure_data part.aborted) (member (codes "answers") (spread_data part.answers)
     (member (codes "committed") (figure_data part.committed) (member (codes "partition") (figure_data part.part)
-    (member (codes "waited") (figure_data part.waited) (member (codes "waits") (spread_data part.waits) no_members))))))
+    (member (codes "waited") (figure_data part.waited) (member (codes "waited_answers") (spread_data part.waited_answers)
+    (member (codes "waits") (spread_data part.waits) no_members)))))))
 
 -- how long the parts of the run took
 abbrev pub times_data : Times → Data

@@ -62,18 +62,27 @@ spread_line part None = []
 abbrev pub answers_line : PartFigures → List ℕ
 answers_line part = spread_line part.part part.answers
 
+abbrev pub waited_answers_line : PartFigures → List ℕ
+waited_answers_line part = spread_line part.part part.waited_answers
+
 abbrev pub waits_line : PartFigures → List ℕ
 waits_line part = spread_line part.part part.waits
 
--- the tables of how long jobs took, and of how long those took that waited
+-- the tables of how long jobs took, of how long those took that waited, and of how long these waited for rows
 abbrev pub answers_heading : List ℕ
 answers_heading = codes "microseconds from post to answer\npartition      median   99 of 100     longest\n"
 
 abbrev pub answers_table : List PartFigures → List ℕ
 answers_table parts = answers_heading ++ flat_map answers_line parts
 
+abbrev pub waited_answers_heading : List ℕ
+waited_answers_heading = codes "of those that waited\npartition      median   99 of 100     longest\n"
+
+abbrev pub waited_answers_table : List PartFigures → List ℕ
+waited_answers_table parts = waited_answers_heading ++ flat_map waited_answers_line parts
+
 abbrev pub waits_heading : List ℕ
-waits_heading = codes "of those that waited\npartition      median   99 of 100     longest\n"
+waits_heading = codes "microseconds for which these waited for rows\npartition      median   99 of 100     longest\n"
 
 abbrev pub waits_table : List PartFigures → List ℕ
 waits_table parts = waits_heading ++ flat_map waits_line parts
@@ -82,4 +91,5 @@ waits_table parts = waits_heading ++ flat_map waits_line parts
 abbrev pub figures_text : RunFigures → List ℕ
 figures_text figures =
     whole_text figures.is_whole ++ (links_table figures.links.items ++ (parts_table figures.parts.items
-    ++ (answers_table figures.parts.items ++ (waits_table figures.parts.items ++ times_text figures.times))))
+    ++ (answers_table figures.parts.items ++ (waited_answers_table figures.parts.items
+    ++ (waits_table figures.parts.items ++ times_text figures.times)))))

@@ -83,6 +83,7 @@ fn part_value(alloc: Global, part: PartFigures) -> Result<Value, AllocError>
     ensures { IfOk result (λ value. view value ≡ part_data part) }
 {
     let answers = spread_value(alloc, part.answers)?;
+    let waited_answers = spread_value(alloc, part.waited_answers)?;
     let waits = spread_value(alloc, part.waits)?;
     json!(in alloc; {
         "aborted": part.aborted,
@@ -90,6 +91,7 @@ fn part_value(alloc: Global, part: PartFigures) -> Result<Value, AllocError>
         "committed": part.committed,
         "partition": part.part,
         "waited": part.waited,
+        "waited_answers": waited_answers,
         "waits": waits
     })
 }

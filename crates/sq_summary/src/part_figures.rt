@@ -1,6 +1,6 @@
 // How jobs ended at a partition.
 ghost use Rattle.std.specs.Prelude.{◌≡◌, IfOk};
-ghost use Rattle.sq_summary.specs.PartsFigured.{times_at, waited_times_at, ArePartFigures};
+ghost use Rattle.sq_summary.specs.PartsFigured.{times_at, waited_times_at, wait_times_at, ArePartFigures};
 
 use crate::spread::{Spread, spread_of};
 use sq_chart::TimedAnswer;
@@ -19,7 +19,9 @@ pub struct PartFigures {
     pub waited: u64,
     /// How long its jobs took from their posting to their answer, where there are any.
     pub answers: Option<Spread>,
-    /// How long those took that had waited, where there are any.
+    /// How long those of them took that had waited, where there are any.
+    pub waited_answers: Option<Spread>,
+    /// How long these had waited there for rows.
     pub waits: Option<Spread>,
 }
 
@@ -36,13 +38,15 @@ impl PartFigures {
         ensures { IfOk result (ArePartFigures part committed aborted answers.now) }
     {
         let times = times_at(alloc, answers, part)?;
-        let waits = waited_times_at(alloc, answers, part)?;
+        let waited_times = waited_times_at(alloc, answers, part)?;
+        let waits = wait_times_at(alloc, answers, part)?;
         Ok(PartFigures {
             part,
             committed,
             aborted,
             waited: waits.len() as u64,
             answers: spread_of(times),
+            waited_answers: spread_of(waited_times),
             waits: spread_of(waits),
         })
     }
@@ -62,6 +66,14 @@ fn waited_times_at(alloc: Global, answers: &[TimedAnswer], part: u8) -> Result<V
 {
     let own = answers
         .iter()
-        .filter(|answer| answer.part == part && answer.has_waited);
+        .filter(|answer| answer.part == part && answer.waited.is_some());
     own.map(|answer| answer.micros_since_post).collect(alloc)
+}
+
+// How long jobs had waited that this partition answered.
+fn wait_times_at(alloc: Global, answers: &[TimedAnswer], part: u8) -> Result<Vec<u64>, AllocError>
+    ensures { IfOk result (λ waits. waits.items ≡ wait_times_at answers.now part) }
+{
+    let own = answers.iter().filter(|answer| answer.part == part);
+    own.filter_map(|answer| answer.waited).collect(alloc)
 }

@@ -2,7 +2,7 @@
 ghost use Rattle.std.specs.Prelude.{OnOk};
 ghost use Rattle.std.specs.List.{flat_map};
 ghost use Rattle.std.specs.Io.KnownBytes.{Appends};
-ghost use Rattle.sq_summary.specs.FiguresText.{whole_text, link_front, link_counts, link_figures_line, links_table, part_figures_line, parts_table, spread_line, answers_line, waits_line, answers_table, waits_table, figures_text};
+ghost use Rattle.sq_summary.specs.FiguresText.{whole_text, link_front, link_counts, link_figures_line, links_table, part_figures_line, parts_table, spread_line, answers_line, waited_answers_line, waits_line, answers_table, waited_answers_table, waits_table, figures_text};
 
 use crate::figures::{LinkFigures, RunFigures};
 use crate::part_figures::PartFigures;
@@ -11,8 +11,8 @@ use crate::times::write_times;
 use std::io;
 use std::io::Write;
 
-/// Writes the figures of a run as tables: of the links, of the partitions, of how long jobs took at each partition, and of
-/// those that waited; and the line of the times. Where memory ran out before all was counted, it says so first. An error is the
+/// Writes the figures of a run as tables: of the links, of the partitions, of how long jobs took at each partition, of how long
+/// those took that waited, and of how long they waited; and the line of the times. Where memory ran out before all was counted, it says so first. An error is the
 /// writer's.
 pub fn write_figures<W: Write>(writer: &mut W, figures: &RunFigures) -> io::Result<()>
     ensures { OnOk result (Appends (W.contents writer.old) (W.contents writer.new)
@@ -22,6 +22,7 @@ pub fn write_figures<W: Write>(writer: &mut W, figures: &RunFigures) -> io::Resu
     write_links(writer, &figures.links)?;
     write_parts(writer, &figures.parts)?;
     write_answers(writer, &figures.parts)?;
+    write_waited_answers(writer, &figures.parts)?;
     write_waits(writer, &figures.parts)?;
     write_times(writer, figures.times)
 }
@@ -138,13 +139,28 @@ fn write_answers<W: Write>(writer: &mut W, parts: &[PartFigures]) -> io::Result<
 }
 
 // Writes the table of how long the jobs took that waited, partition by partition.
+fn write_waited_answers<W: Write>(writer: &mut W, parts: &[PartFigures]) -> io::Result<()>
+    ensures { OnOk result (Appends (W.contents writer.old) (W.contents writer.new)
+        (waited_answers_table parts.now)) }
+{
+    writeln!(
+        writer,
+        "of those that waited\npartition      median   99 of 100     longest"
+    )?;
+    for part in parts {
+        write_spread(writer, part.part, part.waited_answers)?;
+    }
+    Ok(())
+}
+
+// Writes the table of how long these waited for rows, partition by partition.
 fn write_waits<W: Write>(writer: &mut W, parts: &[PartFigures]) -> io::Result<()>
     ensures { OnOk result (Appends (W.contents writer.old) (W.contents writer.new)
         (waits_table parts.now)) }
 {
     writeln!(
         writer,
-        "of those that waited\npartition      median   99 of 100     longest"
+        "microseconds for which these waited for rows\npartition      median   99 of 100     longest"
     )?;
     for part in parts {
         write_spread(writer, part.part, part.waits)?;

@@ -1,7 +1,7 @@
-use Rattle.std.proofs.Common.{take, ◌++◌}
+use Rattle.std.proofs.Common.{take}
 use Rattle.std.specs.List.{flat_map}
 use Rattle.std.specs.Io.KnownBytes.{Appends}
-use Rattle.sq_summary.specs.FiguresText.{answers_heading, answers_line}
+use Rattle.sq_summary.specs.FiguresText.{answers_line}
 use Rattle.sq_summary.proofs.text_form.write_answers.Given as goal
 
 abbrev pub invariant-loop-part : goal.invariant-loop-part

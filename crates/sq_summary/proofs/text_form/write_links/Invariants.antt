@@ -1,7 +1,7 @@
-use Rattle.std.proofs.Common.{take, ◌++◌}
+use Rattle.std.proofs.Common.{take}
 use Rattle.std.specs.List.{flat_map}
 use Rattle.std.specs.Io.KnownBytes.{Appends}
-use Rattle.sq_summary.specs.FiguresText.{link_figures_heading, link_figures_line}
+use Rattle.sq_summary.specs.FiguresText.{link_figures_line}
 use Rattle.sq_summary.proofs.text_form.write_links.Given as goal
 
 abbrev pub invariant-loop-link : goal.invariant-loop-link
