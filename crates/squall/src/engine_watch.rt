@@ -88,6 +88,7 @@ impl<'a, T: Clock + Wait + Print + Eprint + Files + AllocGlobal> EngineWatch<'a,
 }
 
 impl<T: Clock + Wait + Print + Eprint + Files + AllocGlobal> ServeWatch for EngineWatch<'_, T> {
+    // Nothing is known of what the files of the system hold.
     ghost Saves = { λ _ _ _ _. Unit {0} };
 
     fn mark(&self, mark: ServeMark) {
