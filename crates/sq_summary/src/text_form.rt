@@ -12,8 +12,8 @@ use std::io;
 use std::io::Write;
 
 /// Writes the figures of a run as tables: of the links, of the partitions, of how long jobs took at each partition, of how long
-/// those took that waited, and of how long they waited; and the line of the times. Where memory ran out before all was counted, it says so first. An error is the
-/// writer's.
+/// those took that waited, and of how long they waited; and the line of the times. Where memory ran out before all was
+/// counted, it says so first. An error is the writer's.
 pub fn write_figures<W: Write>(writer: &mut W, figures: &RunFigures) -> io::Result<()>
     ensures { OnOk result (Appends (W.contents writer.old) (W.contents writer.new)
         (figures_text figures.now)) }
