@@ -37,7 +37,7 @@ impl AnswerMark {
         }
     }
 
-    // The answer, of a job that was posted at this time, where jobs that waited began so.
+    // The answer to a job that was posted at this time, where waits began as these say.
     fn answer(&self, posted: u64, begins: &WaitBegins) -> TimedAnswer {
         let part = self.part.load(Ordering::SeqCst);
         let id = self.id.load(Ordering::SeqCst);
@@ -102,7 +102,7 @@ impl AnswerMarks {
         }
     }
 
-    /// The answers of jobs that were posted at this time, in any order. Those that waited began so.
+    /// The answers to jobs that were posted at this time, in any order, where waits began as these say.
     pub(crate) fn answers(
         &self,
         alloc: Global,

@@ -31,7 +31,7 @@ impl WaitMark {
 }
 
 impl WaitMarks {
-    /// None of so many that may come.
+    /// No marks, with places for so many.
     pub(crate) fn new(alloc: Global, places: usize) -> Result<WaitMarks, AllocError> {
         let mut marks = Vec::new(alloc);
         for _place in 0..places {
