@@ -20,6 +20,7 @@ use Rattle.sq_command.specs.declared.owner.TheConstants.{MAX_WIDTH}
 use Rattle.sq_command.specs.declared.serve.TheConstants.{MAX_FOLD_AFTER}
 use Rattle.sq_command.specs.declared.line.Form.{Form}
 use Rattle.sq_command.specs.declared.line.Form.TheVariants.{Lines, Json, Svg}
+use Rattle.sq_command.specs.declared.line.LiveOptions.{LiveOptions}
 use Rattle.sq_command.specs.declared.line.Task.{Task}
 use Rattle.sq_command.specs.declared.line.Task.TheVariants.{Run, Ranges, Live, Steps}
 use Rattle.sq_command.specs.declared.line.Line.{Line}
@@ -52,7 +53,7 @@ IsRunTask rows (Run echoes strict rows_out) =
     FlagOf (one_of (codes "echo") rows) echoes × FlagOf (one_of (codes "strict") rows) strict
     × IsNameOf (codes "rows-out") rows rows_out
 IsRunTask rows (Ranges form sizes) = ⊥
-IsRunTask rows (Live turns pumps folds summary summary_out timeline replies rows_out) = ⊥
+IsRunTask rows (Live live) = ⊥
 IsRunTask rows Steps = ⊥
 
 -- the task is a listing, of the form that is asked for, with sizes where that flag is given
@@ -60,19 +61,25 @@ abbrev pub IsRangesTask : List Row → Task → Type 0
 IsRangesTask rows (Run echoes strict rows_out) = ⊥
 IsRangesTask rows (Ranges form sizes) =
     IsFormOf rows form × FlagOf (one_of (codes "sizes") rows) sizes
-IsRangesTask rows (Live turns pumps folds summary summary_out timeline replies rows_out) = ⊥
+IsRangesTask rows (Live live) = ⊥
 IsRangesTask rows Steps = ⊥
 
--- the task is a live run with the numbers, the flags and the files of these options
+-- the numbers, the flags and the files of a live run are those of these options
+pub record AreLiveOptions (rows : List Row) (live : LiveOptions) : Type 0 where
+  pub turns : NumberOf 1 MAX_TURNS TURNS (one_of (codes "turns") rows) live.turns
+  pub pumps : NumberOf 1 MAX_PUMPS PUMPS (one_of (codes "pumps") rows) live.pumps
+  pub folds : FlagOf (one_of (codes "fold") rows) live.folds
+  pub summary : FlagOf (one_of (codes "summary") rows) live.summary
+  pub summary_out : IsNameOf (codes "summary-out") rows live.summary_out
+  pub timeline : IsNameOf (codes "timeline") rows live.timeline
+  pub replies : IsNameOf (codes "replies") rows live.replies
+  pub rows_out : IsNameOf (codes "rows-out") rows live.rows_out
+
+-- the task is a live run as these options say
 abbrev pub IsLiveTask : List Row → Task → Type 0
 IsLiveTask rows (Run echoes strict rows_out) = ⊥
 IsLiveTask rows (Ranges form sizes) = ⊥
-IsLiveTask rows (Live turns pumps folds summary summary_out timeline replies rows_out) =
-    NumberOf 1 MAX_TURNS TURNS (one_of (codes "turns") rows) turns
-    × NumberOf 1 MAX_PUMPS PUMPS (one_of (codes "pumps") rows) pumps
-    × FlagOf (one_of (codes "fold") rows) folds × FlagOf (one_of (codes "summary") rows) summary
-    × IsNameOf (codes "summary-out") rows summary_out × IsNameOf (codes "timeline") rows timeline
-    × IsNameOf (codes "replies") rows replies × IsNameOf (codes "rows-out") rows rows_out
+IsLiveTask rows (Live live) = AreLiveOptions rows live
 IsLiveTask rows Steps = ⊥
 
 -- the task is to write the script of the move
@@ -154,8 +161,8 @@ ComesOf words (Err error) = HasKind (fault_of squall words) error ⊎ ClashesAt 
 abbrev pub IsWithin : Task → Type 0
 IsWithin (Run echoes strict rows_out) = Unit {0}
 IsWithin (Ranges form sizes) = Unit {0}
-IsWithin (Live turns pumps folds summary summary_out timeline replies rows_out) =
-    (1 ≤ turns) × (turns ≤ MAX_TURNS) × (1 ≤ pumps) × (pumps ≤ MAX_PUMPS)
+IsWithin (Live live) =
+    (1 ≤ live.turns) × (live.turns ≤ MAX_TURNS) × (1 ≤ live.pumps) × (live.pumps ≤ MAX_PUMPS)
 IsWithin Steps = Unit {0}
 
 -- and so are those of a line, which has a root key at least where it asks for owners

@@ -203,7 +203,7 @@ fault NUMBER                           of the input, and then no thread ran, or
                                        memory ran out
 
 At a terminal standard error tells meanwhile how many jobs are answered, how
-many chunks are loaded, and how many segments are complete.
+many families moved, and how many segments are complete.
 
 With --summary standard error tells besides what moved along each link, what
 became of the jobs at each partition, and how long the parts of the run took.

@@ -127,26 +127,30 @@ pub enum Task<'a> {
         sizes: bool,
     },
     /// Run jobs in threads while rows move.
-    Live {
-        /// How many turns each thread takes at most.
-        turns: u64,
-        /// How many pumps there are.
-        pumps: u32,
-        /// Whether the logs are folded between stages.
-        folds: bool,
-        /// Whether a summary is written.
-        summary: bool,
-        /// The name of the file for a longer account of it, if there is one.
-        summary_out: Option<&'a str>,
-        /// The name of the file for the times of its events, if there is one.
-        timeline: Option<&'a str>,
-        /// The name of the file for the answers of the jobs, if there is one.
-        replies: Option<&'a str>,
-        /// The name of the file for the rows at the end, if there is one.
-        rows_out: Option<&'a str>,
-    },
+    Live(LiveOptions<'a>),
     /// Write the script that makes the whole move.
     Steps,
+}
+
+/// How jobs are run in threads, and what is written of it besides its line.
+#[derive(Clone, Copy, Debug, PartialEq, Eq)]
+pub struct LiveOptions<'a> {
+    /// How many turns each thread takes at most.
+    pub turns: u64,
+    /// How many pumps there are.
+    pub pumps: u32,
+    /// Whether the logs are folded between stages.
+    pub folds: bool,
+    /// Whether a summary is written.
+    pub summary: bool,
+    /// The name of the file for a longer account of it, if there is one.
+    pub summary_out: Option<&'a str>,
+    /// The name of the file for the times of its events, if there is one.
+    pub timeline: Option<&'a str>,
+    /// The name of the file for the answers of the jobs, if there is one.
+    pub replies: Option<&'a str>,
+    /// The name of the file for the rows at the end, if there is one.
+    pub rows_out: Option<&'a str>,
 }
 
 /// What an input to begin with is like.

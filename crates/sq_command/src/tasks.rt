@@ -11,7 +11,7 @@ ghost use Rattle.sq_command.specs.Line.{IsWorkLine, IsRunTask, IsRangesTask, IsL
 use crate::clash::Clash;
 use crate::commands::{flag, option, path, subcommand, with, with_input};
 use crate::help;
-use crate::line::{Form, Line, Task};
+use crate::line::{Form, Line, LiveOptions, Task};
 use crate::options::{input_of, is_given, name_of, number_of};
 use clap::{ArgMatches, Command, value_parser};
 use std::alloc::{AllocError, Global};
@@ -135,7 +135,7 @@ pub fn live_line<'a>(options: &ArgMatches<'a>) -> Result<Line<'a>, Clash>
 {
     let turns = number_of(options, "turns", 1, MAX_TURNS, TURNS);
     let pumps = number_of(options, "pumps", 1, MAX_PUMPS, PUMPS);
-    let task = Task::Live {
+    let live = LiveOptions {
         turns,
         pumps: pumps as u32,
         folds: is_given(options, "fold"),
@@ -146,7 +146,7 @@ pub fn live_line<'a>(options: &ArgMatches<'a>) -> Result<Line<'a>, Clash>
         rows_out: name_of(options, "rows-out"),
     };
     Ok(Line::Work {
-        task,
+        task: Task::Live(live),
         input: input_of(options)?,
     })
 }
