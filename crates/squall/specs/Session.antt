@@ -27,7 +27,6 @@ use Rattle.sq_live.specs.Live.{RunsLive, ending_status}
 use Rattle.sq_server.specs.declared.ending.ServeEnding.{ServeEnding}
 use Rattle.sq_server.specs.Ending.{serve_status}
 use Rattle.sq_explain.specs.Meanings.{Explains}
-use Rattle.sq_command.specs.declared.line.Input.{Input}
 use Rattle.sq_command.specs.declared.line.Plans.{Plans}
 use Rattle.sq_command.specs.declared.line.Form.{Form}
 use Rattle.sq_command.specs.declared.line.Form.TheVariants.{Lines, Json, Svg}
@@ -80,7 +79,7 @@ ListsAs form true = SizesAs form
 abbrev pub EndsTask : Task → Option (List ℕ) → Option (List ℕ) → Option (List ℕ) → ℕ → Type 0
 EndsTask (Run echoes strict rows_out) known before now = EndsAs (Runs (in_manner echoes strict) MAX_TABLES known before now) exit_status
 EndsTask (Ranges form sizes) known before now = EndsAs (ListsAs form sizes known before now) exit_status
-EndsTask (Live turns pumps folds summary summary_out timeline replies rows_out) known before now = EndsAs (RunsLive folds MAX_TABLES known before now) live_status
+EndsTask (Live live) known before now = EndsAs (RunsLive live.folds MAX_TABLES known before now) live_status
 EndsTask Steps known before now = EndsAs (WritesScript MAX_TABLES known before now) exit_status
 
 -- what is behind the plans: the main part of an input, and behind its first line the rows, where they have a file
@@ -114,10 +113,6 @@ EndsMain task plans None known before now status = EndsParts task plans known be
 EndsMain task plans (Some file) known before now status =
     ((main : Option (List ℕ)) × EndsParts task plans main before now status) ⊎ (status ≡ 2)
 
--- the same with this input
-abbrev pub EndsInput : Task → Input → Option (List ℕ) → Option (List ℕ) → Option (List ℕ) → ℕ → Type 0
-EndsInput task input known before now status = EndsMain task input.plans input.file known before now status
-
 -- the line of the sizes, with leaves of this width, or the widest ones
 abbrev pub widest_config : Option ℕ → List ℕ
 widest_config width = codes "config " ++ decimal (unwrap_or width MAX_WIDTH) ++ codes " 64 1\n"
@@ -137,7 +132,7 @@ EndsEngine status = (status ≡ 2) ⊎ ((ending : ServeEnding) × (status ≡ se
 
 -- what a line asks for was done with what the reader or the files give, unless a file can't be read, and ended with this status
 abbrev pub EndsLine : Line → Option (List ℕ) → Option (List ℕ) → Option (List ℕ) → ℕ → Type 0
-EndsLine (Work task input) known before now status = EndsInput task input known before now status
+EndsLine (Work task input) known before now status = EndsMain task input.plans input.file known before now status
 EndsLine (Owner keys plans width) known before now status = EndsOwners keys.items width before now status
 EndsLine (Demo demo folder) known before now status = EndsDemo folder.now before now status
 EndsLine (Serve pumps fold_after files file reports) known before now status = EndsEngine status
@@ -163,7 +158,3 @@ pub record IsUsage (words : List Text) (status : ℕ) : Type 0 where
 -- the words were carried out and ended with this status, or else something was said of them
 abbrev pub EndsWith : List Text → Option (List ℕ) → Option (List ℕ) → Option (List ℕ) → ℕ → Type 0
 EndsWith words known before now status = IsCarriedOut words known before now status ⊎ IsUsage words status
-
--- the same behind a buffer, unless there was no memory for it
-abbrev pub EndsBuffered : List Text → Option (List ℕ) → Option (List ℕ) → ℕ → Type 0
-EndsBuffered words known before status = (status ≡ 2) ⊎ ((now : Option (List ℕ)) × EndsWith words known before now status)

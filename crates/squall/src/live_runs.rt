@@ -10,6 +10,7 @@ use crate::flaws::{tell_misfit_of_job, tell_unread_stages};
 use crate::outputs::save_text;
 use crate::session::{REFUSED, explain, explain_write};
 use crate::source::Source;
+use sq_command::LiveOptions;
 use sq_inputs::Recalling;
 use sq_live::{LiveEnding, LiveFault, LiveOutcome, Watch, live};
 use sq_report::{FiguresForm, RecordingWatch, Records, TimelineForm};
@@ -24,32 +25,6 @@ use std::time::Clock;
 // The command line asks for no more pumps than there may be.
 const _: () = prove!(sq_command::MAX_PUMPS == sq_pull::MAX_PUMPS as u64);
 
-/// How a live run is done.
-#[derive(Clone, Copy, Debug, PartialEq, Eq)]
-pub struct Manner {
-    /// How often each worker goes round at most in a stage, from 1 to [`sq_command::MAX_TURNS`].
-    pub turns: u64,
-    /// How many pumps there are.
-    pub pumps: u32,
-    /// Whether the logs are folded between stages.
-    pub folds: bool,
-}
-
-/// What is written of a live run besides its line.
-#[derive(Clone, Copy, Debug, PartialEq, Eq)]
-pub struct RunReport<'a> {
-    /// Whether a summary is.
-    pub summary: bool,
-    /// The name of the file into which a longer account of it is written, where one is.
-    pub summary_out: Option<&'a str>,
-    /// The name of the file into which a timeline is written, where one is.
-    pub timeline: Option<&'a str>,
-    /// The name of the file into which the answers of the jobs are written, where they are.
-    pub replies: Option<&'a str>,
-    /// The name of the file into which the rows at the end are written, where they are.
-    pub rows_out: Option<&'a str>,
-}
-
 /// Runs the jobs in `reader` in threads, writes the outcome, and says on standard error what it means, unless the run
 /// is sound. Its workers ask `watch` before each step. Also writes what was asked for: a summary on standard error, and
 /// in files a timeline, a longer account, the answers of the jobs, and the rows at the end. A run that ends in a fault
@@ -63,28 +38,28 @@ pub fn live_run<
     rt: &T,
     reader: &mut Recalling<R>,
     writer: &mut W,
-    manner: Manner,
-    report: RunReport<'_>,
+    options: LiveOptions<'_>,
     watch: &G,
     source: &Source<'_>,
 ) -> u8
-    requires { manner.pumps ≤ MAX_PUMPS }
-    ensures { EndsAs (RunsLive manner.folds MAX_TABLES (recalling_remaining R.remaining reader.old)
+    requires { options.pumps ≤ MAX_PUMPS }
+    ensures { EndsAs (RunsLive options.folds MAX_TABLES (recalling_remaining R.remaining reader.old)
         (W.contents writer.old) (W.contents writer.new)) live_status result }
 {
-    let Manner {
+    let LiveOptions {
         turns,
         pumps,
         folds,
-    } = manner;
-    let told = recording(rt, report, watch);
+        ..
+    } = options;
+    let told = recording(rt, options, watch);
     let ran = match &told {
         Some(told) => live(rt, rt.alloc(), reader, writer, turns, pumps, folds, told),
         None => live(rt, rt.alloc(), reader, writer, turns, pumps, folds, watch),
     };
     explain_live(rt, source, reader, ran);
     let status = live_status(ran);
-    if status != REFUSED && !is_told(rt, report, &told) {
+    if status != REFUSED && !is_told(rt, options, &told) {
         return REFUSED;
     }
     status
@@ -94,16 +69,16 @@ pub fn live_run<
 // where there is no memory; standard error says so, and the run does without. The time of reading begins here.
 fn recording<'a, T: Wait + Clock + Sync + Eprint + AllocGlobal, G: Watch>(
     rt: &'a T,
-    report: RunReport<'_>,
+    options: LiveOptions<'_>,
     watch: &'a G,
 ) -> Option<RecordingWatch<'a, T, G>> {
     let records = Records {
-        timeline: report.timeline.is_some(),
-        figures: report.summary_out.is_some(),
-        replies: report.replies.is_some(),
-        rows: report.rows_out.is_some(),
+        timeline: options.timeline.is_some(),
+        figures: options.summary_out.is_some(),
+        replies: options.replies.is_some(),
+        rows: options.rows_out.is_some(),
     };
-    if !report.summary && !is_any(records) {
+    if !options.summary && !is_any(records) {
         return None;
     }
     let told = RecordingWatch::new(rt, rt.alloc(), watch, records);
@@ -127,22 +102,22 @@ fn is_any(records: Records) -> bool {
 // Writes what was asked for of a run. Gives whether none of the files is missing that were to be written.
 fn is_told<T: Wait + Clock + Sync + Eprint + Files + AllocGlobal, G: Watch>(
     rt: &T,
-    report: RunReport<'_>,
+    options: LiveOptions<'_>,
     told: &Option<RecordingWatch<'_, T, G>>,
 ) -> bool {
     let Some(told) = told else {
-        return report.timeline.is_none()
-            && report.summary_out.is_none()
-            && report.replies.is_none()
-            && report.rows_out.is_none();
+        return options.timeline.is_none()
+            && options.summary_out.is_none()
+            && options.replies.is_none()
+            && options.rows_out.is_none();
     };
-    if report.summary {
+    if options.summary {
         print_summary(rt, told);
     }
-    let is_timeline_drawn = draw_timeline(rt, report.timeline, told);
-    let are_figures_saved = save_figures(rt, report.summary_out, told);
-    let are_replies_saved = save_replies(rt, report.replies, told);
-    let are_rows_saved = save_rows(rt, report.rows_out, told);
+    let is_timeline_drawn = draw_timeline(rt, options.timeline, told);
+    let are_figures_saved = save_figures(rt, options.summary_out, told);
+    let are_replies_saved = save_replies(rt, options.replies, told);
+    let are_rows_saved = save_rows(rt, options.rows_out, told);
     is_timeline_drawn && are_figures_saved && are_replies_saved && are_rows_saved
 }
 

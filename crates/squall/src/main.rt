@@ -3,7 +3,7 @@
 
 ghost use Rattle.std.specs.Prelude.{map};
 ghost use Rattle.sq_command.specs.Line.{IsWithin};
-ghost use Rattle.squall.specs.Session.{EndsTask, EndsWithRows, EndsParts, EndsInput, EndsWith, EndsBuffered};
+ghost use Rattle.squall.specs.Session.{EndsTask, EndsWithRows, EndsParts, EndsMain, EndsWith};
 
 mod beginning;
 mod engine_watch;
@@ -23,7 +23,7 @@ mod usage;
 
 use beginning::write_demo;
 use explaining::explanation;
-use live_runs::{Manner, RunReport, live_run};
+use live_runs::live_run;
 use outputs::refuse_outputs;
 use owning::owners;
 use plans::lines_of_plans;
@@ -82,8 +82,8 @@ where
     // file can't be read, or is one that the task would write.
     fn carry_out<R: Read, W: Write>(&self, reader: &mut R, writer: &mut W) -> u8
         requires { IsWithin self.now.task }
-        ensures { EndsInput self.now.task self.now.input (R.remaining reader.old)
-            (W.contents writer.old) (W.contents writer.new) result }
+        ensures { EndsMain self.now.task self.now.input.plans self.now.input.file
+            (R.remaining reader.old) (W.contents writer.old) (W.contents writer.new) result }
     {
         if let Some(status) = refuse_outputs(self.rt, self.task, self.input) {
             return status;
@@ -179,29 +179,8 @@ where
                 listing(rt, &mut reader, writer, form, sizes, source)
             }
             Task::Steps => steps(rt, &mut reader, writer, source),
-            Task::Live {
-                turns,
-                pumps,
-                folds,
-                summary,
-                summary_out,
-                timeline,
-                replies,
-                rows_out,
-            } => {
-                let manner = Manner {
-                    turns,
-                    pumps,
-                    folds,
-                };
-                let report = RunReport {
-                    summary,
-                    summary_out,
-                    timeline,
-                    replies,
-                    rows_out,
-                };
-                live_run(rt, &mut reader, writer, manner, report, self.watch, source)
+            Task::Live(options) => {
+                live_run(rt, &mut reader, writer, options, self.watch, source)
             }
         }
     }
@@ -271,87 +250,30 @@ where
     }
 }
 
-// The same with a buffer in front of the writer. After a failed write nothing more is written.
-fn obey_buffered<
-    T: Threads
-        + Wait
-        + Sync
-        + Clock
-        + Print
-        + Eprint
-        + Files
-        + AllocGlobal
-        + io::Input
-        + Copy
-        + Send
-        + 'static,
-    S: AsStr,
-    R: Read,
-    W: Write + Drop,
-    G: Watch,
->(
-    rt: &T,
-    words: &[S],
-    reader: &mut R,
-    writer: W,
-    watch: &G,
-    is_typed: bool,
-    columns: Option<usize>,
-) -> u8
-where
-    T::File: Send + 'static,
-    T::Reader: Send + 'static,
-    ensures { EndsBuffered (map S.text words.now) (R.remaining reader.old)
-        (W.contents writer) result }
-{
+fn main(rt: HostRuntime) -> ExitCode {
+    let words = match words_of(&rt) {
+        Ok(words) => words,
+        Err(error) => return ExitCode::from(refuse_words(&rt, &error)),
+    };
     let is_closed = Cell::new(false);
-    let output = PipeEnd::new(writer, &is_closed);
+    let output = PipeEnd::new(io::writer(&rt), &is_closed);
     let Ok(mut writer) = BufWriter::with_capacity(rt.alloc(), WRITE_SIZE, output) else {
-        return refuse_for_memory(rt);
+        return ExitCode::from(refuse_for_memory(&rt));
     };
     let streams = Streams {
-        is_typed,
-        columns,
+        is_typed: rt.stdin().is_terminal(),
+        columns: columns_of(&rt),
         is_closed: &is_closed,
     };
-    let status = obey(rt, words, reader, &mut writer, watch, streams);
+    let mut reader = rt.reader();
+    let status = if rt.stderr().is_terminal() {
+        // It shows how far a live run is.
+        let progress = Progress::new(&rt);
+        obey(&rt, &words, &mut reader, &mut writer, &progress, streams)
+    } else {
+        obey(&rt, &words, &mut reader, &mut writer, &OpenGate, streams)
+    };
     // A failed write has left bytes, which a buffer that is dropped would write.
     let (_unbuffered, _unwritten) = writer.into_parts();
-    status
-}
-
-fn main(rt: HostRuntime) -> ExitCode {
-    let status = match words_of(&rt) {
-        Ok(words) => {
-            let mut reader = rt.reader();
-            let writer = io::writer(&rt);
-            let is_typed = rt.stdin().is_terminal();
-            let columns = columns_of(&rt);
-            // At a terminal standard error shows how far a live run is.
-            if rt.stderr().is_terminal() {
-                let progress = Progress::new(&rt);
-                obey_buffered(
-                    &rt,
-                    &words,
-                    &mut reader,
-                    writer,
-                    &progress,
-                    is_typed,
-                    columns,
-                )
-            } else {
-                obey_buffered(
-                    &rt,
-                    &words,
-                    &mut reader,
-                    writer,
-                    &OpenGate,
-                    is_typed,
-                    columns,
-                )
-            }
-        }
-        Err(error) => refuse_words(&rt, &error),
-    };
     ExitCode::from(status)
 }

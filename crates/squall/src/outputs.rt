@@ -18,13 +18,7 @@ fn named_outputs(task: Task<'_>) -> [(&'static str, Option<&str>); 4] {
     let (summary_out, timeline, replies, rows_out) = match task {
         Task::Run { rows_out, .. } => (None, None, None, rows_out),
         Task::Ranges { .. } | Task::Steps => (None, None, None, None),
-        Task::Live {
-            summary_out,
-            timeline,
-            replies,
-            rows_out,
-            ..
-        } => (summary_out, timeline, replies, rows_out),
+        Task::Live(live) => (live.summary_out, live.timeline, live.replies, live.rows_out),
     };
     [
         ("summary-out", summary_out),
