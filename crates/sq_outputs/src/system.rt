@@ -63,6 +63,20 @@ pub fn place_of_standard_input<T: Files + AllocGlobal>(rt: &T) -> io::Result<Opt
     }
 }
 
+/// Fails where no file of this name can be written since its folder isn't there, or is none.
+pub fn find_folder_of<T: Files + AllocGlobal>(rt: &T, name: &str) -> io::Result<()> {
+    match Path::new(name).parent() {
+        Some(folder) if !folder.as_str().is_empty() => {
+            let folder = folder.as_str();
+            // Of a file that is no folder the system says so at this name.
+            let inside = format!(in rt.alloc(); "{folder}/.")?;
+            fs::metadata(rt, inside.as_str())?;
+            Ok(())
+        }
+        _ => Ok(()),
+    }
+}
+
 // The place that a file of this name would have in its folder.
 fn place_in_folder<T: Files + AllocGlobal>(rt: &T, name: &str) -> io::Result<String> {
     let path = Path::new(name);

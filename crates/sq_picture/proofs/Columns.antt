@@ -19,6 +19,6 @@ marked r recon range first end stage a b c begins ends staged before here =
     (on_ok_weaker r (Appends-trans a b c (segments_text first end) (numbers_text first end stage) before) here)))
 
 -- the start of a picture, from the width and the height that were computed
-pub framed : {T E : Type 0} (r : Result T E) (count width height : ℕ) (a b : Option (List ℕ)) → width ≡ width_of count → height ≡ height_of count → OnOk r (Appends a b (start_text width height (codes "What moves"))) → OnOk r (Appends a b (frame_text count))
-framed r count width height a b wide high wrote =
+pub framed : {T E : Type 0} (r : Result T E) (count lines width height : ℕ) (a b : Option (List ℕ)) → width ≡ width_of count → height ≡ height_of count lines → OnOk r (Appends a b (start_text width height (codes "What moves"))) → OnOk r (Appends a b (frame_text count lines))
+framed r count lines width height a b wide high wrote =
     subst (λ (n : ℕ). OnOk r (Appends a b (start_text (width_of count) n (codes "What moves")))) high (subst (λ (n : ℕ). OnOk r (Appends a b (start_text n height (codes "What moves")))) wide wrote)

@@ -18,8 +18,9 @@ light_of part = 34 - part / 21 * 6
 abbrev pub width_of : ℕ → ℕ
 width_of count = 96 + max 3 (min count ACROSS) * 160
 
-abbrev pub height_of : ℕ → ℕ
-height_of count = 40 + (count + (ACROSS - 1)) / ACROSS * 196
+-- its height, with so many lines of text below them
+abbrev pub height_of : ℕ → ℕ → ℕ
+height_of count lines = 40 + (count + (ACROSS - 1)) / ACROSS * 196 + lines * 20
 
 -- what is above the columns
 abbrev pub heading_of : ℕ → List ℕ
@@ -73,11 +74,18 @@ owners_text range = owner_text range.src 32 ++ (owner_text range.dst 104 ++ code
 abbrev pub begun_below : List Range → ℕ → ℕ
 begun_below segments key = count_by (λ segment. nat_lt segment.lo key) segments
 
--- a segment on the axis of segments, those next to one another in two shades
-abbrev pub segment_text : ℕ → List ℕ
-segment_text seg =
+-- a segment on the axis of segments, those next to one another in two shades, up to its number
+abbrev pub open_segment : ℕ → List ℕ
+open_segment seg =
     concat (codes "<rect class=\"" ∷ (if seg % 2 == 0 then codes "even" else codes "odd") ∷ codes "\" x=\"" ∷ decimal seg
-    ∷ codes "\" width=\"1\" height=\"10\"><title>segment " ∷ decimal seg ∷ codes "</title></rect>\n" ∷ [])
+    ∷ codes "\" width=\"1\" height=\"10\"><title>segment " ∷ decimal seg ∷ [])
+
+abbrev pub segment_end : List ℕ
+segment_end = codes "</title></rect>\n"
+
+-- the whole segment
+abbrev pub segment_text : ℕ → List ℕ
+segment_text seg = open_segment seg ++ segment_end
 
 -- the start of the axis of segments, of so many from the first number on
 abbrev pub axis_text : ℕ → ℕ → List ℕ
@@ -106,33 +114,32 @@ marks_text recon range =
     let end = begun_below recon.segments range.hi in
     segments_text first end ++ numbers_text first end (stage_in recon range)
 
--- the column of a range but for its end, before which more may come
-abbrev pub open_column_text : ReconValue → ℕ × Range → List ℕ
-open_column_text recon (i, range) =
-    place_text i ++ (keys_text range ++ (owners_text range ++ marks_text recon range))
+-- the column of a range up to its segments
+abbrev pub column_head : ℕ × Range → List ℕ
+column_head (i, range) = place_text i ++ (keys_text range ++ owners_text range)
 
 abbrev pub column_end : List ℕ
 column_end = codes "</g>\n"
 
 -- the whole column
 abbrev pub column_text : ReconValue → ℕ × Range → List ℕ
-column_text recon numbered = open_column_text recon numbered ++ column_end
+column_text recon numbered = column_head numbered ++ (marks_text recon numbered.1 ++ column_end)
 
--- the start of a picture of so many columns
-abbrev pub frame_text : ℕ → List ℕ
-frame_text count = start_text (width_of count) (height_of count) (codes "What moves")
+-- the start of a picture of so many columns, with so many lines of text below them
+abbrev pub frame_text : ℕ → ℕ → List ℕ
+frame_text count lines = start_text (width_of count) (height_of count lines) (codes "What moves")
 
 -- what is above them
 abbrev pub heading_text : ℕ → List ℕ
 heading_text count = words_text (codes "start") 8 24 (heading_of count)
 
--- a picture of so many columns up to the first one
-abbrev pub top_text : ℕ → List ℕ
-top_text count = frame_text count ++ heading_text count
+-- a picture of so many columns, with so many lines below them, up to the first column
+abbrev pub top_text : ℕ → ℕ → List ℕ
+top_text count lines = frame_text count lines ++ heading_text count
 
 -- the whole
 abbrev pub moves_svg : ReconValue → List ℕ
-moves_svg recon = top_text (length recon.ranges) ++ (flat_map (column_text recon) (enumerate_from 0 recon.ranges) ++ end_text)
+moves_svg recon = top_text (length recon.ranges) 0 ++ (flat_map (column_text recon) (enumerate_from 0 recon.ranges) ++ end_text)
 
 -- the picture of what moves
 abbrev pub TellsAsSvg : ReconValue → List ℕ → Type 0

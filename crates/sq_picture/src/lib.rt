@@ -9,6 +9,9 @@ mod tree_svg;
 
 pub use json_text::moves_json;
 pub use listing::{AsJson, AsSvg};
-pub use moves_svg::{write_column_end, write_moves_svg, write_open_column, write_top};
+pub use moves_svg::{
+    begun_below, height_of, write_axis, write_column_end, write_column_head, write_moves_svg,
+    write_numbers, write_open_segment, write_segment_end, write_top,
+};
 pub use svg::write_end;
 pub use tree_svg::write_tree_svg;

@@ -2,7 +2,7 @@
 ghost use Rattle.std.specs.Prelude.{◌≡◌, ◌-◌, ◌<◌, length, OnOk};
 ghost use Rattle.std.specs.List.{flat_map, range_with_len, enumerate_from};
 ghost use Rattle.std.specs.Io.KnownBytes.{Appends};
-ghost use Rattle.sq_picture.specs.MovesSvg.{hue_of, light_of, width_of, height_of, heading_of, names_of, origin_text, place_text, keys_text, box_text, name_text, owner_text, owners_text, begun_below, segment_text, axis_text, segments_text, last_text, numbers_text, marks_text, open_column_text, column_end, column_text, frame_text, heading_text, top_text, moves_svg};
+ghost use Rattle.sq_picture.specs.MovesSvg.{hue_of, light_of, width_of, height_of, heading_of, names_of, origin_text, place_text, keys_text, box_text, name_text, owner_text, owners_text, begun_below, open_segment, segment_end, segment_text, axis_text, segments_text, last_text, numbers_text, marks_text, column_head, column_end, column_text, frame_text, heading_text, top_text, moves_svg};
 
 use crate::svg::{write_end, write_number, write_start, write_words};
 use sq_plan::PartId;
@@ -34,10 +34,11 @@ fn width_of(count: usize) -> usize
     96 + count.min(ACROSS).max(3) * 160
 }
 
-fn height_of(count: usize) -> u128
-    ensures { result ≡ height_of count }
+/// The height of a picture of so many columns, with so many lines of text below them.
+pub fn height_of(count: usize, lines: u64) -> u128
+    ensures { result ≡ height_of count lines }
 {
-    40 + (count as u128 + (ACROSS as u128 - 1)) / ACROSS as u128 * 196
+    40 + (count as u128 + (ACROSS as u128 - 1)) / ACROSS as u128 * 196 + u128::from(lines) * 20
 }
 
 // What is above the columns.
@@ -143,11 +144,31 @@ fn write_owners<W: Write>(writer: &mut W, range: &Range) -> io::Result<()>
     writer.write_all(b"<path class=\"arrow\" d=\"M72 70v20m-4 0h8l-4 7z\"/>\n")
 }
 
-// How many segments begin below this key.
-fn begun_below(segments: &[Range], key: u64) -> usize
+/// How many segments begin below this key.
+pub fn begun_below(segments: &[Range], key: u64) -> usize
     ensures { result ≡ begun_below segments.now key }
 {
     segments.iter().filter(|segment| segment.lo < key).count()
+}
+
+/// Writes a segment on the axis of segments up to its number, which is what it shows under the pointer. More may come behind it.
+/// An error is the writer's, as in each of these.
+pub fn write_open_segment<W: Write>(writer: &mut W, seg: usize) -> io::Result<()>
+    ensures { OnOk result (Appends (W.contents writer.old) (W.contents writer.new)
+        (open_segment seg)) }
+{
+    let class = if seg % 2 == 0 { "even" } else { "odd" };
+    write!(
+        writer,
+        "<rect class=\"{class}\" x=\"{seg}\" width=\"1\" height=\"10\"><title>segment {seg}"
+    )
+}
+
+/// Writes the end of a segment on the axis of segments.
+pub fn write_segment_end<W: Write>(writer: &mut W) -> io::Result<()>
+    ensures { OnOk result (Appends (W.contents writer.old) (W.contents writer.new) segment_end) }
+{
+    writer.write_all(b"</title></rect>\n")
 }
 
 // Writes a segment on the axis of segments.
@@ -155,11 +176,8 @@ fn write_segment<W: Write>(writer: &mut W, seg: usize) -> io::Result<()>
     ensures { OnOk result (Appends (W.contents writer.old) (W.contents writer.new)
         (segment_text seg)) }
 {
-    let class = if seg % 2 == 0 { "even" } else { "odd" };
-    writeln!(
-        writer,
-        "<rect class=\"{class}\" x=\"{seg}\" width=\"1\" height=\"10\"><title>segment {seg}</title></rect>"
-    )
+    write_open_segment(writer, seg)?;
+    write_segment_end(writer)
 }
 
 // Writes the segments from the first number up to the other one.
@@ -173,8 +191,8 @@ fn write_each<W: Write>(writer: &mut W, first: usize, end: usize) -> io::Result<
     Ok(())
 }
 
-// Writes the start of the axis of segments, of so many from the first number on.
-fn write_axis<W: Write>(writer: &mut W, first: usize, count: usize) -> io::Result<()>
+/// Writes the start of the axis of segments, of so many from the first number on.
+pub fn write_axis<W: Write>(writer: &mut W, first: usize, count: usize) -> io::Result<()>
     ensures { OnOk result (Appends (W.contents writer.old) (W.contents writer.new)
         (axis_text first count)) }
 {
@@ -206,8 +224,13 @@ fn write_last<W: Write>(writer: &mut W, first: usize, end: usize) -> io::Result<
     }
 }
 
-// Writes the numbers of the segments, the first and the last one, and their stage.
-fn write_numbers<W: Write>(writer: &mut W, first: usize, end: usize, stage: u64) -> io::Result<()>
+/// Writes the numbers of the segments from the first one up to the other one, the first and the last of them, and their stage.
+pub fn write_numbers<W: Write>(
+    writer: &mut W,
+    first: usize,
+    end: usize,
+    stage: u64,
+) -> io::Result<()>
     ensures { OnOk result (Appends (W.contents writer.old) (W.contents writer.new)
         (numbers_text first end stage)) }
 {
@@ -227,24 +250,17 @@ fn write_marks<W: Write>(writer: &mut W, recon: &Recon, range: &Range) -> io::Re
     write_numbers(writer, first, end, recon.stage_on(range.src, range.dst))
 }
 
-/// Writes the column of a range but for its end, before which more may come. An error is the writer's.
-pub fn write_open_column<W: Write>(
-    writer: &mut W,
-    recon: &Recon,
-    i: usize,
-    range: &Range,
-) -> io::Result<()>
-    ensures { OnOk result
-        (Appends (W.contents writer.old) (W.contents writer.new)
-        (open_column_text recon.now (i, range.now))) }
+/// Writes the column of a range up to its segments.
+pub fn write_column_head<W: Write>(writer: &mut W, i: usize, range: &Range) -> io::Result<()>
+    ensures { OnOk result (Appends (W.contents writer.old) (W.contents writer.new)
+        (column_head (i, range.now))) }
 {
     write_place(writer, i)?;
     write_keys(writer, range)?;
-    write_owners(writer, range)?;
-    write_marks(writer, recon, range)
+    write_owners(writer, range)
 }
 
-/// Writes the end of a column. An error is the writer's.
+/// Writes the end of a column.
 pub fn write_column_end<W: Write>(writer: &mut W) -> io::Result<()>
     ensures { OnOk result (Appends (W.contents writer.old) (W.contents writer.new) column_end) }
 {
@@ -256,7 +272,8 @@ fn write_column<W: Write>(writer: &mut W, recon: &Recon, i: usize, range: &Range
     ensures { OnOk result (Appends (W.contents writer.old) (W.contents writer.new)
         (column_text recon.now (i, range.now))) }
 {
-    write_open_column(writer, recon, i, range)?;
+    write_column_head(writer, i, range)?;
+    write_marks(writer, recon, range)?;
     write_column_end(writer)
 }
 
@@ -271,12 +288,17 @@ fn write_columns<W: Write>(writer: &mut W, recon: &Recon) -> io::Result<()>
     Ok(())
 }
 
-// Writes the start of a picture of so many columns.
-fn write_frame<W: Write>(writer: &mut W, count: usize) -> io::Result<()>
+// Writes the start of a picture of so many columns, with so many lines of text below them.
+fn write_frame<W: Write>(writer: &mut W, count: usize, lines: u64) -> io::Result<()>
     ensures { OnOk result (Appends (W.contents writer.old) (W.contents writer.new)
-        (frame_text count)) }
+        (frame_text count lines)) }
 {
-    write_start(writer, width_of(count), height_of(count), "What moves")
+    write_start(
+        writer,
+        width_of(count),
+        height_of(count, lines),
+        "What moves",
+    )
 }
 
 // Writes what is above so many columns.
@@ -287,12 +309,12 @@ fn write_heading<W: Write>(writer: &mut W, count: usize) -> io::Result<()>
     write_words(writer, "start", 8, 24, heading_of(count))
 }
 
-/// Writes a picture of so many columns up to the first one. An error is the writer's.
-pub fn write_top<W: Write>(writer: &mut W, count: usize) -> io::Result<()>
+/// Writes a picture of so many columns, with so many lines of text below them, up to the first column.
+pub fn write_top<W: Write>(writer: &mut W, count: usize, lines: u64) -> io::Result<()>
     ensures { OnOk result (Appends (W.contents writer.old) (W.contents writer.new)
-        (top_text count)) }
+        (top_text count lines)) }
 {
-    write_frame(writer, count)?;
+    write_frame(writer, count, lines)?;
     write_heading(writer, count)
 }
 
@@ -303,7 +325,7 @@ pub fn write_moves_svg<W: Write>(writer: &mut W, recon: &Recon) -> io::Result<()
     ensures { OnOk result (Appends (W.contents writer.old) (W.contents writer.new)
         (moves_svg recon.now)) }
 {
-    write_top(writer, recon.ranges().len())?;
+    write_top(writer, recon.ranges().len(), 0)?;
     write_columns(writer, recon)?;
     write_end(writer)
 }

@@ -1,6 +1,6 @@
 -- Runs of whole inputs.
-use Rattle.std.proofs.Common.{◌≡◌, ℕ, List, [], Option, inl, inr, refl, subst}
-use Rattle.std.specs.Prelude.{None, Result, Ok, Err, IfOk}
+use Rattle.std.proofs.Common.{◌≡◌, ℕ, List, [], Option, inl, inr, refl, sym, subst}
+use Rattle.std.specs.Prelude.{None, Some, Result, Ok, Err, IfOk}
 use Rattle.std.specs.Io.KnownBytes.{Keeps}
 use Rattle.sq_schema.specs.declared.schema.TheConstants.{MAX_TABLES}
 use Rattle.sq_ranges.specs.OpeningValue.{OpeningValue}
@@ -17,16 +17,17 @@ use Rattle.sq_text.specs.Located.{located}
 use Rattle.sq_text.specs.Header.{header_of, Opens}
 use Rattle.sq_text.proofs.Appending.{kept}
 use Rattle.sq_world.specs.declared.ending.Ending.{Ending}
+use Rattle.sq_world.specs.declared.ending.Ending.TheVariants.{Done, Stopped, Fault}
 use Rattle.sq_world.specs.declared.ending.ScriptManner.{ScriptManner}
 use Rattle.sq_world.specs.Inputs.{OfLines, OfReader}
 use Rattle.sq_world.specs.Run.{IsFault, EndsAtFault, RunsLines}
-use Rattle.sq_world.specs.Script.{OpensWorld, RefusesHeader, RunsScript}
+use Rattle.sq_world.specs.Script.{EndsWithDump, KeepsDumped, OpensWorld, RefusesHeader, RunsScript}
 
 -- a script that is run from a header's opening
-pub run_from : {E : Type 0} (manner : ScriptManner) (r : Result Ending E) (tables : ℕ) (begin lines : LinesValue) (before now : Option (List ℕ)) (w : WorldValue) → tables ≡ MAX_TABLES
-    → OpensWorld tables begin lines w → IfOk r (RunsScript manner tables w lines before now) → IfOk r (RunsLines manner MAX_TABLES begin before now)
-run_from manner (Err e) tables begin lines before now w eight opens writes = tt
-run_from manner (Ok ending) tables begin lines before now w eight opens writes =
+pub run_from : {E : Type 0} (manner : ScriptManner) (r : Result Ending E) (tables : ℕ) (begin lines : LinesValue) (before now : Option (List ℕ)) (w new : WorldValue) → tables ≡ MAX_TABLES
+    → OpensWorld tables begin lines w → IfOk r (RunsScript manner tables w new lines before now) → IfOk r (RunsLines manner MAX_TABLES begin before now)
+run_from manner (Err e) tables begin lines before now w new eight opens writes = tt
+run_from manner (Ok ending) tables begin lines before now w new eight opens writes =
     let o = opens.0 in
     let some = some_pieces lines in
     let there = opens.2 some.pieces some.can_come in
@@ -58,3 +59,29 @@ run_nothing says (Ok ending) known before now fault is nothing wrote =
 -- what was written is flushed
 pub run_flushed : (says : List PieceValue → List ℕ → Ending → Type 0) (known before mid now : Option (List ℕ)) (ending : Ending) → OfReader says known before mid ending → Keeps mid now → OfReader says known before now ending
 run_flushed says known before mid now ending ran keeps = (ran.0, ran.1, ran.2, kept before mid now ran.2 ran.3 keeps, ran.4)
+
+-- the world that is dumped is kept
+kept_as : (before now : Option (List ℕ)) (w : WorldValue) (ending : Ending) → EndsWithDump w before now ending → KeepsDumped (Some w) before now ending
+kept_as before now w Done dumped = (w, refl, dumped)
+kept_as before now w (Stopped refused) dumped = (w, refl, dumped)
+kept_as before now w (Fault fault) dumped = tt
+
+-- of a script that is run from a header's opening
+pub kept_from : {E : Type 0} (manner : ScriptManner) (r : Result Ending E) (tables : ℕ) (begin lines : LinesValue) (before now : Option (List ℕ)) (w new : WorldValue) → OpensWorld tables begin lines w
+    → IfOk r (RunsScript manner tables w new lines before now) → IfOk r (KeepsDumped (Some new) before now)
+kept_from manner (Err e) tables begin lines before now w new opens writes = tt
+kept_from manner (Ok ending) tables begin lines before now w new opens writes =
+    let some = some_pieces lines in
+    let there = opens.2 some.pieces some.can_come in
+    kept_as before now new ending (writes opens.0 [] opens.1 there.2.tables_are).dumped
+
+-- where a fault ends it, there is no dump
+pub kept_at_fault : {E : Type 0} (r : Result Ending E) (fault : LocatedFault) (kept : Option WorldValue) (before now : Option (List ℕ)) → IfOk r (EndsAtFault fault before now) → IfOk r (KeepsDumped kept before now)
+kept_at_fault (Err e) fault kept before now wrote = tt
+kept_at_fault (Ok ending) fault kept before now wrote = subst (KeepsDumped kept before now) (sym wrote.2.ends) tt
+
+-- what was written is flushed
+pub kept_flushed : (kept_world : Option WorldValue) (before mid now : Option (List ℕ)) (ending : Ending) → KeepsDumped kept_world before mid ending → Keeps mid now → KeepsDumped kept_world before now ending
+kept_flushed kept_world before mid now Done dumped keeps = (dumped.0, dumped.1, (dumped.2.0, kept before mid now _ dumped.2.1 keeps))
+kept_flushed kept_world before mid now (Stopped refused) dumped keeps = (dumped.0, dumped.1, (dumped.2.0, kept before mid now _ dumped.2.1 keeps))
+kept_flushed kept_world before mid now (Fault fault) dumped keeps = tt

@@ -33,7 +33,7 @@ use Rattle.sq_world.specs.declared.ending.ScriptManner.{ScriptManner}
 use Rattle.sq_state.specs.Dump.{dump}
 use Rattle.sq_world.specs.Echo.{answer_text, refused_text, refusal_in}
 use Rattle.sq_world.specs.Run.{Writes, GoesOnBehind, IsDumped, IsFault, EndsAtFault, AnswersLine, stopping, ending_at}
-use Rattle.sq_world.specs.Script.{LeadsTo, IsAnswered, IsWritten, AnswersWorld, RunsScript}
+use Rattle.sq_world.specs.Script.{LeadsTo, IsAnswered, EndsWithDump, IsWritten, AnswersWorld, RunsScript}
 use Rattle.sq_state.proofs.Dumps.{nothing}
 
 module _ (manner : ScriptManner) where
@@ -81,21 +81,29 @@ module _ (manner : ScriptManner) where
   on_read o t begin was lines first mid now w b keeps before =
       record { so_far = b.so_far; here = b.here; leads = b.leads; written = kept first mid now b.so_far b.written keeps; goes_on = λ left later ending can writes. b.goes_on left later ending (before left can) writes }
 
+  -- a run that ends so comes to its dump
+  dumps : (stop : Option ℕ) (line : ℕ) (before now : Option (List ℕ)) (w : WorldValue) (ending : Ending) (answers : List ℕ) → ending ≡ ending_at stop line → Appends before now (answers ++ dump w) → EndsWithDump w before now ending
+  dumps None line before now w ending answers is written = subst (EndsWithDump w before now) (sym is) (answers, written)
+  dumps (Some number) line before now w ending answers is written = subst (EndsWithDump w before now) (sym is) (answers, written)
+
   -- the end of the run, where this comes last
-  ended_by : (o : OpeningValue) (t : Trace) (begin was : LinesValue) (left : List PieceValue) (out : List ℕ) (ending : Ending) (first mid now : Option (List ℕ)) (w : WorldValue) (b : Before o t begin was first mid w) → CanCome was left → Writes manner o b.here left out ending → Appends mid now out → IsWritten manner o t begin first now ending
-  ended_by o t begin was left out ending first mid now w b can writes written =
+  ended_by : (o : OpeningValue) (t : Trace) (begin was : LinesValue) (left : List PieceValue) (out : List ℕ) (ending : Ending) (first mid now : Option (List ℕ)) (w new : WorldValue) (b : Before o t begin was first mid w) → CanCome was left → Writes manner o b.here left out ending → Appends mid now out
+      → (Appends first now (b.so_far ++ out) → EndsWithDump new first now ending) → IsWritten manner o t begin first now new ending
+  ended_by o t begin was left out ending first mid now w new b can writes written dumped =
       let all = b.goes_on left out ending can writes in
-      record { pieces = all.0; can_come = all.1; out = b.so_far ++ out; writes = all.2; written = both first mid now b.so_far out _ b.written written refl }
+      let whole : Appends first now (b.so_far ++ out) = both first mid now b.so_far out _ b.written written refl in
+      record { pieces = all.0; can_come = all.1; out = b.so_far ++ out; writes = all.2; written = whole; dumped = dumped whole }
 
   abbrev AllBefore : ℕ → LinesValue → LinesValue → Option (List ℕ) → Option (List ℕ) → WorldValue → WorldValue → Type 0
   AllBefore tables begin was first mid start w = (o : OpeningValue) (t : Trace) → LeadsTo o t start → o.tables ≡ tables → Before o t begin was first mid w
 
   -- the end of the script
   pub at_end : {E : Type 0} (r : Result Ending E) (tables : ℕ) (begin was : LinesValue) (first mid now : Option (List ℕ)) (start w : WorldValue) → AllBefore tables begin was first mid start w → CanCome was []
-      → IfOk r (λ ending. ending ≡ Done) → OnOk r (Appends mid now (dump w)) → IfOk r (RunsScript manner tables start begin first now)
+      → IfOk r (λ ending. ending ≡ Done) → OnOk r (Appends mid now (dump w)) → IfOk r (RunsScript manner tables start w begin first now)
   at_end (Err e) tables begin was first mid now start w before none is written = tt
   at_end (Ok ending) tables begin was first mid now start w before none is written =
-      λ o t leads same. let b = before o t leads same in ended_by o t begin was [] (dump w) ending first mid now w b none (record { world = w; holds = b.leads.holds; says = refl }, is) written
+      λ o t leads same. let b = before o t leads same in ended_by o t begin was [] (dump w) ending first mid now w w b none (record { world = w; holds = b.leads.holds; says = refl }, is) written
+      (dumps None 0 first now w ending b.so_far is)
 
   -- the last line, behind which a run ends
   last_of : (stop : Option ℕ) (line : ℕ) (o : OpeningValue) (t : Trace) (out : List ℕ) (ending : Ending) → IsDumped o t out → ending ≡ ending_at stop line → GoesOnBehind stop line o t out ending (IsDumped o t out × (ending ≡ Done))
@@ -105,7 +113,7 @@ module _ (manner : ScriptManner) where
   -- a line that was refused, behind which the run ends
   pub at_stop : {E : Type 0} (r : Result Ending E) (tables : ℕ) (begin was lines : LinesValue) (line number : ℕ) (refused : Option ℕ) (first mid said now : Option (List ℕ)) (start w new : WorldValue) → AllBefore tables begin was first mid start w → CameBefore was (Line (next_line_number was.lines_left) lines.piece) lines
       → ((o : OpeningValue) (t : Trace) → LeadsTo o t w → o.tables ≡ tables → IsAnswered manner.echoes o t lines.piece mid said new refused)
-      → stopping manner refused ≡ Some number → line ≡ next_line_number was.lines_left → IfOk r (λ ending. ending ≡ ending_at (Some number) line) → OnOk r (Appends said now (dump new)) → IfOk r (RunsScript manner tables start begin first now)
+      → stopping manner refused ≡ Some number → line ≡ next_line_number was.lines_left → IfOk r (λ ending. ending ≡ ending_at (Some number) line) → OnOk r (Appends said now (dump new)) → IfOk r (RunsScript manner tables start new begin first now)
   at_stop (Err e) tables begin was lines line number refused first mid said now start w new before came answers stop here is written = tt
   at_stop (Ok ending) tables begin was lines line number refused first mid said now start w new before came answers stop here is written =
       λ o t leads same.
@@ -116,12 +124,13 @@ module _ (manner : ScriptManner) where
       let place = next_line_number was.lines_left in
       let goes : GoesOnBehind (stopping manner refused) place o answered.after (dump new) ending (Writes manner o answered.after some.pieces (dump new) ending) =
       subst (λ (s : Option ℕ). GoesOnBehind s place o answered.after (dump new) ending (Writes manner o answered.after some.pieces (dump new) ending)) (sym stop) (dumped, is ∙ ap (λ (n : ℕ). ending_at (Some number) n) here) in
-      ended_by o t begin was (Line place lines.piece ∷ some.pieces) (answered.text ++ dump new) ending first mid now w b (came some.pieces some.can_come) (answered.after, answered.text, dump new, refused, answered.answers_line, refl, goes)
+      ended_by o t begin was (Line place lines.piece ∷ some.pieces) (answered.text ++ dump new) ending first mid now w new b (came some.pieces some.can_come) (answered.after, answered.text, dump new, refused, answered.answers_line, refl, goes)
       (both mid said now answered.text (dump new) _ answered.written written refl)
+      (λ whole. dumps (Some number) line first now new ending (b.so_far ++ answered.text) is (subst (Appends first now) (sym (append_assoc b.so_far answered.text (dump new))) whole))
 
   -- a rest, and then the end of the script
   pub at_rest : {E : Type 0} (r : Result Ending E) (tables : ℕ) (begin was : LinesValue) (line : ℕ) (bytes : List ℕ) (number : ℕ) (first mid said now : Option (List ℕ)) (start w : WorldValue) → AllBefore tables begin was first mid start w → CanCome was (Rest line bytes ∷ [])
-      → number ≡ line_fault_number faults.NotAStep → Appends mid said (refused_text manner.echoes bytes number) → IfOk r (λ ending. ending ≡ ending_at (stopping manner (Some number)) line) → OnOk r (Appends said now (dump w)) → IfOk r (RunsScript manner tables start begin first now)
+      → number ≡ line_fault_number faults.NotAStep → Appends mid said (refused_text manner.echoes bytes number) → IfOk r (λ ending. ending ≡ ending_at (stopping manner (Some number)) line) → OnOk r (Appends said now (dump w)) → IfOk r (RunsScript manner tables start w begin first now)
   at_rest (Err e) tables begin was line bytes number first mid said now start w before rest says told is written = tt
   at_rest (Ok ending) tables begin was line bytes number first mid said now start w before rest says told is written =
       λ o t leads same.
@@ -129,28 +138,31 @@ module _ (manner : ScriptManner) where
       let refused : Appends mid said (refused_text manner.echoes bytes (line_fault_number faults.NotAStep)) = subst (λ n. Appends mid said (refused_text manner.echoes bytes n)) says told in
       let dumped : IsDumped o b.here (dump w) = record { world = w; holds = b.leads.holds; says = refl } in
       let over = last_of (stopping manner (Some (line_fault_number faults.NotAStep))) line o b.here (dump w) ending dumped (is ∙ ap (λ (n : ℕ). ending_at (stopping manner (Some n)) line) says) in
-      ended_by o t begin was (Rest line bytes ∷ []) (refused_text manner.echoes bytes (line_fault_number faults.NotAStep) ++ dump w) ending first mid now w b rest (dump w, refl, over)
+      ended_by o t begin was (Rest line bytes ∷ []) (refused_text manner.echoes bytes (line_fault_number faults.NotAStep) ++ dump w) ending first mid now w w b rest (dump w, refl, over)
       (both mid said now (refused_text manner.echoes bytes (line_fault_number faults.NotAStep)) (dump w) _ refused written refl)
+      (λ whole. dumps (stopping manner (Some number)) line first now w ending (b.so_far ++ refused_text manner.echoes bytes (line_fault_number faults.NotAStep)) is
+      (subst (Appends first now) (sym (append_assoc b.so_far (refused_text manner.echoes bytes (line_fault_number faults.NotAStep)) (dump w))) whole))
 
   -- a fault, which ends the run
   at_fault : {E : Type 0} (r : Result Ending E) (tables : ℕ) (begin was : LinesValue) (left : List PieceValue) (fault : LocatedFault) (first mid now : Option (List ℕ)) (start w : WorldValue) → AllBefore tables begin was first mid start w → CanCome was left
       → ((o : OpeningValue) (t : Trace) (out : List ℕ) (ending : Ending) → IsFault fault out ending → Writes manner o t left out ending)
-      → IfOk r (EndsAtFault fault mid now) → IfOk r (RunsScript manner tables start begin first now)
+      → IfOk r (EndsAtFault fault mid now) → IfOk r (RunsScript manner tables start w begin first now)
   at_fault (Err e) tables begin was left fault first mid now start w before can writes over = tt
   at_fault (Ok ending) tables begin was left fault first mid now start w before can writes over =
-      λ o t leads same. let b = before o t leads same in ended_by o t begin was left over.0 ending first mid now w b can (writes o b.here over.0 ending over.2) over.1
+      λ o t leads same. let b = before o t leads same in ended_by o t begin was left over.0 ending first mid now w w b can (writes o b.here over.0 ending over.2) over.1
+      (λ whole. subst (EndsWithDump w first now) (sym over.2.ends) tt)
 
   -- the reading failed, or it ended in a line without end, or behind the last line that may come
   pub at_failed : {E : Type 0} (r : Result Ending E) (tables : ℕ) (begin was : LinesValue) (line : ℕ) (bytes : List ℕ) (fault : LocatedFault) (first mid now : Option (List ℕ)) (start w : WorldValue) → AllBefore tables begin was first mid start w → CanCome was (Failed line bytes ∷ [])
-      → fault ≡ located ReadFailed (Some (Later line)) → IfOk r (EndsAtFault fault mid now) → IfOk r (RunsScript manner tables start begin first now)
+      → fault ≡ located ReadFailed (Some (Later line)) → IfOk r (EndsAtFault fault mid now) → IfOk r (RunsScript manner tables start w begin first now)
   at_failed r tables begin was line bytes fault first mid now start w before can is over = at_fault r tables begin was (Failed line bytes ∷ []) fault first mid now start w before can (λ o t out ending wrote. subst (λ f. IsFault f out ending) is wrote) over
 
   pub at_too_many : {E : Type 0} (r : Result Ending E) (tables : ℕ) (begin was : LinesValue) (fault : LocatedFault) (first mid now : Option (List ℕ)) (start w : WorldValue) → AllBefore tables begin was first mid start w → CanCome was (TooMany ∷ [])
-      → fault ≡ located TooLong (Some (Later (MAX_LINES + 1))) → IfOk r (EndsAtFault fault mid now) → IfOk r (RunsScript manner tables start begin first now)
+      → fault ≡ located TooLong (Some (Later (MAX_LINES + 1))) → IfOk r (EndsAtFault fault mid now) → IfOk r (RunsScript manner tables start w begin first now)
   at_too_many r tables begin was fault first mid now start w before can is over = at_fault r tables begin was (TooMany ∷ []) fault first mid now start w before can (λ o t out ending wrote. subst (λ f. IsFault f out ending) is wrote) over
 
   pub at_long : {E : Type 0} (r : Result Ending E) (tables : ℕ) (begin was : LinesValue) (fault : LocatedFault) (first mid now : Option (List ℕ)) (start w : WorldValue) → AllBefore tables begin was first mid start w → IsLong MAX_UNENDED was
-      → fault ≡ located TooLong (Some (Later (next_line_number was.lines_left))) → IfOk r (EndsAtFault fault mid now) → IfOk r (RunsScript manner tables start begin first now)
+      → fault ≡ located TooLong (Some (Later (next_line_number was.lines_left))) → IfOk r (EndsAtFault fault mid now) → IfOk r (RunsScript manner tables start w begin first now)
   at_long r tables begin was fault first mid now start w before long is over =
       let endless = is_endless was long in
       at_fault r tables begin was (Endless (next_line_number was.lines_left) endless.bytes ∷ endless.others) fault first mid now start w before endless.can_come (λ o t out ending wrote. subst (λ f. IsFault f out ending) is wrote) over

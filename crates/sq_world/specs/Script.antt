@@ -1,5 +1,5 @@
 -- A script that is run, line by line.
-use Rattle.std.specs.Prelude.{◌≡◌, ℕ, Bool, List, [], Option, Ok, Err}
+use Rattle.std.specs.Prelude.{◌≡◌, ℕ, Bool, List, [], ◌++◌, Option, Some, Ok, Err, ⊤}
 use Rattle.std.specs.Io.KnownBytes.{Appends}
 use Rattle.sq_ranges.specs.OpeningValue.{OpeningValue}
 use Rattle.sq_model.specs.Trace.{Trace}
@@ -11,7 +11,9 @@ use Rattle.sq_lines.specs.Pieces.{PieceValue}
 use Rattle.sq_lines.specs.Coming.{LinesValue, CanCome, Leaves}
 use Rattle.sq_text.specs.declared.located.LocatedFault.{LocatedFault}
 use Rattle.sq_text.specs.Header.{header_of, Opens}
+use Rattle.sq_state.specs.Dump.{dump}
 use Rattle.sq_world.specs.declared.ending.Ending.{Ending}
+use Rattle.sq_world.specs.declared.ending.Ending.TheVariants.{Done, Stopped, Fault}
 use Rattle.sq_world.specs.declared.ending.ScriptManner.{ScriptManner}
 use Rattle.sq_world.specs.Run.{AnswersLine, Writes}
 
@@ -31,14 +33,28 @@ pub record IsAnswered (echoes : Bool) (o : OpeningValue) (t : Trace) (line : Lis
   pub leads : LeadsTo o after w
   pub written : Appends before now text
 
--- what the lines of a script are answered after this history was written, and so the run ends
+-- where a run comes to its dump, that is written last, and it is the dump of this world
+abbrev pub EndsWithDump : WorldValue → Option (List ℕ) → Option (List ℕ) → Ending → Type 0
+EndsWithDump w before now Done = (answers : List ℕ) × Appends before now (answers ++ dump w)
+EndsWithDump w before now (Stopped refused) = (answers : List ℕ) × Appends before now (answers ++ dump w)
+EndsWithDump w before now (Fault located) = ⊤
+
+-- the same of a world that is kept, if one is
+abbrev pub KeepsDumped : Option WorldValue → Option (List ℕ) → Option (List ℕ) → Ending → Type 0
+KeepsDumped kept before now Done = (w : WorldValue) × (kept ≡ Some w) × EndsWithDump w before now Done
+KeepsDumped kept before now (Stopped refused) =
+    (w : WorldValue) × (kept ≡ Some w) × EndsWithDump w before now (Stopped refused)
+KeepsDumped kept before now (Fault located) = ⊤
+
+-- what the lines of a script are answered after this history was written, and so the run ends, where this is the world then
 pub record IsWritten (manner : ScriptManner) (o : OpeningValue) (t : Trace) (lines : LinesValue) (before now : Option (List ℕ))
-    (ending : Ending) : Type 0 where
+    (w : WorldValue) (ending : Ending) : Type 0 where
   pub pieces : List PieceValue
   pub can_come : CanCome lines pieces
   pub out : List ℕ
   pub writes : Writes manner o t pieces out ending
   pub written : Appends before now out
+  pub dumped : EndsWithDump w before now ending
 
 -- whatever legal history of an opening with these tables led to the world, a line is answered after it
 abbrev pub AnswersWorld : Bool → ℕ → List ℕ → WorldValue → WorldValue → Option (List ℕ) → Option (List ℕ) → Option ℕ → Type 0
@@ -47,9 +63,9 @@ AnswersWorld echoes tables line old new before now refused =
     → IsAnswered echoes o t line before now new refused
 
 -- whatever legal history of an opening with these tables led to the world, a script is run after it
-abbrev pub RunsScript : ScriptManner → ℕ → WorldValue → LinesValue → Option (List ℕ) → Option (List ℕ) → Ending → Type 0
-RunsScript manner tables world lines before now ending =
-    (o : OpeningValue) (t : Trace) → LeadsTo o t world → o.tables ≡ tables → IsWritten manner o t lines before now ending
+abbrev pub RunsScript : ScriptManner → ℕ → WorldValue → WorldValue → LinesValue → Option (List ℕ) → Option (List ℕ) → Ending → Type 0
+RunsScript manner tables old new lines before now ending =
+    (o : OpeningValue) (t : Trace) → LeadsTo o t old → o.tables ≡ tables → IsWritten manner o t lines before now new ending
 
 -- the lines of a reader give an opening up to those that are left, and the world is the one of the opening
 abbrev pub OpensWorld : ℕ → LinesValue → LinesValue → WorldValue → Type 0

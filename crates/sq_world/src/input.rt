@@ -1,7 +1,7 @@
 // Inputs: bytes in, bytes out.
 ghost use Rattle.std.specs.Prelude.{IfOk, IfErr};
 ghost use Rattle.sq_world.specs.Run.{Runs, RunsLines};
-ghost use Rattle.sq_world.specs.Script.{OpensWorld, RefusesHeader};
+ghost use Rattle.sq_world.specs.Script.{OpensWorld, RefusesHeader, KeepsDumped};
 
 use crate::ending::{Ending, ScriptManner};
 use crate::script::{end_by, run_script};
@@ -25,8 +25,8 @@ use std::io::{Read, Write};
 /// refusal what it means, as `LINE -> refused 216: the node's last chunk isn't loaded`. Where it is `strict`, it ends
 /// behind the first line that is refused.
 ///
-/// The world that the header opens comes into `kept`, in place of what is there: a caller may free it later or leave it to
-/// the system.
+/// The world that the header opens comes into `kept`, in place of what is there; where the run comes to its dump it is the one
+/// that is dumped. A caller may free it later or leave it to the system.
 pub fn run<R: Read, W: Write>(
     alloc: Global,
     reader: &mut R,
@@ -34,9 +34,11 @@ pub fn run<R: Read, W: Write>(
     manner: ScriptManner,
     kept: &mut Option<World>,
 ) -> Result<Ending, WriteFault>
-    ensures { IfOk result
+    ensures runs { IfOk result
         (Runs manner MAX_TABLES (R.remaining reader.old) (W.contents writer.old)
         (W.contents writer.new)) }
+    ensures kept { IfOk result
+        (KeepsDumped kept.new (W.contents writer.old) (W.contents writer.new)) }
 {
     let ending = run_unflushed(alloc, reader, writer, manner, kept)?;
     writer.flush()?;
@@ -51,9 +53,11 @@ fn run_unflushed<R: Read, W: Write>(
     manner: ScriptManner,
     kept: &mut Option<World>,
 ) -> Result<Ending, WriteFault>
-    ensures { IfOk result
+    ensures runs { IfOk result
         (Runs manner MAX_TABLES (R.remaining reader.old) (W.contents writer.old)
         (W.contents writer.new)) }
+    ensures kept { IfOk result
+        (KeepsDumped kept.new (W.contents writer.old) (W.contents writer.new)) }
 {
     match LineReader::new(alloc, reader) {
         Ok(mut lines) => run_lines(alloc, &mut lines, writer, manner, kept),
@@ -69,8 +73,10 @@ fn run_lines<R: Read, W: Write>(
     manner: ScriptManner,
     kept: &mut Option<World>,
 ) -> Result<Ending, WriteFault>
-    ensures { IfOk result (RunsLines manner MAX_TABLES lines.old (W.contents writer.old)
+    ensures runs { IfOk result (RunsLines manner MAX_TABLES lines.old (W.contents writer.old)
         (W.contents writer.new)) }
+    ensures kept { IfOk result
+        (KeepsDumped kept.new (W.contents writer.old) (W.contents writer.new)) }
 {
     let Some(schema) = Schema::new(MAX_TABLES) else {
         unreachable!()

@@ -28,7 +28,7 @@ pub(crate) fn run_script<R: Read, W: Write>(
     manner: ScriptManner,
 ) -> Result<Ending, WriteFault>
     ensures { IfOk result
-        (RunsScript manner schema.now world.old lines.old (W.contents writer.old)
+        (RunsScript manner schema.now world.old world.new lines.old (W.contents writer.old)
         (W.contents writer.new)) }
 {
     loop {

@@ -7,7 +7,7 @@ ghost use Rattle.sq_live.specs.Live.{RunsLive};
 ghost use Rattle.squall.specs.Session.{live_status, EndsAs};
 
 use crate::flaws::{tell_misfit_of_job, tell_unread_stages};
-use crate::outputs::save_text;
+use crate::outputs::{explain_unwritten, save_text};
 use crate::session::{REFUSED, explain, explain_write};
 use crate::source::Source;
 use sq_command::LiveOptions;
@@ -201,7 +201,7 @@ fn draw_timeline<T: Wait + Clock + Sync + Eprint + Files + AllocGlobal, G: Watch
         Err(error) => Err(error),
     };
     if let Err(error) = &drawn {
-        let _ = eprintln!(rt; "squall: the file '{name}' can't be written: {error}");
+        explain_unwritten(rt, name, error);
     }
     drawn.is_ok()
 }

@@ -4,10 +4,11 @@ ghost use Rattle.std.specs.Prelude.{◌≡◌, IfSome};
 use crate::session::{REFUSED, refuse_for_memory};
 use sq_command::{Input, Task};
 use sq_outputs::{
-    Conflict, Output, SystemFolder, conflict_among, part_name, place_of, place_of_standard_input,
-    save,
+    Conflict, Output, SystemFolder, conflict_among, find_folder_of, part_name, place_of,
+    place_of_standard_input, save,
 };
 use std::io;
+use std::io::ErrorKind;
 use std::rt::Files;
 
 // The option of the file that isn't written whole or not at all.
@@ -98,8 +99,8 @@ fn inputs_of<T: Files + AllocGlobal>(rt: &T, input: Input<'_>) -> io::Result<Vec
     Ok(places)
 }
 
-/// Refuses a task that would write a file that it reads too, or one file twice, before it reads anything: says so on standard
-/// error, and gives the exit status.
+/// Refuses a task that would write a file that it reads too, or one file twice, or one in a folder that isn't there, before it
+/// reads anything: says so on standard error, and gives the exit status.
 pub fn refuse_outputs<T: Print + Eprint + Files + AllocGlobal>(
     rt: &T,
     task: Task<'_>,
@@ -107,32 +108,48 @@ pub fn refuse_outputs<T: Print + Eprint + Files + AllocGlobal>(
 ) -> Option<u8>
     ensures { IfSome result (λ status. status ≡ 2) }
 {
-    match is_in_conflict(rt, task, input) {
-        Ok(true) => Some(REFUSED),
-        Ok(false) => None,
+    match may_write(rt, task, input) {
+        Ok(true) => None,
+        Ok(false) => Some(REFUSED),
         Err(_) => Some(refuse_for_memory(rt)),
     }
 }
 
-// Whether a task would write a file that it reads too, or one file twice; standard error says so. An error is that
-// there is no memory for the answer.
-fn is_in_conflict<T: Eprint + Files + AllocGlobal>(
+// Whether a task writes no file that it reads too, none twice, and each in a folder that is there; else standard error says which.
+// An error is that there is no memory for the answer.
+fn may_write<T: Eprint + Files + AllocGlobal>(
     rt: &T,
     task: Task<'_>,
     input: Input<'_>,
 ) -> io::Result<bool> {
     let outputs = outputs_of(rt, task)?;
     if outputs.is_empty() {
-        return Ok(false);
+        return Ok(true);
     }
     let read = inputs_of(rt, input)?;
-    match conflict_among(&outputs, &read) {
-        Some(conflict) => {
-            explain_conflict(rt, conflict);
-            Ok(true)
-        }
-        None => Ok(false),
+    if let Some(conflict) = conflict_among(&outputs, &read) {
+        explain_conflict(rt, conflict);
+        return Ok(false);
     }
+    have_folders(rt, &outputs)
+}
+
+// Whether the folders of files are there; standard error says of which file it isn't.
+fn have_folders<T: Eprint + Files + AllocGlobal>(
+    rt: &T,
+    outputs: &[Output<'_>],
+) -> io::Result<bool> {
+    for output in outputs {
+        match find_folder_of(rt, output.name) {
+            Ok(()) => {}
+            Err(error) if error.kind() == ErrorKind::OutOfMemory => return Err(error),
+            Err(error) => {
+                explain_unwritten(rt, output.name, &error);
+                return Ok(false);
+            }
+        }
+    }
+    Ok(true)
 }
 
 /// Says on standard error why a file can't be written.
@@ -163,7 +180,12 @@ pub fn save_text<T: Eprint + Files + AllocGlobal>(
         Err(error) => Err(error),
     };
     if let Err(error) = &saved {
-        let _ = eprintln!(rt; "squall: the file '{name}' can't be written: {error}");
+        explain_unwritten(rt, name, error);
     }
     saved.is_ok()
+}
+
+/// Says on standard error that the file of this name can't be written, and why.
+pub fn explain_unwritten(rt: &impl Eprint, name: &str, error: &io::Error) {
+    let _ = eprintln!(rt; "squall: the file '{name}' can't be written: {error}");
 }
