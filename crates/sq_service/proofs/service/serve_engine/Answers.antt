@@ -36,6 +36,6 @@ returns-in-Err g c =
           served_ends no_pages c.loop.book c.args.engine (dv c.args.desk) c.loop.engine (dv c.loop.desk) c.in-Err.ending (dv step.result.desk)
           c.loop.invariant
           (subst (λ (r : Result Standing ServeEnding). StepGives c.loop.book c.loop.engine (dv c.loop.desk) step.new.book r (dv step.result.desk)) c.in-Err.is step.ensures);
-      written = refl;
+      written = rw c.into_outlet.ensures refl;
       stopped = λ still. (or_parts step.result.desk.lacks_memory step.result.desk.outlet.has_failed still).1;
     }

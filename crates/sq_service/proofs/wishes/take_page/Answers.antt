@@ -11,6 +11,6 @@ returns-in-Ok g c =
     (desk_value g.W.Write.contents c.args.desk.now) c.in-Ok.engine c.requires
     (ap (λ (b : PageBook). b.due) c.put_due.ensures) (ap (λ (b : PageBook). b.committed) c.put_due.ensures) c.in-Ok.ensures.taken
 
-pub returns : goal.returns
-returns g c =
+pub returns-in-Err : goal.returns-in-Err
+returns-in-Err g c =
     ends_at_once c.args.book.now c.args.engine (desk_value g.W.Write.contents c.args.desk.now) Memory c.requires tt
