@@ -1,8 +1,9 @@
-use Rattle.std.proofs.Common.{refl, sym, subst}
+use Rattle.std.proofs.Common.{sym, subst, ap, ◌∙◌}
 use Rattle.std.specs.Prelude.{Result}
 use Rattle.std.proofs.lemmas.Bool.{or_parts}
 use Rattle.sq_engine.specs.declared.standing.Standing.{Standing}
 use Rattle.sq_server.specs.declared.ending.ServeEnding.{ServeEnding}
+use Rattle.sq_server.specs.declared.outlet.Outlet.{Outlet}
 use Rattle.sq_server.specs.Becoming.{desk_value}
 use Rattle.sq_service.specs.declared.page_book.PageBook.{PageBook}
 use Rattle.sq_service.specs.Events.{HasServed}
@@ -36,6 +37,8 @@ returns-in-Err g c =
           served_ends no_pages c.loop.book c.args.engine (dv c.args.desk) c.loop.engine (dv c.loop.desk) c.in-Err.ending (dv step.result.desk)
           c.loop.invariant
           (subst (λ (r : Result Standing ServeEnding). StepGives c.loop.book c.loop.engine (dv c.loop.desk) step.new.book r (dv step.result.desk)) c.in-Err.is step.ensures);
-      written = rw c.into_outlet.ensures refl;
-      stopped = λ still. (or_parts step.result.desk.lacks_memory step.result.desk.outlet.has_failed still).1;
+      written = ap (λ (o : Outlet _). g.W.Write.contents o.writer) c.into_outlet.ensures;
+      stopped = λ still.
+          ap (λ (o : Outlet _). o.has_failed) c.into_outlet.ensures
+          ∙ (or_parts step.result.desk.lacks_memory step.result.desk.outlet.has_failed still).1;
     }

@@ -15,4 +15,4 @@ returns-in-Ok g c =
     )
 
 pub returns-in-Err : goal.returns-in-Err
-returns-in-Err g c = inr (refl, refl)
+returns-in-Err g c = inr (refl, c.into_outlet.ensures)
