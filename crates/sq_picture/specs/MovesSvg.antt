@@ -74,11 +74,15 @@ owners_text range = owner_text range.src 32 ++ (owner_text range.dst 104 ++ code
 abbrev pub begun_below : List Range → ℕ → ℕ
 begun_below segments key = count_by (λ segment. nat_lt segment.lo key) segments
 
--- a segment on the axis of segments, those next to one another in two shades, up to its number
+-- the shade of a segment: those next to one another have two
+abbrev pub shade_of : ℕ → List ℕ
+shade_of seg = if seg % 2 == 0 then codes "even" else codes "odd"
+
+-- a segment on the axis of segments, up to its number
 abbrev pub open_segment : ℕ → List ℕ
 open_segment seg =
-    concat (codes "<rect class=\"" ∷ (if seg % 2 == 0 then codes "even" else codes "odd") ∷ codes "\" x=\"" ∷ decimal seg
-    ∷ codes "\" width=\"1\" height=\"10\"><title>segment " ∷ decimal seg ∷ [])
+    codes "<rect class=\"" ++ shade_of seg ++ codes "\" x=\"" ++ decimal seg
+    ++ codes "\" width=\"1\" height=\"10\"><title>segment " ++ decimal seg
 
 abbrev pub segment_end : List ℕ
 segment_end = codes "</title></rect>\n"

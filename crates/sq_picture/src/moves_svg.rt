@@ -2,7 +2,7 @@
 ghost use Rattle.std.specs.Prelude.{◌≡◌, ◌-◌, ◌<◌, length, OnOk};
 ghost use Rattle.std.specs.List.{flat_map, range_with_len, enumerate_from};
 ghost use Rattle.std.specs.Io.KnownBytes.{Appends};
-ghost use Rattle.sq_picture.specs.MovesSvg.{hue_of, light_of, width_of, height_of, heading_of, names_of, origin_text, place_text, keys_text, box_text, name_text, owner_text, owners_text, begun_below, open_segment, segment_end, segment_text, axis_text, segments_text, last_text, numbers_text, marks_text, column_head, column_end, column_text, frame_text, heading_text, top_text, moves_svg};
+ghost use Rattle.sq_picture.specs.MovesSvg.{hue_of, light_of, width_of, height_of, heading_of, names_of, origin_text, place_text, keys_text, box_text, name_text, owner_text, owners_text, begun_below, shade_of, open_segment, segment_end, segment_text, axis_text, segments_text, last_text, numbers_text, marks_text, column_head, column_end, column_text, frame_text, heading_text, top_text, moves_svg};
 
 use crate::svg::{write_end, write_number, write_start, write_words};
 use sq_plan::PartId;
@@ -151,13 +151,20 @@ pub fn begun_below(segments: &[Range], key: u64) -> usize
     segments.iter().filter(|segment| segment.lo < key).count()
 }
 
+// The shade of a segment: those next to one another have two.
+fn shade_of(seg: usize) -> &'static str
+    ensures { result.now ≡ shade_of seg }
+{
+    if seg % 2 == 0 { "even" } else { "odd" }
+}
+
 /// Writes a segment on the axis of segments up to its number, which is what it shows under the pointer. More may come behind it.
 /// An error is the writer's, as in each of these.
 pub fn write_open_segment<W: Write>(writer: &mut W, seg: usize) -> io::Result<()>
     ensures { OnOk result (Appends (W.contents writer.old) (W.contents writer.new)
         (open_segment seg)) }
 {
-    let class = if seg % 2 == 0 { "even" } else { "odd" };
+    let class = shade_of(seg);
     write!(
         writer,
         "<rect class=\"{class}\" x=\"{seg}\" width=\"1\" height=\"10\"><title>segment {seg}"

@@ -64,7 +64,7 @@ sized_column o numbered =
 
 -- the start of the line of a stage, at this height
 abbrev pub open_stage : ℕ → ℕ → List ℕ
-open_stage y stage = concat (codes "<text x=\"8\" y=\"" ∷ decimal y ∷ codes "\">stage " ∷ decimal stage ∷ [])
+open_stage y stage = codes "<text x=\"8\" y=\"" ++ decimal y ++ codes "\">stage " ++ decimal stage
 
 -- a line below the columns, with the size of a stage
 abbrev pub stage_caption : OpeningValue → ℕ → List ℕ
