@@ -13,7 +13,7 @@ use Rattle.sq_ranges.specs.ReconValue.{stage_in, stages}
 use Rattle.sq_sizes.specs.declared.size.Size.{Size}
 use Rattle.sq_sizes.specs.declared.size.MovePart.TheVariants.{RangePart}
 use Rattle.sq_sizes.specs.Sizes.{part_size, size_in_64_bits}
-use Rattle.sq_sizes.specs.SizeSvg.{mark_in, marks_between, sized_marks, caption_text, sized_column, stage_caption, sizes_svg}
+use Rattle.sq_sizes.specs.SizeSvg.{size_phrase, mark_in, marks_between, sized_marks, caption_text, sized_column, stage_caption, sizes_svg}
 
 -- the segments of a range, from the numbers that were counted
 pub marked : {T E : Type 0} (r : Result T E) (o : OpeningValue) (range : Range) (first end stage : ℕ) (a b c d e : Option (List ℕ)) → first ≡ begun_below o.recon.segments range.lo → end ≡ begun_below o.recon.segments range.hi → stage ≡ stage_in o.recon range
@@ -52,3 +52,9 @@ pictured r o ranges count a b c d e are counted top columns captions end =
     (λ ended. Appends-trans a b e (top_text (length o.recon.ranges) (stages o.recon)) (columns_text ++ (stages_text ++ end_text)) top_is
     (Appends-trans b c e columns_text (stages_text ++ end_text) columns (Appends-trans c d e stages_text end_text captions ended)))
     end
+
+-- a size that was computed, between what is before and behind it
+pub phrased : {T E : Type 0} (r : Result T E) (front end : List ℕ) (size own : Size) (a b c d : Option (List ℕ)) → size ≡ own → Appends a b front → Appends b c (size_phrase size) → OnOk r (Appends c d end) → OnOk r (Appends a d (front ++ (size_phrase own ++ end)))
+phrased r front end size own a b c d is begun phrase ended =
+    let phrase_is : Appends b c (size_phrase own) = subst (λ (s : Size). Appends b c (size_phrase s)) is phrase in
+    on_ok_weaker r (λ over. Appends-trans a b d front (size_phrase own ++ end) begun (Appends-trans b c d (size_phrase own) end phrase_is over)) ended

@@ -9,7 +9,7 @@ pub returns : goal.returns
 returns g c =
     let o = c.args.opening.now in
     let range = c.args.range.now in
-    let same = c.recon.ensures.recon in
+    let same = c.recon-recon.ensures.recon in
     let first : c.begun_below-first.result ≡ begun_below o.recon.segments range.lo = c.begun_below-first.ensures ∙ ap (λ (all : List Range). begun_below all range.lo) (c.segments.ensures.segments ∙ ap (λ (recon : ReconValue). recon.segments) same) in
     let end : c.begun_below-end.result ≡ begun_below o.recon.segments range.hi = c.begun_below-end.ensures ∙ ap (λ (all : List Range). begun_below all range.hi) (c.segments-2.ensures.segments ∙ ap (λ (recon : ReconValue). recon.segments) same) in
     let stage : c.stage_on.result ≡ stage_in o.recon range = c.stage_on.ensures.stage ∙ ap (λ (recon : ReconValue). stage_in recon range) same in
