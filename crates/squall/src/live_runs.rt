@@ -43,8 +43,9 @@ pub fn live_run<
     source: &Source<'_>,
 ) -> u8
     requires { options.pumps ≤ MAX_PUMPS }
-    ensures { EndsAs (RunsLive options.folds MAX_TABLES (recalling_remaining R.remaining reader.old)
-        (W.contents writer.old) (W.contents writer.new)) live_status result }
+    ensures { EndsAs (RunsLive options.entry.folds MAX_TABLES
+        (recalling_remaining R.remaining reader.old) (W.contents writer.old)
+        (W.contents writer.new)) live_status result }
 {
     let LiveOptions {
         turns,

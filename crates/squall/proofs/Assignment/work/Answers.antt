@@ -11,5 +11,5 @@ returns-in-Ranges g c = with_recalled (Ranges c.in-Ranges.form c.in-Ranges.sizes
 pub returns-in-Steps : goal.returns-in-Steps
 returns-in-Steps g c = with_recalled Steps _ (g.R.Read.remaining c.new-reader.result.inner) _ _ _ _ c.in-Steps.is c.new-reader.ensures c.steps.ensures
 
-pub returns-in-Live : goal.returns-in-Live
-returns-in-Live g c = with_recalled (Live c.in-Live.options) _ (g.R.Read.remaining c.new-reader.result.inner) _ _ _ _ c.in-Live.is c.new-reader.ensures c.live_run.ensures
+pub returns : goal.returns
+returns g c = with_recalled (Live c.in-Live.options) _ (g.R.Read.remaining c.new-reader.result.inner) _ _ _ _ c.in-Live.is c.new-reader.ensures c.live_run.ensures
