@@ -357,15 +357,19 @@ served_reports() {
     count 'serve: a report that can not be written' "$([ "$ended" = 2 ] || echo "status $ended; ")$(difference "$room/said" "$room/err")"
 }
 
-# Moves of one family there and back, and one of none, which may be over before a job is wanted: each has its line.
+# Moves of one family there and back, and one of none, each of which may be over before a job is wanted: each has its line.
 served_short_moves() {
-    { opening; printf 'move %s\n' "$four_at_1" "$four_at_1" "$all_at_0"; } > "$room/jobs"
-    give "$room/jobs" serve --timeline "$room/line.csv" --summary-out "$room/account"
+    begin_engine --timeline "$room/line.csv" --summary-out "$room/account"
+    opening >&8
+    ask "move $four_at_1" 'moving 1' 'moved 1'
+    ask "move $four_at_1" 'moving 0' 'moved 0'
+    ask "move $all_at_0" 'moving 1' 'moved 1'
+    end_engine 'serve: short moves' 'sound 2 families 0 committed'
     sed -n 's/, from .*//p' "$room/account" > "$room/told"
     awk -F, 'NR > 1 { families += $6; bytes += $7 } END { print families, bytes }' "$room/line.csv" >> "$room/told"
     printf '%s\n' 'move: segments 1, families 1, bytes 56' 'move: segments 0, families 0, bytes 0' \
         'move: segments 1, families 1, bytes 56' '2 112' > "$room/wanted"
-    count 'serve: reports of short moves' "$([ "$ended" = 0 ] || echo "status $ended; ")$(difference "$room/wanted" "$room/told")"
+    count 'serve: reports of short moves' "$(difference "$room/wanted" "$room/told")"
 }
 
 # A closed output ends the engine at once, also while its input is silent; and so does a full device.
@@ -390,6 +394,7 @@ try_serve() {
     served_rows
     served_rows_in_a_move
     served_faults
+    served_short_moves
     served_closed_output
     trap - PIPE
     served_example
@@ -403,5 +408,4 @@ try_serve() {
     served_full_queue
     served_without_threads
     served_reports
-    served_short_moves
 }
