@@ -17,7 +17,8 @@
 #   two_stages   a move in two stages with a fold between them
 #   page         a page of a run at rest, which is taken and audited
 #   engine       an engine: a client of three jobs at rest, a pause, a page, a move with a client, a move back without one, and the
-#                end, with the verdict
+#                end, with the verdict; where a teller has no memory for an answer the epoch ends, and the jobs are answered
+#                without a client
 #   chain        the epochs of an engine one by one: a move in two stages, a page between them, a move back, and the end
 #
 # All tell first that they start, so that an output that is empty is a run that died.
@@ -39,7 +40,7 @@ room=$(mktemp -d)
 trap 'rm -r "$room"' EXIT
 
 # The allocation that fails.
-failing=800
+failing=900
 
 # The calls that are tried, each with the stored run that it is called on, with how many spaces its inputs begin with, and with
 # what takes memory in it. With the fewest none of its allocations is refused, and with the most one is that comes before the call
