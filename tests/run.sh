@@ -701,8 +701,10 @@ try_demo_of() {
     count "moves of demo $1" "$(grep -q '^range .* 0 1$' "$room/out" || echo 'no range goes from 0 to 1')"
     echo "sound $families families $5 committed" > "$room/wanted"
     give "$files/jobs.txt" live --old "$files/old.json" --new "$files/new.json" --rows "$files/rows.txt" \
-        --replies "$files/replies" --rows-out "$files/rows"
+        --replies "$files/replies" --rows-out "$files/rows" --timeline "$files/moments.csv"
     judge "live run of demo $1" 0 "$room/wanted" /dev/null
+    # No job begins to wait in the microsecond in which it is posted.
+    count "waits of demo $1" "$(awk -F, '$7 == "yes" && ($8 !~ /^[0-9]+$/ || $8 + 0 >= $6 + 0)' "$files/moments.csv" | head -n 1)"
     count "replies of demo $1" "$(awk '{ print $2 }' "$files/replies" | sort -n | cmp - <(seq 0 $(($5 - 1))) 2>&1)"
     count "rows of demo $1" "$(cat "$files/rows" | awk -v sum=$((100 * $3 + $5)) \
         '$3 == 0 { got += $5 } END { if (got + 0 != sum) print got " in place of " sum }')"
