@@ -274,7 +274,7 @@ served_full_queue() {
     } > "$room/jobs"
     give "$room/jobs" serve
     open=$(sed -n 's/^moving [0-9]* of 25 segments, \([0-9]*\) jobs open$/\1/p' "$room/out")
-    if [ "${open:-0}" -le 8000 ]; then why="$open jobs open; "; else why=; fi
+    if [ "${open:-0}" -le 20000 ]; then why="$open jobs open; "; else why=; fi
     {
         grep -n -x -e 'commit 30100 100' -e 'moved 25' "$room/out" | cut -d : -f 2
         sed 's/^commit [0-9]* .*/commit/; s/^moving [0-9]* of .*/so far/' "$room/out" | sort | uniq -c | sed 's/^ *//'
