@@ -10,7 +10,8 @@ use Rattle.sq_schema.specs.Family.{FamilyValue}
 use Rattle.sq_schema.specs.declared.schema.TheConstants.{MAX_TABLES}
 use Rattle.std.specs.Prelude.{pos, negsuc}
 use Rattle.sq_read_back.specs.Examples.{example_row, two_rows, last_root}
-use Rattle.sq_read_back.specs.ReadAgain.{IsFitRow, IsFitFamily, AreFit}
+use Rattle.sq_fit.specs.Fit.{IsFitRow, IsFitFamily}
+use Rattle.sq_read_back.specs.ReadAgain.{AreFit}
 
 abbrev IsByte : ℕ → Type 0
 IsByte byte = byte < 2 ^ 8
@@ -47,15 +48,13 @@ two_fit =
     let fits : Entry → Type 0 = IsFitRow MAX_TABLES in
     record {
       root = omega arith;
-      rising = refl;
-      rooted = refl;
-      rows = All-cons fits plain_row (noted_row ∷ []) plain_fits (All-cons fits noted_row [] noted_fits (All-nil fits));
+      rows = record { rising = refl; rooted = refl; each = All-cons fits plain_row (noted_row ∷ []) plain_fits (All-cons fits noted_row [] noted_fits (All-nil fits)) };
     }
 
 last_fits : IsFitFamily MAX_TABLES last_root
 last_fits =
     let fits : Entry → Type 0 = IsFitRow MAX_TABLES in
-    record { root = omega arith; rising = refl; rooted = refl; rows = All-cons fits least_row [] least_fits (All-nil fits) }
+    record { root = omega arith; rows = record { rising = refl; rooted = refl; each = All-cons fits least_row [] least_fits (All-nil fits) } }
 
 one_of_each : (root : ℕ) → count_by (λ (family : FamilyValue). family.root == root) (two_rows ∷ last_root ∷ []) ≤ 1
 one_of_each root = grind (arith, nat_tests)

@@ -25,7 +25,7 @@ use Rattle.sq_text.specs.HeaderFields.{given_in}
 use Rattle.sq_text.specs.Header.{given_of}
 use Rattle.sq_text.specs.Texts.{hex_byte_text, note_text}
 use Rattle.sq_steps.proofs.ReadBack.{number_is_read, all_digits}
-use Rattle.sq_read_back.specs.ReadAgain.{IsFitRow}
+use Rattle.sq_fit.specs.Fit.{IsFitRow}
 
 -- each byte is above a space
 abbrev pub is_solid : Word → Bool

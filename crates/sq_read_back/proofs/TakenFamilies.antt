@@ -1,6 +1,6 @@
 -- The rows of families, taken one family after another.
-use Rattle.std.proofs.Common.{◌≡◌, ◌≢◌, ℕ, ◌+◌, ◌≤◌, ◌==◌, Bool, true, false, List, [], ◌∷◌, ◌++◌, length, get_or, refl, sym, ap, ◌∙◌, append_assoc, arith}
-use Rattle.std.specs.Prelude.{if◌then◌else◌, Option, Some, None, Result, Ok, Err, codes, count_by}
+use Rattle.std.proofs.Common.{◌≡◌, ◌≢◌, ℕ, ◌+◌, ◌≤◌, ◌==◌, Bool, true, false, List, [], ◌∷◌, ◌++◌, length, get_or, refl, sym, ap, subst, ◌∙◌, append_assoc, arith}
+use Rattle.std.specs.Prelude.{Option, Some, None, Result, Ok, Err, codes}
 use Rattle.std.specs.List.{All, flat_map}
 use Rattle.std.proofs.lemmas.Bool.{eq-eqb, eqb-false}
 use Rattle.std.proofs.lemmas.List.Elements.{All-nil, All-cons, All-head, All-tail}
@@ -16,22 +16,11 @@ use Rattle.sq_text.specs.declared.located.LocatedFault.{LocatedFault}
 use Rattle.sq_text.specs.Header.{HeaderValue, unless_faulty, plans_fault, header_of_first, first_lines, plans_of, rows_taken}
 use Rattle.sq_results.specs.RowLines.{root_lines}
 use Rattle.sq_results.specs.Standing.{WritesRows}
-use Rattle.sq_read_back.specs.ReadAgain.{IsFitFamily, AreFit, count_of_rows, IsHeaderWith}
+use Rattle.sq_fit.specs.Fit.{IsFitFamily}
+use Rattle.sq_read_back.specs.ReadAgain.{AreFit, count_of_rows, IsHeaderWith, RowsAreReadBack}
+use Rattle.sq_read_back.proofs.Counts.{families_of, count_if, one_of, more_of}
 use Rattle.sq_read_back.proofs.TakenLines.{GoesOn, stands, goes_twice, stops}
 use Rattle.sq_read_back.proofs.TakenRows.{rows_go_on}
-
--- how many families there are of a root key
-abbrev families_of : ℕ → List FamilyValue → ℕ
-families_of root families = count_by (λ (family : FamilyValue). family.root == root) families
-
-abbrev count_if : Bool → ℕ
-count_if same = if same then 1 else 0
-
-abbrev one_of : ℕ → FamilyValue → ℕ
-one_of root family = count_if (family.root == root)
-
-more_of : (root : ℕ) (family : FamilyValue) (families : List FamilyValue) → families_of root (family ∷ families) ≡ one_of root family + families_of root families
-more_of root family families = sum_by-cons (one_of root) family families
 
 -- where there is none of a root key, each has another one
 none_of_it : (root : ℕ) (families : List FamilyValue) → families_of root families ≡ 0 → All (λ (family : FamilyValue). family.root ≢ root) families
@@ -70,7 +59,7 @@ module _ (tables : ℕ) (end : InputEnd) (left : ℕ) (rest : List ℕ) where
       let here = All-head (IsFitFamily tables) family families fit in
       let more = flat_map root_lines families ++ rest in
       let apart : All (λ (f : FamilyValue). f.root ≢ family.root) families = only_one family families (few family.root) in
-      let first = rows_go_on tables family.root end (count_of_rows families + left) more here.root [] (rows_of family) table (All-head (λ (f : FamilyValue). table f.root ≡ []) family families empty) here.rising here.rooted here.rows in
+      let first = rows_go_on tables family.root end (count_of_rows families + left) more here.root [] (rows_of family) table (All-head (λ (f : FamilyValue). table f.root ≡ []) family families empty) here.rows.rising here.rows.rooted here.rows.each in
       let still : All (λ (f : FamilyValue). first.0 f.root ≡ []) families = λ k d within.
       first.1.others (get_or families k d).root (λ same. apart k d within (sym same)) ∙ All-tail (λ (f : FamilyValue). table f.root ≡ []) family families empty k d within in
       let fewer : (root : ℕ) → families_of root families ≤ 1 = λ root. omega (arith, more_of root family families, few root) in
@@ -115,7 +104,7 @@ no_rows_yet (Ok first) fault header plans left none is = by_fault (fault first.0
     by_fault (Some refused) e = absurd cc
 
 -- what was written of families is read as their table
-pub read_again : (tables : ℕ) (families : List FamilyValue) (text : List ℕ) → AreFit tables families → WritesRows families (Some []) (Some text)
+read_again : (tables : ℕ) (families : List FamilyValue) (text : List ℕ) → AreFit tables families → WritesRows families (Some []) (Some text)
     → (input : List PieceValue) (plans : HeaderValue) (rest : List ℕ) (end : InputEnd) (left : ℕ) → plans_of input ≡ Ok (plans, pieces_in end (count_of_rows families + left) (text ++ rest)) → next_begins (codes "row ") (pieces_in end left rest) ≡ false
     → IsHeaderWith tables families plans input (pieces_in end left rest)
 read_again tables families text fit wrote input plans rest end left begins other =
@@ -137,3 +126,9 @@ read_again tables families text fit wrote input plans rest end left begins other
           ∙ (λ i. with_table plans (rows_taken tables (sym none i) 0 (pieces_in end (same i + left) (wrote.wrote i ++ rest))))
           ∙ ap (with_table plans) (taken.1 ∙ stops tables all.0 taken.0 (pieces_in end left rest) other);
     }
+
+-- the same of whichever input has what was written
+pub read_back : (tables : ℕ) (families : List FamilyValue) → AreFit tables families → RowsAreReadBack tables families
+read_back tables families fit = λ plans input left has.
+    subst (IsHeaderWith tables families plans input) (sym has.follows)
+    (read_again tables families has.text fit has.written input plans has.rest has.end has.lines has.behind has.no_row)

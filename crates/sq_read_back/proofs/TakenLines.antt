@@ -32,7 +32,7 @@ use Rattle.sq_text.specs.Located.{at_line}
 use Rattle.sq_text.specs.Header.{given_of, line_as, unless_faulty, row_taken, rows_taken}
 use Rattle.sq_text.proofs.HeaderRun.{short_line}
 use Rattle.sq_results.specs.RowLines.{row_line}
-use Rattle.sq_read_back.specs.ReadAgain.{IsFitRow}
+use Rattle.sq_fit.specs.Fit.{IsFitRow}
 use Rattle.sq_read_back.proofs.LineWords.{IsLineWord, row_words, given_row, all_words, row_is_read, unended, line_length}
 
 -- pieces

@@ -23,7 +23,7 @@ use Rattle.sq_schema.specs.declared.fault.RowFault.TheVariants.{RowRepeated, NoR
 use Rattle.sq_schema.specs.declared.root.TheConstants.{ROOT_END}
 use Rattle.sq_lines.specs.Pieces.{InputEnd, pieces_in}
 use Rattle.sq_results.specs.RowLines.{row_line}
-use Rattle.sq_read_back.specs.ReadAgain.{IsFitRow}
+use Rattle.sq_fit.specs.Fit.{IsFitRow}
 use Rattle.sq_read_back.proofs.TakenLines.{GoesOn, stands, goes_twice, row_goes_on}
 
 abbrev Entry : Type 0

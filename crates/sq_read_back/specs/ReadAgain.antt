@@ -1,32 +1,13 @@
 -- Rows that were written as lines of a header, and are read again.
-use Rattle.std.specs.Prelude.{◌≡◌, ◌≢◌, ◌<◌, ◌≤◌, ℕ, ◌^◌, ◌==◌, true, List, [], length, sum_by, count_by, All, None, Ok}
-use Rattle.std.specs.FinMap.Entries.{is_sorted}
-use Rattle.sq_rows.specs.declared.row.RowKey.{RowKey}
-use Rattle.sq_rows.specs.Keys.{key_cmp}
-use Rattle.sq_rows.specs.Rows.{is_entry, is_rooted}
-use Rattle.sq_rows.specs.Values.{RowValue}
-use Rattle.sq_schema.specs.Effect.{RowTable, is_i64}
+use Rattle.std.specs.Prelude.{◌≡◌, ◌≢◌, ◌≤◌, ℕ, ◌+◌, ◌==◌, false, List, [], ◌++◌, length, sum_by, count_by, All, Some, Ok, codes}
+use Rattle.sq_schema.specs.Effect.{RowTable}
 use Rattle.sq_schema.specs.Family.{FamilyValue, rows_of}
-use Rattle.sq_schema.specs.Refusals.{row_fault}
-use Rattle.sq_schema.specs.declared.root.TheConstants.{ROOT_END}
-use Rattle.sq_lines.specs.Pieces.{PieceValue}
-use Rattle.sq_text.specs.Header.{HeaderValue, header_of}
+use Rattle.sq_fit.specs.Fit.{IsFitFamily}
+use Rattle.sq_lines.specs.Pieces.{PieceValue, InputEnd, pieces_in, next_begins}
+use Rattle.sq_text.specs.Header.{HeaderValue, plans_of, header_of}
+use Rattle.sq_results.specs.Standing.{WritesRows}
 
--- a row in memory that a schema of this many tables takes
-pub record IsFitRow (tables : ℕ) (entry : RowKey × RowValue) : Type 0 where
-  pub in_range : is_entry entry ≡ true
-  pub schema : row_fault tables entry.0 entry.1 ≡ None
-  pub number : is_i64 entry.1.number ≡ true
-  pub note : All (λ byte. byte < 2 ^ 8) entry.1.note
-
--- a family of such rows: their keys rise, and it has a root row where it has rows of other tables
-pub record IsFitFamily (tables : ℕ) (family : FamilyValue) : Type 0 where
-  pub root : family.root < ROOT_END
-  pub rising : is_sorted key_cmp (rows_of family) ≡ true
-  pub rooted : is_rooted (rows_of family) ≡ true
-  pub rows : All (IsFitRow tables) (rows_of family)
-
--- such families, at most one of each root key
+-- families that a schema of this many tables takes, at most one of each root key
 pub record AreFit (tables : ℕ) (families : List FamilyValue) : Type 0 where
   pub each : All (IsFitFamily tables) families
   pub one_each :
@@ -48,3 +29,22 @@ pub record IsHeaderWith (tables : ℕ) (families : List FamilyValue) (plans : He
   pub table : RowTable
   pub has : HasRowsOf families table
   pub header : header_of tables input ≡ Ok (record plans { rows = table }, left)
+
+-- what is written of these families comes in the input behind these plans and sizes, and what is left behind it begins with no row
+pub record HasLinesOf (families : List FamilyValue) (plans : HeaderValue)
+    (input left : List PieceValue) : Type 0 where
+  pub text : List ℕ
+  pub written : WritesRows families (Some []) (Some text)
+  pub rest : List ℕ
+  pub end : InputEnd
+  pub lines : ℕ
+  pub behind : plans_of input
+      ≡ Ok (plans, pieces_in end (count_of_rows families + lines) (text ++ rest))
+  pub follows : left ≡ pieces_in end lines rest
+  pub no_row : next_begins (codes "row ") (pieces_in end lines rest) ≡ false
+
+-- whichever input has lines of these families, its header has their rows
+abbrev pub RowsAreReadBack : ℕ → List FamilyValue → Type 0
+RowsAreReadBack tables families =
+    (plans : HeaderValue) (input left : List PieceValue) → HasLinesOf families plans input left
+    → IsHeaderWith tables families plans input left

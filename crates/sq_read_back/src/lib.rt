@@ -2,30 +2,47 @@
 //! The functions do nothing: each states a law, which the checker proves.
 #![tactic(auto)]
 
-ghost use Rattle.std.specs.Prelude.{◌≡◌, ◌+◌, ◌++◌, ◌∷◌, ℕ, List, [], Some, Ok, codes, false};
+ghost use Rattle.std.specs.Prelude.{◌∷◌, ℕ, List, []};
 ghost use Rattle.sq_schema.specs.Prelude.{FamilyValue};
 ghost use Rattle.sq_schema.specs.declared.schema.TheConstants.{MAX_TABLES};
-ghost use Rattle.sq_lines.specs.Pieces.{PieceValue, InputEnd, pieces_in, next_begins};
-ghost use Rattle.sq_text.specs.Header.{HeaderValue, plans_of};
-ghost use Rattle.sq_results.specs.Standing.{WritesRows};
-ghost use Rattle.sq_read_back.specs.ReadAgain.{AreFit, count_of_rows, IsHeaderWith};
+ghost use Rattle.sq_ranges.specs.OpeningValue.{OpeningValue};
+ghost use Rattle.sq_ranges.specs.Opening.{IsOpening};
+ghost use Rattle.sq_lines.specs.Pieces.{PieceValue};
+ghost use Rattle.sq_model.specs.Prelude.{Trace, IsLegal};
+ghost use Rattle.sq_model.specs.Tables.{opening_rows};
+ghost use Rattle.sq_transition.specs.Prelude.{WorldValue, Holds};
+ghost use Rattle.sq_world.specs.Script.{IsLedTo};
+ghost use Rattle.sq_results.specs.Standing.{world_families};
+ghost use Rattle.sq_fit.specs.Fit.{IsFitTable, AreFitSteps};
+ghost use Rattle.sq_read_back.specs.ReadAgain.{AreFit, RowsAreReadBack};
 ghost use Rattle.sq_read_back.specs.Examples.{two_rows, last_root};
 
 /// What is written of families is read as the rows of a header, where a schema takes these rows and no two families have one root
 /// key. In an input it comes behind the plans and the sizes. The header then has the rows of these families, each at its root key,
 /// and no others; what follows them in the input is left.
 pub fn rows_are_read_back()
-    ensures { (tables : ℕ) (families : List FamilyValue) (text : List ℕ)
-        → AreFit tables families → WritesRows families (Some []) (Some text)
-        → (input : List PieceValue) (plans : HeaderValue)
-        → (rest : List ℕ) (end : InputEnd) (left : ℕ)
-        → plans_of input
-        ≡ Ok (plans, pieces_in end (count_of_rows families + left) (text ++ rest))
-        → next_begins (codes "row ") (pieces_in end left rest) ≡ false
-        → IsHeaderWith tables families plans input (pieces_in end left rest) }
+    ensures { (tables : ℕ) (families : List FamilyValue) → AreFit tables families
+        → RowsAreReadBack tables families }
 {}
 
 /// There are such families: with several rows, with notes, at the bounds of a number and of the root keys.
 pub fn some_families_are_fit()
     ensures { AreFit MAX_TABLES (two_rows ∷ last_root ∷ []) }
+{}
+
+/// Each world that a legal history leads to has such families, in stores and in chunks under way, where the opening rows fit and
+/// the submitted transactions do.
+pub fn a_history_leaves_fit_rows()
+    ensures { (tables : ℕ) (o : OpeningValue) (t : Trace) (w : WorldValue)
+        → IsOpening o → IsLegal o t → Holds o t w
+        → IsFitTable tables (opening_rows o) → AreFitSteps tables t
+        → AreFit tables (world_families w) }
+{}
+
+/// So has the world that a run of an input keeps. What is written of its rows is read as these rows.
+pub fn rows_that_a_run_keeps_are_read_back()
+    ensures fit { (given : List PieceValue) (w : WorldValue) → IsLedTo MAX_TABLES given w
+        → AreFit MAX_TABLES (world_families w) }
+    ensures read { (given : List PieceValue) (w : WorldValue) → IsLedTo MAX_TABLES given w
+        → RowsAreReadBack MAX_TABLES (world_families w) }
 {}

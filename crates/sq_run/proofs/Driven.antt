@@ -5,17 +5,16 @@ use Rattle.sq_ranges.specs.OpeningValue.{OpeningValue}
 use Rattle.sq_ranges.specs.Opening.{IsOpening}
 use Rattle.sq_pull.specs.Pump.{PumpValue}
 use Rattle.sq_node_model.specs.NodeValue.{ReceiptValue}
-use Rattle.sq_node_model.specs.BeganWith.{BeganWith, CanBegin}
+use Rattle.sq_node_model.specs.BeganWith.{BeganWith}
 use Rattle.sq_node_model.specs.Gathered.{GatheredValue}
 use Rattle.sq_node_model.specs.Placed.{IsPlaced, GoOn}
-use Rattle.sq_node.specs.FabricValue.{FabricValue, HasBegun}
+use Rattle.sq_node.specs.FabricValue.{FabricValue}
 use Rattle.sq_node.specs.NodeState.{NodeState}
-use Rattle.sq_node.specs.Opened.{IsFabricOf}
 use Rattle.sq_driver.specs.Nodes.{AllDriven}
 use Rattle.sq_driver.specs.Pumps.{AllPumpsDriven}
-use Rattle.sq_gather.specs.Gathered.{AreAllOf, AllHold, IsGathered}
+use Rattle.sq_gather.specs.Gathered.{AreAllOf, HoldsInStage, IsGathered}
 use Rattle.sq_gather.specs.Reopened.{IsRunInStage, AllStay, AllPumpsStay}
-use Rattle.sq_gather.proofs.Running.{run_goes_on, all_hold}
+use Rattle.sq_gather.proofs.Running.{run_goes_on, holds_in_stage}
 use Rattle.sq_gather.proofs.Workers.{each_stays, each_pump_stays, still_all}
 use Rattle.sq_run.specs.StageRunValue.{RanFrom}
 
@@ -37,15 +36,15 @@ module _ (fabric : FabricValue) (old new : List NodeState) (before after : List 
 
 -- what is gathered of a run
 module _ (fabric : FabricValue) (nodes : List NodeState) (pumps : List PumpValue) (g : GatheredValue) (gathered : IsGathered fabric nodes pumps g)
-    (placed : (o : OpeningValue) (began : BeganWith) → IsOpening o → IsFabricOf o fabric → HasBegun began fabric → CanBegin o began → AllHold o began nodes → IsPlaced o g)
-    (grows : (o : OpeningValue) (began : BeganWith) → IsOpening o → IsFabricOf o fabric → HasBegun began fabric → CanBegin o began → AllHold o began nodes → GoOn began g) where
+    (placed : (o : OpeningValue) (began : BeganWith) → IsOpening o → HoldsInStage o began fabric nodes → IsPlaced o g)
+    (grows : (o : OpeningValue) (began : BeganWith) → IsOpening o → HoldsInStage o began fabric nodes → GoOn began g) where
   pub run_gathered : (o : OpeningValue) (began : BeganWith) → IsOpening o → IsRunInStage o began fabric nodes pumps → RanFrom o began g
   run_gathered o began is run =
-      let hold = all_hold o began nodes run.hold in
+      let holds = holds_in_stage o began fabric nodes pumps run in
       record {
         stage = gathered.stage ∙ sym run.begun.stage;
-        placed = placed o began is run.shared run.begun run.can hold;
-        goes_on = grows o began is run.shared run.begun run.can hold;
+        placed = placed o began is holds;
+        goes_on = grows o began is holds;
         written = flat_map (λ (node : NodeState). node.receipts) nodes;
         receipts = gathered.receipts ∙ ap (λ (list : List ReceiptValue). list ++ flat_map (λ (node : NodeState). node.receipts) nodes) (sym run.begun.receipts);
         all_left = gathered.left ∙ run.shared.parts;

@@ -1,7 +1,7 @@
 // A stage of a run.
-ghost use Rattle.std.specs.Prelude.{◌≡◌, ◌≤◌, IfOk, IfErr};
+ghost use Rattle.std.specs.Prelude.{◌≡◌, ◌≤◌, IfOk, IfErr, OnOk};
 ghost use Rattle.sq_schema.specs.Prelude.{TableValue};
-ghost use Rattle.sq_ranges.specs.Prelude.{OpeningValue, IsOpening};
+ghost use Rattle.sq_ranges.specs.Prelude.{OpeningValue, IsOpening, IsSetUp};
 ghost use Rattle.sq_pull.specs.declared.numbers.TheConstants.{MAX_PUMPS};
 ghost use Rattle.sq_node_model.specs.Prelude.{BeganWith, first_began, folded_opening};
 ghost use Rattle.sq_driver.specs.Nodes.{AllDriven};
@@ -10,9 +10,8 @@ ghost use Rattle.sq_gather.specs.Reopened.{IsNextStageOf, IsFirstStageAfter};
 ghost use Rattle.sq_run.specs.StageRunValue.{BeganFrom, StaysBegun, RanFrom};
 
 use sq_driver::{Gate, run_workers};
-use sq_gather::{Gathered, Ungathered, gather, move_on, reopen};
-use sq_node::{Fabric, Node};
-use sq_pull::Pump;
+use sq_gather::{Gathered, gather, move_on, reopen};
+use sq_node::{Fabric, Node, RunParts};
 use sq_ranges::Opening;
 use std::alloc::{AllocError, Global};
 use std::marker::Model;
@@ -22,9 +21,7 @@ use std::thread::Threads;
 /// A stage of a run: what its workers share, a node for each partition, and its pumps. To a contract it is a `StageRunValue`.
 #[derive(Drop)]
 pub struct StageRun {
-    fabric: Fabric,
-    nodes: Vec<Node>,
-    pumps: Vec<Pump>,
+    parts: RunParts,
 }
 
 impl Model for StageRun {
@@ -37,26 +34,22 @@ impl Model for StageRun {
 
     ghost coded = { Prim.hlevel (codes, store_coded) };
 
-    ghost view = { λ run. stage_run_of run.fabric run.nodes.items run.pumps.items };
+    ghost view = { λ run.
+        stage_run_of run.parts.fabric run.parts.nodes.items run.parts.pumps.items };
 
-    ghost invariant = { λ run. AreAllOf run.fabric run.nodes.items run.pumps.items };
+    ghost invariant = { λ run.
+        AreAllOf run.parts.fabric run.parts.nodes.items run.parts.pumps.items };
 }
 
 impl StageRun {
     /// The first stage of the move of an opening, with this many pumps.
     pub fn open(alloc: Global, opening: &Opening, pumps: u32) -> Result<StageRun, AllocError>
         requires { pumps ≤ MAX_PUMPS }
-        ensures { IfOk result (BeganFrom opening.now (first_began opening.now)) }
+        ensures run { IfOk result (BeganFrom opening.now (first_began opening.now)) }
+        ensures set_up { OnOk result (IsSetUp opening.now) }
     {
-        let (fabric, nodes, pumps) = Fabric::open(alloc, opening, pumps)?;
-        // For the proof alone: what was handed in is an opening, and this is a fabric.
-        let _recon = opening.recon();
-        let _trees = fabric.trees();
-        Ok(StageRun {
-            fabric,
-            nodes,
-            pumps,
-        })
+        let parts = Fabric::open(alloc, opening, pumps)?;
+        Ok(StageRun { parts })
     }
 
     /// The same as [`StageRun::open`]. The families of each partition are made in a thread of its own, where one can be had.
@@ -67,17 +60,11 @@ impl StageRun {
         pumps: u32,
     ) -> Result<StageRun, AllocError>
         requires { pumps ≤ MAX_PUMPS }
-        ensures { IfOk result (BeganFrom opening.now (first_began opening.now)) }
+        ensures run { IfOk result (BeganFrom opening.now (first_began opening.now)) }
+        ensures set_up { OnOk result (IsSetUp opening.now) }
     {
-        let (fabric, nodes, pumps) = Fabric::open_in_threads(rt, alloc, opening, pumps)?;
-        // For the proof alone: what was handed in is an opening, and this is a fabric.
-        let _recon = opening.recon();
-        let _trees = fabric.trees();
-        Ok(StageRun {
-            fabric,
-            nodes,
-            pumps,
-        })
+        let parts = Fabric::open_in_threads(rt, alloc, opening, pumps)?;
+        Ok(StageRun { parts })
     }
 
     /// The stage after the one that this was gathered of, as [`reopen`] opens it.
@@ -95,12 +82,8 @@ impl StageRun {
             → IsNextStageOf (folded_opening opening.now table) g run.fabric run.nodes run.pumps) }
         ensures returned { IfErr result (λ back. back ≡ g) }
     {
-        let (fabric, nodes, pumps) = reopen(alloc, opening, g, pumps)?;
-        Ok(StageRun {
-            fabric,
-            nodes,
-            pumps,
-        })
+        let parts = reopen(alloc, opening, g, pumps)?;
+        Ok(StageRun { parts })
     }
 
     /// The first stage of another move, with what was gathered of the last stage of one, as [`move_on`] opens it.
@@ -117,26 +100,22 @@ impl StageRun {
             → IsFirstStageAfter (folded_opening next.now table) g run.fabric run.nodes run.pumps) }
         ensures returned { IfErr result (λ back. back ≡ g) }
     {
-        let (fabric, nodes, pumps) = move_on(alloc, next, g, pumps)?;
-        Ok(StageRun {
-            fabric,
-            nodes,
-            pumps,
-        })
+        let parts = move_on(alloc, next, g, pumps)?;
+        Ok(StageRun { parts })
     }
 
     /// What its workers share.
     pub fn fabric(&self) -> &Fabric
         ensures { result.now ≡ self.now.fabric }
     {
-        &self.fabric
+        &self.parts.fabric
     }
 
     /// Its nodes, in the order of their partitions.
     pub fn nodes(&self) -> &[Node]
         ensures { result.now ≡ self.now.nodes }
     {
-        &self.nodes
+        &self.parts.nodes
     }
 
     /// Drives each node and each pump in a thread of its own, as [`run_workers`] does.
@@ -148,9 +127,9 @@ impl StageRun {
     {
         run_workers(
             rt,
-            &self.fabric,
-            &mut self.nodes,
-            &mut self.pumps,
+            &self.parts.fabric,
+            &mut self.parts.nodes,
+            &mut self.parts.pumps,
             turns,
             gate,
         );
@@ -162,19 +141,9 @@ impl StageRun {
             → IsOpening o → BeganFrom o began self → RanFrom o began g) }
         ensures returned { IfErr result (λ back. back ≡ self) }
     {
-        match gather(rt, alloc, self.fabric, self.nodes, self.pumps) {
+        match gather(rt, alloc, self.parts) {
             Ok(gathered) => Ok(gathered),
-            Err(
-                Ungathered {
-                    fabric,
-                    nodes,
-                    pumps,
-                },
-            ) => Err(StageRun {
-                fabric,
-                nodes,
-                pumps,
-            }),
+            Err(parts) => Err(StageRun { parts }),
         }
     }
 }

@@ -29,9 +29,9 @@ pub listed : {E : Type 0} (tells : ReconValue → List ℕ → Type 0) (r : Resu
 listed tells (Err e) tables o recon begin lines before now eight same opens wrote = tt
 listed tells (Ok ending) tables o recon begin lines before now eight same opens wrote =
     let some = some_pieces lines in
-    let all = opens some.pieces some.can_come in (
+    let all = opens some.can_come.0 some.pieces some.can_come.1 in (
       all.0,
-      all.1,
+      (some.can_come.0, all.1),
       wrote.0,
       wrote.1,
       elim wrote.2 as (λ _. IsListing tells MAX_TABLES all.0 wrote.0 ending) [
@@ -47,5 +47,5 @@ pub not_listed : {E : Type 0} (tells : ReconValue → List ℕ → Type 0) (r : 
 not_listed tells (Err e) tables fault begin lines before now eight opens wrote = tt
 not_listed tells (Ok ending) tables fault begin lines before now eight opens wrote =
     let some = some_pieces lines in
-    let all = opens some.pieces some.can_come in
-    (all.0, all.1, wrote.0, wrote.1, inr (record { fault = fault; left = some.pieces; plans = subst (λ n. Opens n (Err fault) some.pieces (plans_of all.0)) eight all.2; wrote = wrote.2 }))
+    let all = opens some.can_come.0 some.pieces some.can_come.1 in
+    (all.0, (some.can_come.0, all.1), wrote.0, wrote.1, inr (record { fault = fault; left = some.pieces; plans = subst (λ n. Opens n (Err fault) some.pieces (plans_of all.0)) eight all.2; wrote = wrote.2 }))

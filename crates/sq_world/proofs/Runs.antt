@@ -21,7 +21,7 @@ use Rattle.sq_world.specs.declared.ending.Ending.TheVariants.{Done, Stopped, Fau
 use Rattle.sq_world.specs.declared.ending.ScriptManner.{ScriptManner}
 use Rattle.sq_world.specs.Inputs.{OfLines, OfReader}
 use Rattle.sq_world.specs.Run.{IsFault, EndsAtFault, RunsLines}
-use Rattle.sq_world.specs.Script.{EndsWithDump, KeepsDumped, OpensWorld, RefusesHeader, RunsScript}
+use Rattle.sq_world.specs.Script.{EndsWithDump, KeepsDumped, IsLedByLines, IsLedByReader, KeepsLed, OpensWorld, RefusesHeader, RunsScript}
 
 -- a script that is run from a header's opening
 pub run_from : {E : Type 0} (manner : ScriptManner) (r : Result Ending E) (tables : ℕ) (begin lines : LinesValue) (before now : Option (List ℕ)) (w new : WorldValue) → tables ≡ MAX_TABLES
@@ -30,10 +30,10 @@ run_from manner (Err e) tables begin lines before now w new eight opens writes =
 run_from manner (Ok ending) tables begin lines before now w new eight opens writes =
     let o = opens.0 in
     let some = some_pieces lines in
-    let there = opens.2 some.pieces some.can_come in
+    let there = opens.2 some.can_come.0 some.pieces some.can_come.1 in
     let written = writes o [] opens.1 there.2.tables_are in
-    let all = opens.2 written.pieces written.can_come in
-    (all.0, all.1, written.out, written.written, inl (record { opening = o; script = written.pieces; header = subst (λ n. Opens n (Ok o) written.pieces (header_of n all.0)) eight all.2; is_opening = opens.1.is_opening; writes = written.writes }))
+    let all = opens.2 written.can_come.0 written.pieces written.can_come.1 in
+    (all.0, (written.can_come.0, all.1), written.out, written.written, inl (record { opening = o; script = written.pieces; header = subst (λ n. Opens n (Ok o) written.pieces (header_of n all.0)) eight all.2; is_opening = opens.1.is_opening; writes = written.writes }))
 
 -- a header that is refused
 pub run_refused : {E : Type 0} (manner : ScriptManner) (r : Result Ending E) (tables : ℕ) (fault : LocatedFault) (begin lines : LinesValue) (before now : Option (List ℕ)) → tables ≡ MAX_TABLES
@@ -41,8 +41,8 @@ pub run_refused : {E : Type 0} (manner : ScriptManner) (r : Result Ending E) (ta
 run_refused manner (Err e) tables fault begin lines before now eight opens wrote = tt
 run_refused manner (Ok ending) tables fault begin lines before now eight opens wrote =
     let some = some_pieces lines in
-    let all = opens some.pieces some.can_come in
-    (all.0, all.1, wrote.0, wrote.1, inr (record { fault = fault; left = some.pieces; header = subst (λ n. Opens n (Err fault) some.pieces (header_of n all.0)) eight all.2; wrote = wrote.2 }))
+    let all = opens some.can_come.0 some.pieces some.can_come.1 in
+    (all.0, (some.can_come.0, all.1), wrote.0, wrote.1, inr (record { fault = fault; left = some.pieces; header = subst (λ n. Opens n (Err fault) some.pieces (header_of n all.0)) eight all.2; wrote = wrote.2 }))
 
 pub run_given : {E : Type 0} (says : List PieceValue → List ℕ → Ending → Type 0) (r : Result Ending E) (v : LinesValue) (known before now : Option (List ℕ)) → v.held ≡ [] → v.reading ≡ Open → v.lines_left ≡ MAX_LINES → v.known ≡ known → IfOk r (OfLines says v before now) → IfOk r (OfReader says known before now)
 run_given says (Err e) v known before now none still most same ran = tt
@@ -72,8 +72,52 @@ pub kept_from : {E : Type 0} (manner : ScriptManner) (r : Result Ending E) (tabl
 kept_from manner (Err e) tables begin lines before now w new opens writes = tt
 kept_from manner (Ok ending) tables begin lines before now w new opens writes =
     let some = some_pieces lines in
-    let there = opens.2 some.pieces some.can_come in
+    let there = opens.2 some.can_come.0 some.pieces some.can_come.1 in
     kept_as before now new ending (writes opens.0 [] opens.1 there.2.tables_are).dumped
+
+-- and the one that a history from the header's opening leads to
+led_as : (Led : WorldValue → Type 0) (w : WorldValue) (ending : Ending) → Led w → KeepsLed Led (Some w) ending
+led_as Led w Done led = (w, refl, led)
+led_as Led w (Stopped refused) led = (w, refl, led)
+led_as Led w (Fault fault) led = tt
+
+pub led_from : {E : Type 0} (manner : ScriptManner) (r : Result Ending E) (tables : ℕ) (begin lines : LinesValue) (before now : Option (List ℕ)) (w new : WorldValue) → tables ≡ MAX_TABLES → OpensWorld tables begin lines w
+    → IfOk r (RunsScript manner tables w new lines before now) → IfOk r (KeepsLed (IsLedByLines MAX_TABLES begin) (Some new))
+led_from manner (Err e) tables begin lines before now w new eight opens writes = tt
+led_from manner (Ok ending) tables begin lines before now w new eight opens writes =
+    let o = opens.0 in
+    let some = some_pieces lines in
+    let there = opens.2 some.can_come.0 some.pieces some.can_come.1 in
+    let written = writes o [] opens.1 there.2.tables_are in
+    let all = opens.2 written.can_come.0 written.pieces written.can_come.1 in
+    led_as (IsLedByLines MAX_TABLES begin) new ending (
+      all.0,
+      (written.can_come.0, all.1),
+      record {
+        opening = o;
+        script = written.pieces;
+        header = subst (λ n. Opens n (Ok o) written.pieces (header_of n all.0)) eight all.2;
+        history = written.continues.history;
+        leads = written.continues.leads;
+        spelled = written.continues.spelled tt;
+      },
+    )
+
+-- what is kept of the lines of a reader is kept of the reader
+led_more : (Led More : WorldValue → Type 0) → ((w : WorldValue) → Led w → More w) → (kept : Option WorldValue) (ending : Ending) → KeepsLed Led kept ending → KeepsLed More kept ending
+led_more Led More more kept Done led = (led.0, led.1, more led.0 led.2)
+led_more Led More more kept (Stopped refused) led = (led.0, led.1, more led.0 led.2)
+led_more Led More more kept (Fault fault) led = tt
+
+pub led_given : {E : Type 0} (r : Result Ending E) (v : LinesValue) (known : Option (List ℕ)) (kept : Option WorldValue) → v.held ≡ [] → v.reading ≡ Open → v.lines_left ≡ MAX_LINES → v.known ≡ known
+    → IfOk r (KeepsLed (IsLedByLines MAX_TABLES v) kept) → IfOk r (KeepsLed (IsLedByReader MAX_TABLES known) kept)
+led_given (Err e) v known kept none still most same led = tt
+led_given (Ok ending) v known kept none still most same led =
+    led_more (IsLedByLines MAX_TABLES v) (IsLedByReader MAX_TABLES known) (λ w by. (by.0, given_first v known by.0 none still most same by.1, by.2)) kept ending led
+
+pub led_at_fault : {E : Type 0} (r : Result Ending E) (Led : WorldValue → Type 0) (fault : LocatedFault) (kept : Option WorldValue) (before now : Option (List ℕ)) → IfOk r (EndsAtFault fault before now) → IfOk r (KeepsLed Led kept)
+led_at_fault (Err e) Led fault kept before now wrote = tt
+led_at_fault (Ok ending) Led fault kept before now wrote = subst (KeepsLed Led kept) (sym wrote.2.ends) tt
 
 -- where a fault ends it, there is no dump
 pub kept_at_fault : {E : Type 0} (r : Result Ending E) (fault : LocatedFault) (kept : Option WorldValue) (before now : Option (List ℕ)) → IfOk r (EndsAtFault fault before now) → IfOk r (KeepsDumped kept before now)

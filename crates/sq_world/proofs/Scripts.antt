@@ -33,8 +33,14 @@ use Rattle.sq_world.specs.declared.ending.ScriptManner.{ScriptManner}
 use Rattle.sq_state.specs.Dump.{dump}
 use Rattle.sq_world.specs.Echo.{answer_text, refused_text, refusal_in}
 use Rattle.sq_world.specs.Run.{Writes, GoesOnBehind, IsDumped, IsFault, EndsAtFault, AnswersLine, stopping, ending_at}
-use Rattle.sq_world.specs.Script.{LeadsTo, IsAnswered, EndsWithDump, IsWritten, AnswersWorld, RunsScript}
+use Rattle.sq_world.specs.Script.{LeadsTo, AreSpelled, Continues, IsAnswered, EndsWithDump, IsWritten, AnswersWorld, RunsScript}
 use Rattle.sq_state.proofs.Dumps.{nothing}
+
+-- a line goes on with a step that it spells, or with none
+line_spelled : (echoes : Bool) (o : OpeningValue) (t : Trace) (line : List ℕ) (after : Trace) (text : List ℕ) (refused : Option ℕ) → AnswersLine echoes o t line after text refused → AreSpelled o.tables t → AreSpelled o.tables after
+line_spelled echoes o t line after text refused (inl is) so_far = subst (AreSpelled o.tables) (sym is.goes_on) ((line, is.spelled), so_far)
+line_spelled echoes o t line after text refused (inr (inl is)) so_far = subst (AreSpelled o.tables) (sym is.stays) so_far
+line_spelled echoes o t line after text refused (inr (inr is)) so_far = subst (AreSpelled o.tables) (sym is.stays) so_far
 
 module _ (manner : ScriptManner) where
   -- the line spells a step, which is answered
@@ -54,11 +60,12 @@ module _ (manner : ScriptManner) where
     pub so_far : List ℕ
     pub here : Trace
     pub leads : LeadsTo o here w
+    pub spelled : AreSpelled o.tables t → AreSpelled o.tables here
     pub written : Appends first now so_far
     pub goes_on : (left : List PieceValue) (later : List ℕ) (ending : Ending) → CanCome lines left → Writes manner o here left later ending → (all : List PieceValue) × CanCome begin all × Writes manner o t all (so_far ++ later) ending
 
   pub begun : (o : OpeningValue) (t : Trace) (begin : LinesValue) (first : Option (List ℕ)) (w : WorldValue) → LeadsTo o t w → Before o t begin begin first first w
-  begun o t begin first w leads = record { so_far = []; here = t; leads = leads; written = nothing first; goes_on = λ left later ending can writes. (left, can, writes) }
+  begun o t begin first w leads = record { so_far = []; here = t; leads = leads; spelled = λ all. all; written = nothing first; goes_on = λ left later ending can writes. (left, can, writes) }
 
   -- a line more
   pub on_line : (o : OpeningValue) (t : Trace) (begin was lines : LinesValue) (first mid now : Option (List ℕ)) (w new : WorldValue) (b : Before o t begin was first mid w) (refused : Option ℕ) → CameBefore was (Line (next_line_number was.lines_left) lines.piece) lines
@@ -68,31 +75,36 @@ module _ (manner : ScriptManner) where
         so_far = b.so_far ++ answered.text;
         here = answered.after;
         leads = answered.leads;
+        spelled = λ all. line_spelled manner.echoes o b.here lines.piece answered.after answered.text refused answered.answers_line (b.spelled all);
         written = both first mid now b.so_far answered.text _ b.written answered.written refl;
         goes_on = λ left later ending can writes.
             let line = next_line_number was.lines_left in
             let goes : GoesOnBehind (stopping manner refused) line o answered.after later ending (Writes manner o answered.after left later ending) = subst (λ (s : Option ℕ). GoesOnBehind s line o answered.after later ending (Writes manner o answered.after left later ending)) (sym on) writes in
-            let all = b.goes_on (Line line lines.piece ∷ left) (answered.text ++ later) ending (came left can) (answered.after, answered.text, later, refused, answered.answers_line, refl, goes) in
+            let all = b.goes_on (Line line lines.piece ∷ left) (answered.text ++ later) ending (can.0, came can.0 left can.1) (answered.after, answered.text, later, refused, answered.answers_line, refl, goes) in
             (all.0, all.1, subst (λ out. Writes manner o t all.0 out ending) (sym (append_assoc b.so_far answered.text later)) all.2);
       }
 
   -- more was read, and what was written went out
   pub on_read : (o : OpeningValue) (t : Trace) (begin was lines : LinesValue) (first mid now : Option (List ℕ)) (w : WorldValue) → Before o t begin was first mid w → Keeps mid now → ((ps : List PieceValue) → CanCome lines ps → CanCome was ps) → Before o t begin lines first now w
   on_read o t begin was lines first mid now w b keeps before =
-      record { so_far = b.so_far; here = b.here; leads = b.leads; written = kept first mid now b.so_far b.written keeps; goes_on = λ left later ending can writes. b.goes_on left later ending (before left can) writes }
+      record { so_far = b.so_far; here = b.here; leads = b.leads; spelled = b.spelled; written = kept first mid now b.so_far b.written keeps; goes_on = λ left later ending can writes. b.goes_on left later ending (before left can) writes }
 
   -- a run that ends so comes to its dump
   dumps : (stop : Option ℕ) (line : ℕ) (before now : Option (List ℕ)) (w : WorldValue) (ending : Ending) (answers : List ℕ) → ending ≡ ending_at stop line → Appends before now (answers ++ dump w) → EndsWithDump w before now ending
   dumps None line before now w ending answers is written = subst (EndsWithDump w before now) (sym is) (answers, written)
   dumps (Some number) line before now w ending answers is written = subst (EndsWithDump w before now) (sym is) (answers, written)
 
+  -- a world that the lines so far lead to
+  so_far_led : (o : OpeningValue) (t : Trace) (begin was : LinesValue) (first mid : Option (List ℕ)) (w : WorldValue) → Before o t begin was first mid w → Continues o t w
+  so_far_led o t begin was first mid w b = record { history = b.here; leads = b.leads; spelled = b.spelled }
+
   -- the end of the run, where this comes last
   ended_by : (o : OpeningValue) (t : Trace) (begin was : LinesValue) (left : List PieceValue) (out : List ℕ) (ending : Ending) (first mid now : Option (List ℕ)) (w new : WorldValue) (b : Before o t begin was first mid w) → CanCome was left → Writes manner o b.here left out ending → Appends mid now out
-      → (Appends first now (b.so_far ++ out) → EndsWithDump new first now ending) → IsWritten manner o t begin first now new ending
-  ended_by o t begin was left out ending first mid now w new b can writes written dumped =
+      → (Appends first now (b.so_far ++ out) → EndsWithDump new first now ending) → Continues o t new → IsWritten manner o t begin first now new ending
+  ended_by o t begin was left out ending first mid now w new b can writes written dumped continues =
       let all = b.goes_on left out ending can writes in
       let whole : Appends first now (b.so_far ++ out) = both first mid now b.so_far out _ b.written written refl in
-      record { pieces = all.0; can_come = all.1; out = b.so_far ++ out; writes = all.2; written = whole; dumped = dumped whole }
+      record { pieces = all.0; can_come = all.1; out = b.so_far ++ out; writes = all.2; written = whole; dumped = dumped whole; continues = continues }
 
   abbrev AllBefore : ℕ → LinesValue → LinesValue → Option (List ℕ) → Option (List ℕ) → WorldValue → WorldValue → Type 0
   AllBefore tables begin was first mid start w = (o : OpeningValue) (t : Trace) → LeadsTo o t start → o.tables ≡ tables → Before o t begin was first mid w
@@ -104,6 +116,7 @@ module _ (manner : ScriptManner) where
   at_end (Ok ending) tables begin was first mid now start w before none is written =
       λ o t leads same. let b = before o t leads same in ended_by o t begin was [] (dump w) ending first mid now w w b none (record { world = w; holds = b.leads.holds; says = refl }, is) written
       (dumps None 0 first now w ending b.so_far is)
+      (so_far_led o t begin was first mid w b)
 
   -- the last line, behind which a run ends
   last_of : (stop : Option ℕ) (line : ℕ) (o : OpeningValue) (t : Trace) (out : List ℕ) (ending : Ending) → IsDumped o t out → ending ≡ ending_at stop line → GoesOnBehind stop line o t out ending (IsDumped o t out × (ending ≡ Done))
@@ -124,9 +137,10 @@ module _ (manner : ScriptManner) where
       let place = next_line_number was.lines_left in
       let goes : GoesOnBehind (stopping manner refused) place o answered.after (dump new) ending (Writes manner o answered.after some.pieces (dump new) ending) =
       subst (λ (s : Option ℕ). GoesOnBehind s place o answered.after (dump new) ending (Writes manner o answered.after some.pieces (dump new) ending)) (sym stop) (dumped, is ∙ ap (λ (n : ℕ). ending_at (Some number) n) here) in
-      ended_by o t begin was (Line place lines.piece ∷ some.pieces) (answered.text ++ dump new) ending first mid now w new b (came some.pieces some.can_come) (answered.after, answered.text, dump new, refused, answered.answers_line, refl, goes)
+      ended_by o t begin was (Line place lines.piece ∷ some.pieces) (answered.text ++ dump new) ending first mid now w new b (some.can_come.0, came some.can_come.0 some.pieces some.can_come.1) (answered.after, answered.text, dump new, refused, answered.answers_line, refl, goes)
       (both mid said now answered.text (dump new) _ answered.written written refl)
       (λ whole. dumps (Some number) line first now new ending (b.so_far ++ answered.text) is (subst (Appends first now) (sym (append_assoc b.so_far answered.text (dump new))) whole))
+      (record { history = answered.after; leads = answered.leads; spelled = λ all. line_spelled manner.echoes o b.here lines.piece answered.after answered.text refused answered.answers_line (b.spelled all) })
 
   -- a rest, and then the end of the script
   pub at_rest : {E : Type 0} (r : Result Ending E) (tables : ℕ) (begin was : LinesValue) (line : ℕ) (bytes : List ℕ) (number : ℕ) (first mid said now : Option (List ℕ)) (start w : WorldValue) → AllBefore tables begin was first mid start w → CanCome was (Rest line bytes ∷ [])
@@ -142,6 +156,7 @@ module _ (manner : ScriptManner) where
       (both mid said now (refused_text manner.echoes bytes (line_fault_number faults.NotAStep)) (dump w) _ refused written refl)
       (λ whole. dumps (stopping manner (Some number)) line first now w ending (b.so_far ++ refused_text manner.echoes bytes (line_fault_number faults.NotAStep)) is
       (subst (Appends first now) (sym (append_assoc b.so_far (refused_text manner.echoes bytes (line_fault_number faults.NotAStep)) (dump w))) whole))
+      (so_far_led o t begin was first mid w b)
 
   -- a fault, which ends the run
   at_fault : {E : Type 0} (r : Result Ending E) (tables : ℕ) (begin was : LinesValue) (left : List PieceValue) (fault : LocatedFault) (first mid now : Option (List ℕ)) (start w : WorldValue) → AllBefore tables begin was first mid start w → CanCome was left
@@ -151,6 +166,7 @@ module _ (manner : ScriptManner) where
   at_fault (Ok ending) tables begin was left fault first mid now start w before can writes over =
       λ o t leads same. let b = before o t leads same in ended_by o t begin was left over.0 ending first mid now w w b can (writes o b.here over.0 ending over.2) over.1
       (λ whole. subst (EndsWithDump w first now) (sym over.2.ends) tt)
+      (so_far_led o t begin was first mid w b)
 
   -- the reading failed, or it ended in a line without end, or behind the last line that may come
   pub at_failed : {E : Type 0} (r : Result Ending E) (tables : ℕ) (begin was : LinesValue) (line : ℕ) (bytes : List ℕ) (fault : LocatedFault) (first mid now : Option (List ℕ)) (start w : WorldValue) → AllBefore tables begin was first mid start w → CanCome was (Failed line bytes ∷ [])
@@ -164,8 +180,10 @@ module _ (manner : ScriptManner) where
   pub at_long : {E : Type 0} (r : Result Ending E) (tables : ℕ) (begin was : LinesValue) (fault : LocatedFault) (first mid now : Option (List ℕ)) (start w : WorldValue) → AllBefore tables begin was first mid start w → IsLong MAX_UNENDED was
       → fault ≡ located TooLong (Some (Later (next_line_number was.lines_left))) → IfOk r (EndsAtFault fault mid now) → IfOk r (RunsScript manner tables start w begin first now)
   at_long r tables begin was fault first mid now start w before long is over =
-      let endless = is_endless was long in
-      at_fault r tables begin was (Endless (next_line_number was.lines_left) endless.bytes ∷ endless.others) fault first mid now start w before endless.can_come (λ o t out ending wrote. subst (λ f. IsFault f out ending) is wrote) over
+      let some = some_pieces was in
+      let endless = is_endless was long some.pieces some.can_come in
+      let number = next_line_number was.lines_left in
+      at_fault r tables begin was (Endless number endless.bytes ∷ endless.others) fault first mid now start w before (subst (CanCome was) endless.are some.can_come) (λ o t out ending wrote. subst (λ f. IsFault f out ending) is wrote) over
 
   -- the answer to a line that spells no step
   no_step : (o : OpeningValue) (t : Trace) (tables : ℕ) (line : List ℕ) (fault : LineFault) (number : ℕ) → o.tables ≡ tables → Err fault ≡ step_of tables line → number ≡ line_fault_number fault → AnswersLine manner.echoes o t line t (refused_text manner.echoes line number) (Some number)

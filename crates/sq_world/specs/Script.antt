@@ -1,5 +1,5 @@
 -- A script that is run, line by line.
-use Rattle.std.specs.Prelude.{◌≡◌, ℕ, Bool, List, [], ◌++◌, Option, Some, Ok, Err, ⊤}
+use Rattle.std.specs.Prelude.{◌≡◌, ℕ, Bool, List, [], ◌∷◌, ◌++◌, Option, Some, Ok, Err, ⊤}
 use Rattle.std.specs.Io.KnownBytes.{Appends}
 use Rattle.sq_ranges.specs.OpeningValue.{OpeningValue}
 use Rattle.sq_model.specs.Trace.{Trace}
@@ -9,8 +9,10 @@ use Rattle.sq_transition.specs.WorldValue.{WorldValue}
 use Rattle.sq_transition.specs.Holds.{Holds}
 use Rattle.sq_lines.specs.Pieces.{PieceValue}
 use Rattle.sq_lines.specs.Coming.{LinesValue, CanCome, Leaves}
+use Rattle.sq_lines.specs.Given.{IsGiven}
 use Rattle.sq_text.specs.declared.located.LocatedFault.{LocatedFault}
 use Rattle.sq_text.specs.Header.{header_of, Opens}
+use Rattle.sq_text.specs.Steps.{step_of}
 use Rattle.sq_state.specs.Dump.{dump}
 use Rattle.sq_world.specs.declared.ending.Ending.{Ending}
 use Rattle.sq_world.specs.declared.ending.Ending.TheVariants.{Done, Stopped, Fault}
@@ -22,6 +24,17 @@ pub record LeadsTo (o : OpeningValue) (t : Trace) (w : WorldValue) : Type 0 wher
   pub is_opening : IsOpening o
   pub legal : IsLegal o t
   pub holds : Holds o t w
+
+-- each step of the history is one that some line spells
+abbrev pub AreSpelled : ℕ → Trace → Type 0
+AreSpelled tables [] = Unit {0}
+AreSpelled tables ((step, given) ∷ t) = ((line : List ℕ) × (step_of tables line ≡ Ok step)) × AreSpelled tables t
+
+-- the world is the one of a history that continues this one, by further steps that lines spell
+pub record Continues (o : OpeningValue) (t : Trace) (w : WorldValue) : Type 0 where
+  pub history : Trace
+  pub leads : LeadsTo o history w
+  pub spelled : AreSpelled o.tables t → AreSpelled o.tables history
 
 -- what a line is answered after this history was written, and the world is the one that the history then leads to; the line
 -- is refused by this number, if by any
@@ -46,6 +59,29 @@ KeepsDumped kept before now (Stopped refused) =
     (w : WorldValue) × (kept ≡ Some w) × EndsWithDump w before now (Stopped refused)
 KeepsDumped kept before now (Fault located) = ⊤
 
+-- the pieces begin with a header, and the world is the one of a history from its opening, whose steps lines spell
+pub record IsLedTo (tables : ℕ) (given : List PieceValue) (w : WorldValue) : Type 0 where
+  pub opening : OpeningValue
+  pub script : List PieceValue
+  pub header : Opens tables (Ok opening) script (header_of tables given)
+  pub history : Trace
+  pub leads : LeadsTo opening history w
+  pub spelled : AreSpelled opening.tables history
+
+-- the pieces are ones that a reader of lines may give
+abbrev pub IsLedByLines : ℕ → LinesValue → WorldValue → Type 0
+IsLedByLines tables lines w = (given : List PieceValue) × CanCome lines given × IsLedTo tables given w
+
+-- the pieces are those of what a reader gives
+abbrev pub IsLedByReader : ℕ → Option (List ℕ) → WorldValue → Type 0
+IsLedByReader tables known w = (given : List PieceValue) × IsGiven known given × IsLedTo tables given w
+
+-- where a run comes to its dump, a world is kept of which this holds
+abbrev pub KeepsLed : (WorldValue → Type 0) → Option WorldValue → Ending → Type 0
+KeepsLed Led kept Done = (w : WorldValue) × (kept ≡ Some w) × Led w
+KeepsLed Led kept (Stopped refused) = (w : WorldValue) × (kept ≡ Some w) × Led w
+KeepsLed Led kept (Fault located) = ⊤
+
 -- what the lines of a script are answered after this history was written, and so the run ends, where this is the world then
 pub record IsWritten (manner : ScriptManner) (o : OpeningValue) (t : Trace) (lines : LinesValue) (before now : Option (List ℕ))
     (w : WorldValue) (ending : Ending) : Type 0 where
@@ -55,6 +91,7 @@ pub record IsWritten (manner : ScriptManner) (o : OpeningValue) (t : Trace) (lin
   pub writes : Writes manner o t pieces out ending
   pub written : Appends before now out
   pub dumped : EndsWithDump w before now ending
+  pub continues : Continues o t w
 
 -- whatever legal history of an opening with these tables led to the world, a line is answered after it
 abbrev pub AnswersWorld : Bool → ℕ → List ℕ → WorldValue → WorldValue → Option (List ℕ) → Option (List ℕ) → Option ℕ → Type 0

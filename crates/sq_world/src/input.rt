@@ -1,7 +1,7 @@
 // Inputs: bytes in, bytes out.
 ghost use Rattle.std.specs.Prelude.{IfOk, IfErr};
 ghost use Rattle.sq_world.specs.Run.{Runs, RunsLines};
-ghost use Rattle.sq_world.specs.Script.{OpensWorld, RefusesHeader, KeepsDumped};
+ghost use Rattle.sq_world.specs.Script.{IsLedByLines, IsLedByReader, KeepsDumped, KeepsLed, OpensWorld, RefusesHeader};
 
 use crate::ending::{Ending, ScriptManner};
 use crate::script::{end_by, run_script};
@@ -26,7 +26,8 @@ use std::io::{Read, Write};
 /// behind the first line that is refused.
 ///
 /// The world that the header opens comes into `kept`, in place of what is there; where the run comes to its dump it is the one
-/// that is dumped. A caller may free it later or leave it to the system.
+/// that is dumped, to which a legal history of steps that lines spell leads from that header. A caller may free it later or leave it
+/// to the system.
 pub fn run<R: Read, W: Write>(
     alloc: Global,
     reader: &mut R,
@@ -39,30 +40,17 @@ pub fn run<R: Read, W: Write>(
         (W.contents writer.new)) }
     ensures kept { IfOk result
         (KeepsDumped kept.new (W.contents writer.old) (W.contents writer.new)) }
+    ensures led { IfOk result
+        (KeepsLed (IsLedByReader MAX_TABLES (R.remaining reader.old)) kept.new) }
 {
-    let ending = run_unflushed(alloc, reader, writer, manner, kept)?;
+    let Ok(mut lines) = LineReader::new(alloc, reader) else {
+        let ended = end_by(writer, InputFault::Memory.at_no_line())?;
+        writer.flush()?;
+        return Ok(ended);
+    };
+    let ending = run_lines(alloc, &mut lines, writer, manner, kept)?;
     writer.flush()?;
     Ok(ending)
-}
-
-// Runs an input, and leaves what is written last to be flushed.
-fn run_unflushed<R: Read, W: Write>(
-    alloc: Global,
-    reader: &mut R,
-    writer: &mut W,
-    manner: ScriptManner,
-    kept: &mut Option<World>,
-) -> Result<Ending, WriteFault>
-    ensures runs { IfOk result
-        (Runs manner MAX_TABLES (R.remaining reader.old) (W.contents writer.old)
-        (W.contents writer.new)) }
-    ensures kept { IfOk result
-        (KeepsDumped kept.new (W.contents writer.old) (W.contents writer.new)) }
-{
-    match LineReader::new(alloc, reader) {
-        Ok(mut lines) => run_lines(alloc, &mut lines, writer, manner, kept),
-        Err(_) => end_by(writer, InputFault::Memory.at_no_line()),
-    }
 }
 
 // Runs the lines of an input.
@@ -77,6 +65,7 @@ fn run_lines<R: Read, W: Write>(
         (W.contents writer.new)) }
     ensures kept { IfOk result
         (KeepsDumped kept.new (W.contents writer.old) (W.contents writer.new)) }
+    ensures led { IfOk result (KeepsLed (IsLedByLines MAX_TABLES lines.old) kept.new) }
 {
     let Some(schema) = Schema::new(MAX_TABLES) else {
         unreachable!()

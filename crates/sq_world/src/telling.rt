@@ -11,7 +11,6 @@ use std::io::Write;
 /// Whether what moves was written.
 #[derive(Clone, Copy, Debug, PartialEq, Eq)]
 pub enum Told {
-    /// It was written.
     Written,
     /// There was no memory for it, and nothing was written.
     NoMemory,

@@ -3,6 +3,7 @@ use Rattle.std.specs.Prelude.{Some, IfOk}
 use Rattle.std.specs.Io.KnownBytes.{Appends}
 use Rattle.sq_lines.specs.Pieces.{next_line_number}
 use Rattle.sq_lines.specs.Coming.{CanCome, LinesValue}
+use Rattle.sq_lines.proofs.Comings.{come_now}
 use Rattle.sq_text.specs.declared.input_fault.InputFault.TheVariants.{ReadFailed, TooLong}
 use Rattle.sq_text.specs.declared.located.InputLine.TheVariants.{Later}
 use Rattle.sq_text.specs.Located.{located}
@@ -27,7 +28,7 @@ loop-lines-preserved-in_default g c = λ o t leads same.
 pub loop-lines-preserved : goal.loop-lines-preserved
 loop-lines-preserved g c = λ o t leads same.
     on_read c.args.manner o t c.args.lines.now c.loop-lines.lines c.read_more.new.self (g.W.Write.contents c.args.writer.now) (g.W.Write.contents c.loop-lines.writer) (g.W.Write.contents c.flush.new.self) c.loop-lines.world (c.loop-lines.invariant o t leads same) c.flush.ensures.bytes
-    (λ ps can. subst (λ v. CanCome v ps) c.in-Unread.ensures.1 (c.read_more.ensures.comes ps can))
+    (λ ps can. subst (λ v. CanCome v ps) c.in-Unread.ensures.1 (can.0, c.read_more.ensures.comes can.0 ps can.1))
 
 pub returns-in-Some : goal.returns-in-Some
 returns-in-Some g c =
@@ -41,19 +42,19 @@ returns-in-Some g c =
 pub returns-in-Rest : goal.returns-in-Rest
 returns-in-Rest g c =
     at_rest c.args.manner c.end-in-Rest.result c.args.schema.now c.args.lines.now c.loop-lines.lines (next_line_number c.loop-lines.lines.lines_left) c.next.new.self.piece c.number-number.result (g.W.Write.contents c.args.writer.now) (g.W.Write.contents c.loop-lines.writer) (g.W.Write.contents c.write_refusal.new.writer) (g.W.Write.contents c.end-in-Rest.new.writer) c.args.world.now c.loop-lines.world
-    c.loop-lines.invariant c.in-Rest.ensures.0 c.number-number.ensures
+    c.loop-lines.invariant (come_now _ _ _ c.in-Rest.ensures.0) c.number-number.ensures
     (subst (λ line. Appends (g.W.Write.contents c.loop-lines.writer) (g.W.Write.contents c.write_refusal.new.writer) (refused_text c.args.manner.echoes line c.number-number.result)) c.piece.ensures c.in_ok-write_refusal-in-Rest.ensures)
     (subst (λ (end : Ending). IfOk c.end-in-Rest.result (λ ending. ending ≡ end)) (c.ending_at-in-Rest.ensures ∙ (λ i. ending_at (c.stopping-stop.ensures i) (c.next_line_number-line.ensures i))) c.end-in-Rest.ensures.ending) c.end-in-Rest.ensures.dumped
 
 pub returns-in-End : goal.returns-in-End
 returns-in-End g c =
     at_end c.args.manner c.end-in-End.result c.args.schema.now c.args.lines.now c.loop-lines.lines (g.W.Write.contents c.args.writer.now) (g.W.Write.contents c.loop-lines.writer) (g.W.Write.contents c.end-in-End.new.writer) c.args.world.now c.loop-lines.world
-    c.loop-lines.invariant c.in-End.ensures.0 c.end-in-End.ensures.ending c.end-in-End.ensures.dumped
+    c.loop-lines.invariant (come_now _ _ _ c.in-End.ensures.0) c.end-in-End.ensures.ending c.end-in-End.ensures.dumped
 
 pub returns-in-Failed : goal.returns-in-Failed
 returns-in-Failed g c =
     at_failed c.args.manner c.end_by.result c.args.schema.now c.args.lines.now c.loop-lines.lines (next_line_number c.loop-lines.lines.lines_left) c.loop-lines.lines.held c.at.result (g.W.Write.contents c.args.writer.now) (g.W.Write.contents c.loop-lines.writer) (g.W.Write.contents c.end_by.new.writer) c.args.world.now c.loop-lines.world
-    c.loop-lines.invariant c.in-Failed.ensures.0 (c.at.ensures ∙ ap (λ line. located ReadFailed (Some line)) (c.line_of.ensures ∙ ap (λ (v : LinesValue). Later (next_line_number v.lines_left)) c.in-Failed.ensures.2)) c.end_by.ensures
+    c.loop-lines.invariant (come_now _ _ _ c.in-Failed.ensures.0) (c.at.ensures ∙ ap (λ line. located ReadFailed (Some line)) (c.line_of.ensures ∙ ap (λ (v : LinesValue). Later (next_line_number v.lines_left)) c.in-Failed.ensures.2)) c.end_by.ensures
 
 pub returns-in-Long : goal.returns-in-Long
 returns-in-Long g c =
@@ -63,4 +64,4 @@ returns-in-Long g c =
 pub returns-in-TooMany : goal.returns-in-TooMany
 returns-in-TooMany g c =
     at_too_many c.args.manner c.end_by-in-TooMany.result c.args.schema.now c.args.lines.now c.loop-lines.lines c.at-in-TooMany.result (g.W.Write.contents c.args.writer.now) (g.W.Write.contents c.loop-lines.writer) (g.W.Write.contents c.end_by-in-TooMany.new.writer) c.args.world.now c.loop-lines.world
-    c.loop-lines.invariant c.in-TooMany.ensures.0 c.at-in-TooMany.ensures c.end_by-in-TooMany.ensures
+    c.loop-lines.invariant (come_now _ _ _ c.in-TooMany.ensures.0) c.at-in-TooMany.ensures c.end_by-in-TooMany.ensures

@@ -13,17 +13,17 @@ use Rattle.sq_run.proofs.stage_run.StageRun.drive.Goals as goal
 
 pub run_workers-requires-clause-nodes : goal.run_workers-requires-clause-nodes
 run_workers-requires-clause-nodes g c κs within =
-    let run = c.self.inside in
+    let run = c.self.inside.parts in
     subst (All (IsNodeOf run.fabric)) (sym c.deref_mut.ensures.value) (nodes_of run.fabric run.nodes.items run.pumps.items c.self.invariant)
 
 pub run_workers-requires-clause-pumps : goal.run_workers-requires-clause-pumps
 run_workers-requires-clause-pumps g c κs within =
-    let run = c.self.inside in
+    let run = c.self.inside.parts in
     subst (All (HasAllSeats run.fabric)) (sym c.deref_mut-2.ensures.value) (pumps_of run.fabric run.nodes.items run.pumps.items c.self.invariant)
 
 pub invariant_of-self : goal.invariant_of-self
 invariant_of-self g c =
-    let run = c.self.inside in
+    let run = c.self.inside.parts in
     let nodes = subst (λ old. AllDriven run.fabric old c.run_workers.new.nodes) c.deref_mut.ensures.value c.run_workers.ensures.nodes in
     let pumps = subst (λ old. AllPumpsDriven run.fabric old c.run_workers.new.pumps) c.deref_mut-2.ensures.value c.run_workers.ensures.pumps in
     let node_count = c.run_workers.ensures.nodes.count in
@@ -35,7 +35,7 @@ invariant_of-self g c =
 
 pub returns-clause-stays : goal.returns-clause-stays
 returns-clause-stays g c = λ o began is stage.
-    let run = c.self.inside in
+    let run = c.self.inside.parts in
     let nodes = subst (λ old. AllDriven run.fabric old c.run_workers.new.nodes) c.deref_mut.ensures.value c.run_workers.ensures.nodes in
     let pumps = subst (λ old. AllPumpsDriven run.fabric old c.run_workers.new.pumps) c.deref_mut-2.ensures.value c.run_workers.ensures.pumps in
     let node_count = c.run_workers.ensures.nodes.count in

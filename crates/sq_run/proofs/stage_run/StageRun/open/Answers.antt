@@ -3,8 +3,10 @@ use Rattle.sq_run.proofs.stage_run.StageRun.open.Goals as goal
 
 pub invariant_of-result : goal.invariant_of-result
 invariant_of-result c =
-    (run_begins c.args.opening.now c.args.pumps c.in_ok-fabric.fabric c.in_ok-fabric.nodes.items c.in_ok-fabric.pumps.items c.recon-recon.ensures.set_up.opening c.trees-trees.ensures.fabric c.in_ok-fabric.ensures).all
+    let opened = c.in_ok-parts.ensures in
+    (run_begins c.args.opening.now c.args.pumps c.in_ok-parts.parts.fabric c.in_ok-parts.parts.nodes.items c.in_ok-parts.parts.pumps.items opened.set_up.opening opened.fabric opened.opened).all
 
-pub returns : goal.returns
-returns c =
-    run_begins c.args.opening.now c.args.pumps c.in_ok-fabric.fabric c.in_ok-fabric.nodes.items c.in_ok-fabric.pumps.items c.recon-recon.ensures.set_up.opening c.trees-trees.ensures.fabric c.in_ok-fabric.ensures
+pub returns-clause-run : goal.returns-clause-run
+returns-clause-run c =
+    let opened = c.in_ok-parts.ensures in
+    run_begins c.args.opening.now c.args.pumps c.in_ok-parts.parts.fabric c.in_ok-parts.parts.nodes.items c.in_ok-parts.parts.pumps.items opened.set_up.opening opened.fabric opened.opened
