@@ -1,2 +1,3 @@
 pub mod ChunkValue
 pub mod NextChunk
+pub mod Laws

@@ -45,7 +45,8 @@ impl Model for Chunk {
 
     ghost view = { λ c. record { note = c.note; families = c.families.items } };
 
-    ghost invariant = { λ c. IsTrue (are_within c.note.lo c.note.hi c.families.items) × AreKeyed c.families.items };
+    ghost invariant = { λ c. IsTrue (are_within c.note.lo c.note.hi c.families.items)
+        × AreKeyed c.families.items };
 }
 
 impl Chunk {

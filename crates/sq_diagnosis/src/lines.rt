@@ -130,10 +130,9 @@ fn form_after(
     at: usize,
     word: &[u8],
 ) -> Result<&'static [Wanted], LineFlaw>
-    ensures { (words : List Word) → MatchResult result
-        (λ others. misfit behind at form.now (word.now ∷ words)
-        ≡ misfit behind (next at) others.now words)
-        (λ flaw. misfit behind at form.now (word.now ∷ words) ≡ Some flaw) }
+    ensures { (words : List Word) → let first = misfit behind at form.now (word.now ∷ words) in
+        MatchResult result (λ others. first ≡ misfit behind (next at) others.now words)
+        (λ flaw. first ≡ Some flaw) }
 {
     match form {
         [wanted, others @ ..] if wanted.fits(word) => Ok(others),
@@ -151,10 +150,9 @@ fn form_after(
 
 // The same behind a form.
 fn form_behind(behind: Behind, at: usize, word: &[u8]) -> Result<&'static [Wanted], LineFlaw>
-    ensures { (words : List Word) → MatchResult result
-        (λ others. misfit behind at [] (word.now ∷ words)
-        ≡ misfit behind (next at) others.now words)
-        (λ flaw. misfit behind at [] (word.now ∷ words) ≡ Some flaw) }
+    ensures { (words : List Word) → let first = misfit behind at [] (word.now ∷ words) in
+        MatchResult result (λ others. first ≡ misfit behind (next at) others.now words)
+        (λ flaw. first ≡ Some flaw) }
 {
     match behind {
         Behind::Nothing => Err(flaw_at(at, word, LineFlaw::Extra { at })),

@@ -24,6 +24,6 @@ within_by work (Some i) place low is = let same : i ≡ place = cc in omega (ari
 within_by [] None place low is = cc
 within_by (first ∷ rest) None place low is = let same : 0 ≡ place = cc in omega arith
 
--- it stands among the work
+-- it is among the work
 pub next_within : (work : List WorkValue) (place : ℕ) → next_work work ≡ Some place → place < length work
 next_within work place is = within_by work (position is_reactive_work work) place (λ i at. (position-Some is_reactive_work work i no_work at).0) is

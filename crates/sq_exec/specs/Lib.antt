@@ -11,4 +11,5 @@ pub mod Numbering
 pub mod Serving
 pub mod Moving
 pub mod Opened
+pub mod Laws
 pub mod Prelude

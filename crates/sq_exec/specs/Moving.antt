@@ -1,6 +1,7 @@
 -- What the steps of a move do to a single partition: Begin, Cut and Load.
-use Rattle.std.specs.Prelude.{◌≡◌, ℕ, Bool, false, ◌==◌, ◌&&◌, not, nat_le, if◌then◌else◌, [], ◌∷◌, ◌++◌, slice_get, slice_set, Option, Some, None, is_some}
+use Rattle.std.specs.Prelude.{◌≡◌, ℕ, Bool, false, ◌==◌, ◌&&◌, not, nat_le, if◌then◌else◌, List, [], ◌∷◌, ◌++◌, slice_get, slice_set, Option, Some, None, is_some}
 use Rattle.std.specs.Option.{option_map_or}
+use Rattle.sq_schema.specs.Prelude.{FamilyValue}
 use Rattle.sq_ranges.specs.declared.recon.Extent.{Extent}
 use Rattle.sq_ranges.specs.declared.recon.Range.{Range}
 use Rattle.sq_ranges.specs.ReconValue.{extent}
@@ -59,6 +60,12 @@ can_load core src chunk = can_load_in core src chunk (slice_get core.recon.segme
 -- a chunk came from this partition that can be loaded
 abbrev pub may_load : CoreValue → ℕ → Bool
 may_load core src = option_map_or (can_load core src) (inbox_at core src) false
+
+-- the chunk of an inbox with this note went into a store: its families are there, and the inbox is empty
+abbrev pub GivesChunk : Option ChunkValue → StoreValue → Note → Option ChunkValue → StoreValue → Type 0
+GivesChunk inbox store note emptied filled =
+    (families : List FamilyValue) × (inbox ≡ Some (record { note = note; families = families })) × (emptied ≡ None)
+    × (filled ≡ with_families store families)
 
 -- why no chunk is loaded: none came; else memory ran out
 abbrev pub load_fault : CoreValue → ℕ → LoadFault

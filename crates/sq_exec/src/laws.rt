@@ -1,5 +1,5 @@
 // Laws of what a partition gave up and loaded, and of the transactions that it runs or lets wait.
-ghost use Rattle.std.specs.Prelude.{◌≡◌, ◌≢◌, ℕ, ◌<◌, ◌==◌, ◌&&◌, ◌||◌, ◌⊎◌, true, false, Bool, List, Some, position, slice_get};
+ghost use Rattle.std.specs.Prelude.{◌≡◌, ◌≢◌, ℕ, ◌<◌, ◌==◌, ◌&&◌, ◌||◌, true, Bool, List, Some, position, slice_get};
 ghost use Rattle.sq_tree.specs.declared.node.TheConstants.{LEAVES};
 ghost use Rattle.sq_tree.specs.Prelude.{is_above};
 ghost use Rattle.sq_chunk.specs.declared.chunk.Note.{Note};
@@ -10,6 +10,7 @@ ghost use Rattle.sq_schema.specs.Prelude.{TxnValue};
 ghost use Rattle.sq_exec.specs.declared.location.Location.{Location};
 ghost use Rattle.sq_exec.specs.CoreValue.{CoreValue};
 ghost use Rattle.sq_exec.specs.Location.{location, is_coming_here, route};
+ghost use Rattle.sq_exec.specs.Laws.{HasRowsAt, IsOnItsWay, GoesFirst};
 ghost use Rattle.sq_exec.specs.Serving.{is_ready_here};
 ghost use Rattle.sq_exec.specs.Runs.{is_loaded, is_met, is_whole, runs_with};
 
@@ -45,19 +46,15 @@ pub fn runs_what_it_has_not_given_up_or_has_loaded()
     ensures { (core : CoreValue) (root : ℕ) (at : Location) → location core root ≡ Some at
         → at.stage ≡ core.stage
         → at.src ≢ at.dst → route core root ≡ core.part
-        → ((at.src ≡ core.part) × (at.given_up ≡ false)) ⊎ ((at.dst ≡ core.part)
-        × (at.loaded ≡ true)) }
+        → HasRowsAt core at }
 {}
 
 /// A root key comes to a partition just where the move has started, and the key moves there in the running stage and isn't
 /// loaded.
 pub fn comes_until_it_is_loaded()
     ensures comes { (core : CoreValue) (root : ℕ) → is_coming_here core root ≡ true
-        → (at : Location) × (location core root ≡ Some at) × (core.started ≡ true)
-        × (at.stage ≡ core.stage) × (at.dst ≡ core.part) × (at.loaded ≡ false) }
-    ensures coming { (core : CoreValue) (root : ℕ) (at : Location) → location core root ≡ Some at
-        → core.started ≡ true
-        → at.stage ≡ core.stage → at.dst ≡ core.part → at.loaded ≡ false
+        → (at : Location) × IsOnItsWay core root at }
+    ensures coming { (core : CoreValue) (root : ℕ) (at : Location) → IsOnItsWay core root at
         → is_coming_here core root ≡ true }
 {}
 
@@ -65,7 +62,5 @@ pub fn comes_until_it_is_loaded()
 pub fn none_before_the_first_is_ready()
     ensures { (core : CoreValue) (place : ℕ) (txn : TxnValue)
         → position (is_ready_here core) core.waiting ≡ Some place
-        → slice_get core.waiting place ≡ Some txn → (is_ready_here core txn ≡ true)
-        × ((k : ℕ) (other : TxnValue) → k < place → slice_get core.waiting k ≡ Some other
-        → is_ready_here core other ≡ false) }
+        → slice_get core.waiting place ≡ Some txn → GoesFirst core place txn }
 {}

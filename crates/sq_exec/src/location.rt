@@ -8,7 +8,6 @@ use sq_tree::Leaf;
 pub struct Location {
     /// Its segment.
     pub seg: SegId,
-    /// Its leaf.
     pub leaf: Leaf,
     /// The partition that it leaves.
     pub src: PartId,

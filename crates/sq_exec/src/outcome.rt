@@ -20,6 +20,5 @@ pub enum Outcome {
 pub struct Resumed {
     /// The transaction.
     pub txn: Txn,
-    /// Its outcome.
     pub outcome: Outcome,
 }

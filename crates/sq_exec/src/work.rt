@@ -51,7 +51,6 @@ impl Work {
         self.seg
     }
 
-    /// The node.
     pub(crate) fn node(self) -> NodeId
         ensures { result ≡ self.node }
     {

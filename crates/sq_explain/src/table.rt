@@ -342,7 +342,7 @@ pub(crate) const ENTRIES: [Entry; 62] = [
         number: 230,
         meaning: "a line is of no step's form",
         given: "refusal of a line",
-        advice: "Compare the line with the forms of the steps (docs/formats.md): one space between words, numbers in decimal, no comments.",
+        advice: "Compare the line with the forms of the steps (docs/guide/formats.md): one space between words, numbers in decimal, no comments.",
     },
     Entry {
         number: 231,

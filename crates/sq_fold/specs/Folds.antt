@@ -6,7 +6,7 @@ use Rattle.sq_fold.specs.Words.{spaced_words, text_rows}
 abbrev pub IsNarrow : ℕ → List ℕ → Type 0
 IsNarrow width row = (length row ≤ width) ⊎ (length (spaced_words row) ≤ 1)
 
--- a line folded by itself: its words in their order, in narrow rows; a line that fits stays as it is
+-- a line folded on its own: its words in their order, in narrow rows; a line that fits stays as it is
 pub record IsFoldedLine (width : ℕ) (line folded : List ℕ) : Type 0 where
   pub words : spaced_words folded ≡ spaced_words line
   pub narrow : All (IsNarrow width) (text_rows folded)

@@ -24,7 +24,8 @@ impl Shape {
     ) -> Result<usize, AllocError>
         requires word { IsWord next.now.word.now }
         requires gap { 0 < next.now.gap }
-        ensures { IfOk result (Adds self.width next.now.word.now room text.old.items text.new.items) }
+        ensures { IfOk result
+            (Adds self.width next.now.word.now room text.old.items text.new.items) }
     {
         if next.gap < room && next.word.len() <= room - next.gap {
             push_behind(text, next.gap, next.word)?;

@@ -116,7 +116,7 @@ module _ (recon : ReconValue) where
       let at = after_calls parts recon calls in
       goes_on at (was_heard parts recon calls) (told_after parts calls) _ _ (is_last at) (have_reported at) refl
 
--- a move that can end stands at its last stage, which is over
+-- a move that can end is at its last stage, which is over
 can_end : {T E : Type 0} (value : T) (fault : E) (last all : Bool) → is_ok (if last && all then Ok value else Err fault) ≡ true → (last ≡ true) × (all ≡ true)
 can_end value fault true true ends = (refl, refl)
 can_end value fault true false ends = absurd (true≢false (sym ends))

@@ -1,10 +1,10 @@
 -- The segments that move into a partition in a stage, and what is wanted of them.
-use Rattle.std.specs.Prelude.{ℕ, Bool, false, ◌==◌, ◌||◌, not, List, length, slice_index_or}
+use Rattle.std.specs.Prelude.{ℕ, Bool, false, ◌==◌, ◌&&◌, ◌||◌, not, nat_lt, List, length, slice_index_or}
 use Rattle.std.specs.List.{list_any, list_all, range_with_len}
 use Rattle.sq_ranges.specs.declared.recon.Range.{Range}
 use Rattle.sq_ranges.specs.ReconValue.{ReconValue, stage_in, moves_into}
 use Rattle.sq_leader.specs.LeaderValue.{StageValue}
-use Rattle.sq_leader.specs.Marks.{is_marked}
+use Rattle.sq_leader.specs.Marks.{is_marked, marks_after}
 
 -- the segment of this number is whole; a segment without an entry isn't
 abbrev pub is_told_whole : List Bool → ℕ → Bool
@@ -22,6 +22,15 @@ is_heard at segment = not (stage_in at.recon segment == at.stage) || is_marked a
 -- each partition into which a segment of the running stage moves reported
 abbrev pub have_reported : StageValue → Bool
 have_reported at = list_all (is_heard at) at.recon.segments
+
+-- the stage of this number once these of this many partitions reported
+abbrev pub stage_after : ReconValue → ℕ → ℕ → List ℕ → StageValue
+stage_after recon stage parts told = record { reported = marks_after parts told; stage = stage; recon = recon }
+
+-- the segment moves in another stage, or the partition into which it moves is among these that reported, of this many
+abbrev pub counts_as_reported : ReconValue → ℕ → ℕ → List ℕ → Range → Bool
+counts_as_reported recon stage parts told segment =
+    not (stage_in recon segment == stage) || (list_any (λ one. one == segment.dst) told && nat_lt segment.dst parts)
 
 -- the partition reported, or no segment moves into it in the running stage
 abbrev pub owes_no_report : StageValue → ℕ → Bool

@@ -1,10 +1,10 @@
 // Laws of what the partitions report to the leader.
-ghost use Rattle.std.specs.Prelude.{◌≡◌, ℕ, ◌==◌, ◌&&◌, ◌||◌, not, nat_lt, true, List, length};
+ghost use Rattle.std.specs.Prelude.{◌≡◌, ℕ, ◌==◌, ◌&&◌, nat_lt, true, List, length};
 ghost use Rattle.std.specs.List.{list_any, list_all, range_with_len};
-ghost use Rattle.sq_ranges.specs.Prelude.{ReconValue, IsRecon, stage_in};
+ghost use Rattle.sq_ranges.specs.Prelude.{ReconValue, IsRecon};
 ghost use Rattle.sq_leader.specs.LeaderValue.{StageValue};
 ghost use Rattle.sq_leader.specs.Marks.{is_marked, all_marked, marks_after};
-ghost use Rattle.sq_leader.specs.Segments.{have_reported, owes_no_report};
+ghost use Rattle.sq_leader.specs.Segments.{have_reported, stage_after, counts_as_reported, owes_no_report};
 ghost use Rattle.sq_leader.specs.Calls.{Call, EndsHeard};
 
 /// Just those partitions are marked that there are and that reported, in whichever order and however often.
@@ -23,9 +23,8 @@ pub fn a_move_starts_once_each_partition_prepared()
 /// A stage can be left just where for each of its segments the partition into which it moves has reported.
 pub fn a_stage_is_over_once_each_segment_of_it_is_reported()
     ensures { (recon : ReconValue) (stage parts : ℕ) (told : List ℕ)
-        → have_reported (record { reported = marks_after parts told; stage = stage; recon = recon })
-        ≡ list_all (λ segment. not (stage_in recon segment == stage)
-        || (list_any (λ one. one == segment.dst) told && nat_lt segment.dst parts)) recon.segments }
+        → have_reported (stage_after recon stage parts told)
+        ≡ list_all (counts_as_reported recon stage parts told) recon.segments }
 {}
 
 /// Where each segment moves into one of the partitions, a stage can be left just where each partition counts as reported.

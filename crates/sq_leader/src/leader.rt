@@ -36,7 +36,6 @@ pub enum Leader {
 /// A call that was refused: the leader as it was, and why.
 #[derive(Debug, Drop)]
 pub struct Refused<L, F> {
-    /// The leader as it was.
     pub leader: L,
     /// Why.
     pub fault: F,

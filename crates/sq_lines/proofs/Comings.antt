@@ -1,7 +1,8 @@
 -- The pieces that a reader of lines may give.
 use Rattle.std.proofs.Common.{◌≡◌, ℕ, ◌+◌, ◌-◌, ◌<◌, ◌≤◌, Bool, true, false, cond, eqb, List, [], ◌∷◌, ◌++◌, length, Option, Some, None, inl, inr, refl, sym, ap, ◌∙◌, subst, append_assoc, arith}
 use Rattle.std.specs.Prelude.{nat_lt, ◌⊎◌}
-use Rattle.std.specs.Io.KnownBytes.{Consumes}
+use Rattle.std.specs.Io.KnownBytes.{Consumes, Keeps}
+use Rattle.std.proofs.KnownBytes.{Consumes-nil, Consumes-trans, Consumes-kept}
 use Rattle.std.proofs.lemmas.Bool.{le-ltb}
 use Rattle.std.proofs.lemmas.Bool.Decides.{nat_tests}
 use Rattle.std.proofs.lemmas.List.{append-nil, length-append}
@@ -12,7 +13,7 @@ use Rattle.sq_lines.specs.declared.reader.ReadState.{ReadState}
 use Rattle.sq_lines.specs.declared.reader.ReadState.TheVariants.{Open, Ended}
 use Rattle.sq_lines.specs.declared.reader.ReadState.TheVariants as reading
 use Rattle.sq_lines.specs.Pieces.{cut_at_ends, PieceValue, Line, Rest, Failed, Endless, TooMany, InputEnd, Whole, Cut, last_piece, ending_piece, line_then, pieces_of, pieces_in, next_line_number, bytes_of}
-use Rattle.sq_lines.specs.Coming.{LinesValue, Comes, CanCome, CameBefore, IsLong, Gives, Finds, ReadsOn}
+use Rattle.sq_lines.specs.Coming.{LinesValue, left_behind, Comes, CanEnd, CanCome, CameBefore, EndsIn, BeginLong, IsLong, Gives, Finds, ReadsOn}
 use Rattle.sq_lines.proofs.Ends.{HasFirst, has_first, unended_then, line_then_parts}
 
 -- some bytes can come, and then the reading ends somehow
@@ -23,9 +24,17 @@ pub record SomeMore (status : ReadState) (known : Option (List ℕ)) : Type 0 wh
 
 pub some_more : (now : ReadState) (known : Option (List ℕ)) → SomeMore now known
 some_more Ended known = record { more = []; end = Whole; comes = (refl, refl) }
-some_more reading.Failed known = record { more = []; end = Cut; comes = (refl, refl) }
+some_more reading.Failed known = record { more = []; end = Cut known; comes = (refl, refl) }
 some_more Open None = record { more = []; end = Whole; comes = tt }
-some_more Open (Some left) = record { more = left; end = Whole; comes = refl }
+some_more Open (Some left) = record { more = left; end = Whole; comes = sym (append-nil left) }
+
+-- it ends as a whole, or behind what this reader has left
+pub some_end : (now : ReadState) (known : Option (List ℕ)) → ((some_more now known).end ≡ Whole) ⊎ ((some_more now known).end ≡ Cut known)
+unfolding some_more
+some_end Ended known = inl refl
+some_end reading.Failed known = inr refl
+some_end Open None = inl refl
+some_end Open (Some left) = inl refl
 
 -- some pieces can come
 pub record SomePieces (v : LinesValue) : Type 0 where
@@ -34,14 +43,27 @@ pub record SomePieces (v : LinesValue) : Type 0 where
 
 pub some_pieces : (v : LinesValue) → SomePieces v
 some_pieces v = let some = some_more v.reading v.known in
-    record { pieces = pieces_in some.end v.lines_left (v.held ++ some.more); can_come = record { more = some.more; end = some.end; comes = some.comes; are = refl } }
+    record { pieces = pieces_in some.end v.lines_left (v.held ++ some.more); can_come = (some.end, record { more = some.more; comes = some.comes; are = refl }) }
 
--- nothing can come after the end
-ended_comes : (now : ReadState) (known : Option (List ℕ)) → now ≡ Ended → Comes now known Whole []
-ended_comes now known e = subst (λ r. Comes r known Whole []) (sym e) (refl, refl)
+-- pieces that can come before what can come now
+pub come_now : (old : LinesValue) (ps : List PieceValue) (new : LinesValue) → EndsIn old ps new → CanCome old ps
+come_now old ps new ends = let some = some_pieces new in (some.can_come.0, ends some.can_come.0 some.pieces some.can_come.1)
 
-pub at_end : (v : LinesValue) → v.reading ≡ Ended → v.held ≡ [] → CanCome v []
-at_end v ended none = record { more = []; end = Whole; comes = ended_comes v.reading v.known ended; are = rw none refl }
+-- nothing comes once the reading is over
+over : (v : LinesValue) (end : InputEnd) (ps : List PieceValue) (can : CanEnd v end ps) → v.reading ≡ Ended → (end ≡ Whole) × (can.more ≡ [])
+over v end ps can ended = subst (λ r. Comes r v.known end can.more) ended can.comes
+
+cut_off : (v : LinesValue) (end : InputEnd) (ps : List PieceValue) (can : CanEnd v end ps) → v.reading ≡ reading.Failed → (end ≡ Cut v.known) × (can.more ≡ [])
+cut_off v end ps can failed = subst (λ r. Comes r v.known end can.more) failed can.comes
+
+pub at_end : (v : LinesValue) → v.reading ≡ Ended → v.held ≡ [] → EndsIn v [] v
+at_end v ended none = λ end left can.
+    let is = over v end left can ended in
+    record { more = can.more; comes = can.comes; are = rw (none, is.0, is.1) refl }
+
+-- the same of a value that is seen as another
+pub ends_seen : (pieces : LinesValue → List PieceValue) (v w new : LinesValue) → v ≡ w → EndsIn v (pieces v) new → EndsIn w (pieces w) new
+ends_seen pieces v w new same ends = subst (λ (u : LinesValue). EndsIn u (pieces u) new) same ends
 
 -- where no line may come, no byte may
 nothing_after : (end : InputEnd) (parts : List (List ℕ)) (x : ℕ) (first : List ℕ) (others : List (List ℕ)) → parts ≡ (x ∷ first) ∷ others → pieces_of end 0 parts ≡ TooMany ∷ []
@@ -56,10 +78,9 @@ none_left end (x ∷ xs) some = by_test (eqb x 10) refl (has_first xs)
     by_test true e after = rw (e, after.are) refl
     by_test false e after = nothing_after end (cut_at_ends (x ∷ xs)) x after.first after.others (rw (e, after.are) refl)
 
-pub too_many : (v : LinesValue) → v.lines_left ≡ 0 → 0 < length v.held → CanCome v (TooMany ∷ [])
-too_many v none some =
-    let other = some_more v.reading v.known in
-    record { more = other.more; end = other.end; comes = other.comes; are = rw none (sym (none_left other.end (v.held ++ other.more) (omega (arith, length-append v.held other.more)))) }
+pub too_many : (v : LinesValue) → v.lines_left ≡ 0 → 0 < length v.held → EndsIn v (TooMany ∷ []) v
+too_many v none some = λ end left can.
+    record { more = can.more; comes = can.comes; are = rw none (sym (none_left end (v.held ++ can.more) (omega (arith, length-append v.held can.more)))) }
 
 -- a line and what comes after it
 line_first : (end : InputEnd) (lines : ℕ) (line after : List ℕ) → cut_at_ends line ≡ line ∷ [] → pieces_in end lines (line ++ (10 ∷ after)) ≡ line_then lines line (pieces_in end (lines - 1) after)
@@ -74,11 +95,10 @@ whole_line end lines line after e short =
     ∙ ap (λ n. Line (next_line_number (lines + 1)) line ∷ pieces_in end n after) (omega arith)
 
 pub line_came : (old new : LinesValue) → new.reading ≡ old.reading → new.known ≡ old.known → old.lines_left ≡ new.lines_left + 1 → old.held ≡ new.piece ++ (10 ∷ new.held) → cut_at_ends new.piece ≡ new.piece ∷ [] → length new.piece ≤ MAX_UNENDED → CameBefore old (Line (next_line_number old.lines_left) new.piece) new
-line_came old new ended known lines held unended short = λ ps can. record {
+line_came old new ended known lines held unended short = λ end ps can. record {
   more = can.more;
-  end = can.end;
-  comes = subst (λ b. Comes b old.known can.end can.more) ended (subst (λ k. Comes new.reading k can.end can.more) known can.comes);
-  are = rw (can.are, lines, held, append_assoc new.piece (10 ∷ new.held) can.more) (sym (whole_line can.end new.lines_left new.piece (new.held ++ can.more) unended short));
+  comes = subst (λ b. Comes b old.known end can.more) ended (subst (λ k. Comes new.reading k end can.more) known can.comes);
+  are = rw (can.are, lines, held, append_assoc new.piece (10 ∷ new.held) can.more) (sym (whole_line end new.lines_left new.piece (new.held ++ can.more) unended short));
 }
 
 -- what is held is all, and no line ends in it
@@ -92,40 +112,34 @@ rest_piece lines (x ∷ xs) some nonempty short =
     let is : nat_lt MAX_UNENDED (length (x ∷ xs)) ≡ false = le-ltb _ _ short in
     rw (positive, is) refl
 
-pub rest_comes : (v : LinesValue) → v.reading ≡ Ended → cut_at_ends v.held ≡ v.held ∷ [] → 0 < v.lines_left → 0 < length v.held → length v.held ≤ MAX_UNENDED → CanCome v (Rest (next_line_number v.lines_left) v.held ∷ [])
-rest_comes v ended unended some nonempty short =
-    record { more = []; end = Whole; comes = ended_comes v.reading v.known ended; are = rw append-nil (sym (last_part Whole v.lines_left v.held unended ∙ rest_piece v.lines_left v.held some nonempty short)) }
+pub rest_comes : (v new : LinesValue) → v.reading ≡ Ended → new.reading ≡ Ended → cut_at_ends v.held ≡ v.held ∷ [] → 0 < v.lines_left → 0 < length v.held → length v.held ≤ MAX_UNENDED → EndsIn v (Rest (next_line_number v.lines_left) v.held ∷ []) new
+rest_comes v new ended still unended some nonempty short = λ end left can.
+    let is = over new end left can still in
+    record { more = []; comes = subst (λ r. Comes r v.known end []) (sym ended) (is.0, refl); are = rw (is.0, append-nil) (sym (last_part Whole v.lines_left v.held unended ∙ rest_piece v.lines_left v.held some nonempty short)) }
 
-failed_piece : (lines : ℕ) (bytes : List ℕ) → (bytes ≡ []) ⊎ (0 < lines) → length bytes ≤ MAX_UNENDED → last_piece Cut lines bytes ≡ Failed (next_line_number lines) bytes ∷ []
-failed_piece lines [] some short = refl
-failed_piece lines (x ∷ xs) (inl none) short = absurd cc
-failed_piece lines (x ∷ xs) (inr some) short =
+failed_piece : (known : Option (List ℕ)) (lines : ℕ) (bytes : List ℕ) → (bytes ≡ []) ⊎ (0 < lines) → length bytes ≤ MAX_UNENDED → last_piece (Cut known) lines bytes ≡ Failed (next_line_number lines) bytes ∷ []
+failed_piece known lines [] some short = refl
+failed_piece known lines (x ∷ xs) (inl none) short = absurd cc
+failed_piece known lines (x ∷ xs) (inr some) short =
     let positive : eqb lines 0 ≡ false = grind (arith, nat_tests) in
     let is : nat_lt MAX_UNENDED (length (x ∷ xs)) ≡ false = le-ltb _ _ short in
     rw (positive, is) refl
 
 -- what came before a read failed
-pub failed_comes : (v : LinesValue) → v.reading ≡ reading.Failed → cut_at_ends v.held ≡ v.held ∷ [] → (v.held ≡ []) ⊎ (0 < v.lines_left) → length v.held ≤ MAX_UNENDED → CanCome v (Failed (next_line_number v.lines_left) v.held ∷ [])
-failed_comes v failed unended some short =
-    record { more = []; end = Cut; comes = subst (λ r. Comes r v.known Cut []) (sym failed) (refl, refl); are = rw append-nil (sym (last_part Cut v.lines_left v.held unended ∙ failed_piece v.lines_left v.held some short)) }
+pub failed_comes : (v : LinesValue) → v.reading ≡ reading.Failed → cut_at_ends v.held ≡ v.held ∷ [] → (v.held ≡ []) ⊎ (0 < v.lines_left) → length v.held ≤ MAX_UNENDED → EndsIn v (Failed (next_line_number v.lines_left) v.held ∷ []) v
+failed_comes v failed unended some short = λ end left can.
+    let is = cut_off v end left can failed in
+    record { more = []; comes = subst (λ r. Comes r v.known end []) (sym failed) (is.0, refl); are = rw (is.0, append-nil) (sym (last_part (Cut v.known) v.lines_left v.held unended ∙ failed_piece v.known v.lines_left v.held some short)) }
 
 -- a piece that is too long
 pub long_line : (v : LinesValue) (most : ℕ) (line rest : List ℕ) → most ≤ MAX_UNENDED → 0 < v.lines_left → v.held ≡ line ++ (10 ∷ rest) → cut_at_ends line ≡ line ∷ [] → MAX_UNENDED < length line → IsLong most v
-long_line v most line rest within some held unended long =
-    let other = some_more v.reading v.known in
+long_line v most line rest within some held unended long = λ ps can.
     let positive : eqb v.lines_left 0 ≡ false = grind (arith, nat_tests) in
-    let over : nat_lt MAX_UNENDED (length line) ≡ true = grind (arith, nat_tests) in
-    record {
-      piece = Endless (next_line_number v.lines_left) line;
-      others = [];
-      can_come = record {
-        more = other.more;
-        end = other.end;
-        comes = other.comes;
-        are = rw (held, append_assoc line (10 ∷ rest) other.more) (sym (line_first other.end v.lines_left line (rest ++ other.more) unended ∙ some_line v.lines_left line (pieces_in other.end (v.lines_left - 1) (rest ++ other.more)) true positive over));
-      };
-      long = omega (arith, within, long);
-    }
+    let over_it : nat_lt MAX_UNENDED (length line) ≡ true = grind (arith, nat_tests) in
+    let after = rest ++ can.1.more in
+    let is : ps ≡ Endless (next_line_number v.lines_left) line ∷ [] =
+    can.1.are ∙ rw (held, append_assoc line (10 ∷ rest) can.1.more) (line_first can.0 v.lines_left line after unended ∙ some_line v.lines_left line (pieces_in can.0 (v.lines_left - 1) after) true positive over_it) in
+    subst (BeginLong most) (sym is) (omega (arith, within, long))
 
 -- the first piece has the bytes of the first part
 record FirstPiece (ps : List PieceValue) (bytes : List ℕ) : Type 0 where
@@ -141,7 +155,7 @@ either_first false number bytes one first others e is = record { piece = first; 
 -- the piece of bytes that aren't ended
 ending_first : (end : InputEnd) (lines x : ℕ) (xs : List ℕ) → FirstPiece (ending_piece end lines (x ∷ xs)) (x ∷ xs)
 ending_first Whole lines x xs = record { piece = Rest (next_line_number lines) (x ∷ xs); others = []; are = refl; of = refl }
-ending_first Cut lines x xs = record { piece = Failed (next_line_number lines) (x ∷ xs); others = []; are = refl; of = refl }
+ending_first (Cut known) lines x xs = record { piece = Failed (next_line_number lines) (x ∷ xs); others = []; are = refl; of = refl }
 
 first_piece : (end : InputEnd) (lines : ℕ) (parts : List (List ℕ)) (x : ℕ) (first : List ℕ) (others : List (List ℕ)) → 0 < lines → parts ≡ (x ∷ first) ∷ others → FirstPiece (pieces_of end lines parts) (x ∷ first)
 first_piece end lines parts x first [] some e =
@@ -158,39 +172,20 @@ first_held end lines [] more some nonempty unended h = absurd (omega arith)
 first_held end lines (x ∷ xs) more some nonempty unended h = first_piece end lines (cut_at_ends ((x ∷ xs) ++ more)) x (xs ++ h.first) h.others some (unended_then (x ∷ xs) more h.first h.others unended h.are)
 
 pub long_unended : (v : LinesValue) (most : ℕ) → 0 < v.lines_left → cut_at_ends v.held ≡ v.held ∷ [] → most < length v.held → IsLong most v
-long_unended v most some unended long =
-    let other = some_more v.reading v.known in
-    let h = has_first other.more in
-    let first = first_held other.end v.lines_left v.held other.more some (omega (arith, long)) unended h in
-    record {
-      piece = first.piece;
-      others = first.others;
-      can_come = record { more = other.more; end = other.end; comes = other.comes; are = sym first.are };
-      long = rw first.of (omega (arith, long, length-append v.held h.first));
-    }
+long_unended v most some unended long = λ ps can.
+    let h = has_first can.1.more in
+    let first = first_held can.0 v.lines_left v.held can.1.more some (omega (arith, long)) unended h in
+    let longer : most < length (bytes_of first.piece) = rw first.of (omega (arith, long, length-append v.held h.first)) in
+    subst (BeginLong most) (sym (can.1.are ∙ first.are)) longer
 
 -- ---- reading more
 
-comes_before : (now : ReadState) (old new : Option (List ℕ)) (bytes : List ℕ) (end : InputEnd) (more : List ℕ) → now ≡ Open → Consumes old new bytes → Comes Open new end more → Comes now old end (bytes ++ more)
-comes_before now old new bytes end more still took comes = subst (λ r. Comes r old end (bytes ++ more)) (sym still) (before old new end took comes)
-  where
-    before : (old new : Option (List ℕ)) (end : InputEnd) → Consumes old new bytes → Comes Open new end more → Comes Open old end (bytes ++ more)
-    before None new end took comes = tt
-    before (Some xs) None end took comes = absurd took
-    before (Some xs) (Some ys) Whole took comes = took ∙ ap (λ (l : List ℕ). bytes ++ l) comes
-    before (Some xs) (Some ys) Cut took comes = (comes.0, took ∙ ap (λ (l : List ℕ). bytes ++ l) comes.1 ∙ sym (append_assoc bytes more comes.0))
-
-pub read_before : (old new : LinesValue) (bytes : List ℕ) (ps : List PieceValue) → old.reading ≡ Open → new.reading ≡ Open → new.lines_left ≡ old.lines_left → new.held ≡ old.held ++ bytes → Consumes old.known new.known bytes → CanCome new ps → CanCome old ps
-read_before old new bytes ps was_open still lines held took can = record {
+pub read_before : (old new : LinesValue) (bytes : List ℕ) → old.reading ≡ Open → new.reading ≡ Open → new.lines_left ≡ old.lines_left → new.held ≡ old.held ++ bytes → Consumes old.known new.known bytes → (end : InputEnd) (ps : List PieceValue) → CanEnd new end ps → CanEnd old end ps
+read_before old new bytes was_open still lines held took end ps can = record {
   more = bytes ++ can.more;
-  end = can.end;
-  comes = comes_before old.reading old.known new.known bytes can.end can.more was_open took (subst (λ b. Comes b new.known can.end can.more) still can.comes);
-  are = can.are ∙ (rw (lines, held) (ap (λ l. pieces_in can.end old.lines_left l) (append_assoc old.held bytes can.more)));
+  comes = subst (λ r. Comes r old.known end (bytes ++ can.more)) (sym was_open) (Consumes-trans old.known new.known (left_behind end) bytes can.more took (subst (λ b. Comes b new.known end can.more) still can.comes));
+  are = can.are ∙ (rw (lines, held) (ap (λ l. pieces_in end old.lines_left l) (append_assoc old.held bytes can.more)));
 }
-
-open_cut : (known : Option (List ℕ)) → Comes Open known Cut []
-open_cut None = tt
-open_cut (Some left) = (left, refl)
 
 -- what comes after the end of the reading is nothing
 pub nothing_comes : (now : ReadState) (known : Option (List ℕ)) (end : InputEnd) (more : List ℕ) → (now ≡ Open → ⊥) → Comes now known end more → more ≡ []
@@ -198,15 +193,17 @@ nothing_comes Open known end more closed comes = absurd (closed refl)
 nothing_comes Ended known end more closed comes = comes.1
 nothing_comes reading.Failed known end more closed comes = comes.1
 
-pub fail_before : (old new : LinesValue) (ps : List PieceValue) → old.reading ≡ Open → new.reading ≡ reading.Failed → new.lines_left ≡ old.lines_left → new.held ≡ old.held → CanCome new ps → CanCome old ps
-fail_before old new ps was_open failed lines held can =
-    let is = subst (λ r. Comes r new.known can.end can.more) failed can.comes in
-    record {
-      more = [];
-      end = Cut;
-      comes = subst (λ r. Comes r old.known Cut []) (sym was_open) (open_cut old.known);
-      are = can.are ∙ rw (lines, held, is.0, is.1) refl;
-    }
+-- nothing was read, and then the reading ends in one way
+none_before : (old new : LinesValue) (last : InputEnd) → old.reading ≡ Open → new.lines_left ≡ old.lines_left → new.held ≡ old.held → Consumes old.known (left_behind last) [] → (end : InputEnd) (ps : List PieceValue) (can : CanEnd new end ps) → (end ≡ last) × (can.more ≡ []) → CanEnd old end ps
+none_before old new last was_open lines held none end ps can is = record {
+  more = [];
+  comes = subst (λ r. Comes r old.known end []) (sym was_open) (subst (λ (e : InputEnd). Consumes old.known (left_behind e) []) (sym is.0) none);
+  are = can.are ∙ rw (lines, held, is.1) refl;
+}
+
+pub fail_before : (old new : LinesValue) → old.reading ≡ Open → new.reading ≡ reading.Failed → new.lines_left ≡ old.lines_left → new.held ≡ old.held → Keeps old.known new.known → (end : InputEnd) (ps : List PieceValue) → CanEnd new end ps → CanEnd old end ps
+fail_before old new was_open failed lines held keeps end ps can =
+    none_before old new (Cut new.known) was_open lines held (Consumes-kept old.known old.known new.known [] (Consumes-nil old.known) keeps) end ps can (cut_off new end ps can failed)
 
 -- a piece takes one line at most
 pub takes_one_line : (most : ℕ) (old new : LinesValue) (told_next : NextPiece) → Gives most old told_next new → old.lines_left ≤ new.lines_left + 1
@@ -221,12 +218,19 @@ takes_one_line most old new next.Unread gives = omega (arith, ap (λ (v : LinesV
 -- ---- as much as is needed to know what comes next
 
 pub found : (most : ℕ) (first old new : LinesValue) (told_next : NextPiece) → ReadsOn first old → Gives most old told_next new → (told_next ≡ next.Unread → ⊥) → Finds most first told_next new
-found most first old new next.Line on gives told =
-    ((λ ps can. subst (λ n. CanCome first (Line (next_line_number n) new.piece ∷ ps)) on.1 (on.0 (Line (next_line_number old.lines_left) new.piece ∷ ps) (gives.0 ps can))), sym on.1 ∙ gives.1, gives.2)
-found most first old new next.Rest on gives told = (subst (λ n. CanCome first (Rest (next_line_number n) new.piece ∷ [])) on.1 (on.0 _ gives.0), gives.2)
-found most first old new next.Failed on gives told =
-    (old.held, subst (λ n. CanCome first (Failed (next_line_number n) old.held ∷ [])) on.1 (on.0 _ gives.0), gives.1, ap (λ (v : LinesValue). v.reading) gives.2 ∙ gives.3)
-found most first old new next.Long on gives told = record { piece = gives.0.piece; others = gives.0.others; can_come = on.0 _ gives.0.can_come; long = gives.0.long }
-found most first old new next.TooMany on gives told = on.0 _ gives.0
-found most first old new next.End on gives told = on.0 _ gives.0
+found most first old new next.Line on gives told = (
+  (λ end ps can. subst (λ n. CanEnd first end (Line (next_line_number n) new.piece ∷ ps)) on.1 (on.0 end (Line (next_line_number old.lines_left) new.piece ∷ ps) (gives.0 end ps can))),
+  sym on.1 ∙ gives.1,
+  gives.2,
+)
+found most first old new next.Rest on gives told = ((λ end left can. subst (λ n. CanEnd first end (Rest (next_line_number n) new.piece ∷ [])) on.1 (on.0 end _ (gives.0 end left can))), gives.2)
+found most first old new next.Failed on gives told = (
+  old.held,
+  (λ end left can. subst (λ n. CanEnd first end (Failed (next_line_number n) old.held ∷ [])) on.1 (on.0 end _ (gives.0 end left can))),
+  gives.1,
+  ap (λ (v : LinesValue). v.reading) gives.2 ∙ gives.3,
+)
+found most first old new next.Long on gives told = subst (λ (v : LinesValue). ReadsOn first v × IsLong most v) (sym gives.1) (on, gives.0)
+found most first old new next.TooMany on gives told = λ end left can. on.0 end _ (gives.0 end left can)
+found most first old new next.End on gives told = λ end left can. on.0 end _ (gives.0 end left can)
 found most first old new next.Unread on gives told = absurd (told refl)

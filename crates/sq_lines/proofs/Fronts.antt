@@ -47,11 +47,11 @@ begins_either false front one other begins e f = f
 
 ending_begins : (end : InputEnd) (lines : ℕ) (front : List ℕ) (x : ℕ) (xs : List ℕ) → next_begins front (ending_piece end lines (x ∷ xs)) ≡ starts_with nat_eq (x ∷ xs) front
 ending_begins Whole lines front x xs = refl
-ending_begins Cut lines front x xs = refl
+ending_begins (Cut known) lines front x xs = refl
 
 nothing_begins : (end : InputEnd) (lines f : ℕ) (front : List ℕ) → next_begins (f ∷ front) (ending_piece end lines []) ≡ false
 nothing_begins Whole lines f front = refl
-nothing_begins Cut lines f front = refl
+nothing_begins (Cut known) lines f front = refl
 
 -- the next piece begins as its first part does
 next_piece : (end : InputEnd) (lines : ℕ) (parts : List (List ℕ)) (f : ℕ) (front first : List ℕ) (others : List (List ℕ)) → 0 < lines → parts ≡ first ∷ others → next_begins (f ∷ front) (pieces_of end lines parts) ≡ starts_with nat_eq first (f ∷ front)
@@ -104,21 +104,21 @@ none_begin end (x ∷ xs) f front = rw (none_left end (x ∷ xs) (omega arith)) 
 
 pub no_line : (v : LinesValue) (front : List ℕ) (ps : List PieceValue) → 0 < length front → v.lines_left ≡ 0 → CanCome v ps → next_begins front ps ≡ false
 no_line v [] ps some none can = absurd (omega (arith, some))
-no_line v (f ∷ front) ps some none can = rw (can.are, none) (none_begin can.end (v.held ++ can.more) f front)
+no_line v (f ∷ front) ps some none can = rw (can.1.are, none) (none_begin can.0 (v.held ++ can.1.more) f front)
 
-begins_held : (v : LinesValue) (front : List ℕ) (ps : List PieceValue) → 0 < length front → 0 < v.lines_left → unended front ≡ true → (can : CanCome v ps) → next_begins front ps ≡ starts_with nat_eq (v.held ++ can.more) front
+begins_held : (v : LinesValue) (front : List ℕ) (ps : List PieceValue) → 0 < length front → 0 < v.lines_left → unended front ≡ true → (can : CanCome v ps) → next_begins front ps ≡ starts_with nat_eq (v.held ++ can.1.more) front
 begins_held v [] ps some lines apart can = absurd (omega (arith, some))
-begins_held v (f ∷ front) ps some lines apart can = ap (next_begins (f ∷ front)) can.are ∙ begins_so can.end v.lines_left (v.held ++ can.more) f front lines apart
+begins_held v (f ∷ front) ps some lines apart can = ap (next_begins (f ∷ front)) can.1.are ∙ begins_so can.0 v.lines_left (v.held ++ can.1.more) f front lines apart
 
 pub enough_begins : (v : LinesValue) (front : List ℕ) (ps : List PieceValue) → 0 < length front → 0 < v.lines_left → unended front ≡ true → length front ≤ length v.held → CanCome v ps → next_begins front ps ≡ starts_with nat_eq v.held front
-enough_begins v front ps some lines apart enough can = begins_held v front ps some lines apart can ∙ longer_begins v.held can.more front enough
+enough_begins v front ps some lines apart enough can = begins_held v front ps some lines apart can ∙ longer_begins v.held can.1.more front enough
 
 pub all_begins : (v : LinesValue) (front : List ℕ) (ps : List PieceValue) → 0 < length front → 0 < v.lines_left → unended front ≡ true → (v.reading ≡ Open → ⊥) → CanCome v ps → next_begins front ps ≡ starts_with nat_eq v.held front
 all_begins v front ps some lines apart ended can =
-    begins_held v front ps some lines apart can ∙ ap (λ (l : List ℕ). starts_with nat_eq l front) (ap (λ (l : List ℕ). v.held ++ l) (nothing_comes v.reading v.known can.end can.more ended can.comes) ∙ append-nil v.held)
+    begins_held v front ps some lines apart can ∙ ap (λ (l : List ℕ). starts_with nat_eq l front) (ap (λ (l : List ℕ). v.held ++ l) (nothing_comes v.reading v.known can.0 can.1.more ended can.1.comes) ∙ append-nil v.held)
 
 pub otherwise : (v : LinesValue) (front : List ℕ) (ps : List PieceValue) → 0 < length front → 0 < v.lines_left → unended front ≡ true → length v.held ≤ length front → starts_with nat_eq front v.held ≡ false → CanCome v ps → next_begins front ps ≡ false
-otherwise v front ps some lines apart short other can = begins_held v front ps some lines apart can ∙ otherwise_begins v.held can.more front short other
+otherwise v front ps some lines apart short other can = begins_held v front ps some lines apart can ∙ otherwise_begins v.held can.1.more front short other
 
 pub undecided : (v : LinesValue) (front : List ℕ) → 0 < v.lines_left → unended front ≡ true → length v.held ≤ length front → v.reading ≡ Open → starts_with nat_eq front v.held ≡ true → IsUndecided (length front) v
 undecided v front lines apart short still begins = record { unended = front_unended v.held front apart begins; short = short; goes_on = still; some_line = inr lines }

@@ -9,8 +9,8 @@ use Rattle.sq_lines.specs.Given.{IsGiven}
 -- what a reader of lines may give at its start is what its reader gives
 pub given_first : (v : LinesValue) (known : Option (List ℕ)) (given : List PieceValue) → v.held ≡ [] → v.reading ≡ Open → v.lines_left ≡ MAX_LINES → v.known ≡ known → CanCome v given → IsGiven known given
 given_first v known given none still most same can = record {
-  input = can.more;
-  end = can.end;
-  comes = subst (λ k. Comes Open k can.end can.more) same (subst (λ r. Comes r v.known can.end can.more) still can.comes);
-  are = can.are ∙ rw (most, none) refl;
+  input = can.1.more;
+  end = can.0;
+  comes = subst (λ k. Comes Open k can.0 can.1.more) same (subst (λ r. Comes r v.known can.0 can.1.more) still can.1.comes);
+  are = can.1.are ∙ rw (most, none) refl;
 }

@@ -1,5 +1,5 @@
 -- Pieces that are too long.
-use Rattle.std.proofs.Common.{◌≡◌, ℕ, ◌-◌, ◌<◌, ◌≤◌, Bool, true, false, cond, eqb, List, [], ◌∷◌, ◌++◌, length, refl, sym, ap, subst, arith}
+use Rattle.std.proofs.Common.{◌≡◌, ℕ, ◌-◌, ◌<◌, ◌≤◌, Bool, true, false, cond, eqb, List, [], ◌∷◌, ◌++◌, length, refl, sym, ap, arith}
 use Rattle.std.specs.Prelude.{nat_lt}
 use Rattle.std.proofs.lemmas.Bool.{ltb-false}
 use Rattle.sq_lines.specs.declared.buffer.TheConstants.{MAX_UNENDED}
@@ -33,7 +33,7 @@ either_long number true one other first second = first refl
 either_long number false one other first second = second refl
 
 ending_long : (end : InputEnd) (lines : ℕ) (bytes : List ℕ) → length bytes ≤ MAX_UNENDED → FirstLong (next_line_number lines) (ending_piece end lines bytes)
-ending_long Cut lines bytes short = one_short (next_line_number lines) (Failed (next_line_number lines) bytes) [] short
+ending_long (Cut known) lines bytes short = one_short (next_line_number lines) (Failed (next_line_number lines) bytes) [] short
 ending_long Whole lines [] short = nothing_long (next_line_number lines)
 ending_long Whole lines (x ∷ xs) short = one_short (next_line_number lines) (Rest (next_line_number lines) (x ∷ xs)) [] short
 
@@ -52,12 +52,14 @@ pieces_long end lines (line ∷ next ∷ others) =
     either_long number (eqb lines 0) (TooMany ∷ []) _ (λ e. one_short number TooMany [] (omega arith))
     (λ e. either_long number (nat_lt MAX_UNENDED (length line)) (Endless number line ∷ []) (Line number line ∷ pieces_of end (lines - 1) (next ∷ others)) (λ l. one_endless number line []) (λ s. one_short number (Line number line) (pieces_of end (lines - 1) (next ∷ others)) (ltb-false _ _ s)))
 
-pub record IsEndless (v : LinesValue) : Type 0 where
+-- pieces begin with one of this number that has no end
+pub record IsEndless (number : ℕ) (ps : List PieceValue) : Type 0 where
   pub bytes : List ℕ
   pub others : List PieceValue
-  pub can_come : CanCome v (Endless (next_line_number v.lines_left) bytes ∷ others)
+  pub are : ps ≡ Endless number bytes ∷ others
 
-pub is_endless : (v : LinesValue) → IsLong MAX_UNENDED v → IsEndless v
-is_endless v long =
-    let endless = pieces_long long.can_come.end v.lines_left (cut_at_ends (v.held ++ long.can_come.more)) long.piece long.others (sym long.can_come.are) long.long in
-    record { bytes = endless.0; others = long.others; can_come = subst (λ p. CanCome v (p ∷ long.others)) endless.1 long.can_come }
+pub is_endless : (v : LinesValue) → IsLong MAX_UNENDED v → (ps : List PieceValue) → CanCome v ps → IsEndless (next_line_number v.lines_left) ps
+is_endless v long [] can = absurd (long [] can)
+is_endless v long (piece ∷ others) can =
+    let endless = pieces_long can.0 v.lines_left (cut_at_ends (v.held ++ can.1.more)) piece others (sym can.1.are) (long (piece ∷ others) can) in
+    record { bytes = endless.0; others = others; are = ap (λ (p : PieceValue). p ∷ others) endless.1 }

@@ -1,5 +1,6 @@
--- What a reader of lines gives, and what can still come of it.
-use Rattle.std.specs.Prelude.{◌≡◌, ◌<◌, ◌≤◌, ◌⊎◌, ℕ, ◌+◌, ◌-◌, List, [], ◌∷◌, ◌++◌, length, Option, Some, None}
+-- What a reader of lines gives, and what it can still give.
+use Rattle.std.specs.Prelude.{◌≡◌, ◌<◌, ◌≤◌, ◌⊎◌, ℕ, ◌+◌, ◌-◌, List, [], ◌∷◌, ◌++◌, length, Option, Some}
+use Rattle.std.specs.Io.KnownBytes.{Consumes}
 use Rattle.sq_lines.specs.declared.buffer.TheConstants.{MAX_UNENDED}
 use Rattle.sq_lines.specs.declared.reader.ReadState.{ReadState}
 use Rattle.sq_lines.specs.declared.reader.ReadState.TheVariants as reading
@@ -16,24 +17,34 @@ pub record LinesValue : Type 0 where
   pub lines_left : ℕ
   pub known : Option (List ℕ)
 
+-- what a reader has left where its bytes end so
+abbrev pub left_behind : InputEnd → Option (List ℕ)
+left_behind Whole = Some []
+left_behind (Cut left) = left
+
 -- a reader that has this left, where that is known, may give these bytes, and then the reading ends so
 abbrev pub Comes : ReadState → Option (List ℕ) → InputEnd → List ℕ → Type 0
 Comes reading.Ended known end bytes = (end ≡ Whole) × (bytes ≡ [])
-Comes reading.Failed known end bytes = (end ≡ Cut) × (bytes ≡ [])
-Comes reading.Open None end bytes = Unit {0}
-Comes reading.Open (Some left) Whole bytes = left ≡ bytes
-Comes reading.Open (Some left) Cut bytes = (others : List ℕ) × (left ≡ bytes ++ others)
+Comes reading.Failed known end bytes = (end ≡ Cut known) × (bytes ≡ [])
+Comes reading.Open known end bytes = Consumes known (left_behind end) bytes
 
--- a reader of lines may give these pieces
-pub record CanCome (v : LinesValue) (ps : List PieceValue) : Type 0 where
+-- a reader of lines may give these pieces, and then the reading ends so
+pub record CanEnd (v : LinesValue) (end : InputEnd) (ps : List PieceValue) : Type 0 where
   pub more : List ℕ
-  pub end : InputEnd
   pub comes : Comes v.reading v.known end more
   pub are : ps ≡ pieces_in end v.lines_left (v.held ++ more)
 
--- what can come after can come here with this before it
+-- a reader of lines may give these pieces
+abbrev pub CanCome : LinesValue → List PieceValue → Type 0
+CanCome v ps = (end : InputEnd) × CanEnd v end ps
+
+-- what can come after can come here with this before it, and then the reading ends as it does there
 abbrev pub CameBefore : LinesValue → PieceValue → LinesValue → Type 0
-CameBefore old piece new = (ps : List PieceValue) → CanCome new ps → CanCome old (piece ∷ ps)
+CameBefore old piece new = (end : InputEnd) (ps : List PieceValue) → CanEnd new end ps → CanEnd old end (piece ∷ ps)
+
+-- these pieces can come, and then the reading ends as it can end now
+abbrev pub EndsIn : LinesValue → List PieceValue → LinesValue → Type 0
+EndsIn old pieces new = (end : InputEnd) (left : List PieceValue) → CanEnd new end left → CanEnd old end pieces
 
 -- what is held has no line end, and what comes next can't be known without a read
 pub record IsUndecided (most : ℕ) (v : LinesValue) : Type 0 where
@@ -42,12 +53,14 @@ pub record IsUndecided (most : ℕ) (v : LinesValue) : Type 0 where
   pub goes_on : v.reading ≡ reading.Open
   pub some_line : (v.held ≡ []) ⊎ (0 < v.lines_left)
 
--- a piece with over this many bytes can come
-pub record IsLong (most : ℕ) (v : LinesValue) : Type 0 where
-  pub piece : PieceValue
-  pub others : List PieceValue
-  pub can_come : CanCome v (piece ∷ others)
-  pub long : most < length (bytes_of piece)
+-- pieces begin with one that has over this many bytes
+abbrev pub BeginLong : ℕ → List PieceValue → Type 0
+BeginLong most [] = ⊥
+BeginLong most (piece ∷ others) = most < length (bytes_of piece)
+
+-- whatever comes begins with a piece that has over this many bytes
+abbrev pub IsLong : ℕ → LinesValue → Type 0
+IsLong most v = (ps : List PieceValue) → CanCome v ps → BeginLong most ps
 
 -- the next line is given
 abbrev pub GivesLine : LinesValue → LinesValue → Type 0
@@ -56,19 +69,18 @@ GivesLine old new =
     × (old.lines_left ≡ new.lines_left + 1)
     × (length new.piece ≤ MAX_UNENDED)
 
--- a piece of this kind with these bytes can come, and then nothing else
-abbrev pub CanEndIn : LinesValue → (ℕ → List ℕ → PieceValue) → List ℕ → Type 0
-CanEndIn v piece bytes = CanCome v (piece (next_line_number v.lines_left) bytes ∷ [])
-
 -- what a reader of lines gives next, where it looks for the end of a line in this many bytes
 abbrev pub Gives : ℕ → LinesValue → NextPiece → LinesValue → Type 0
 Gives most old next.Line new = GivesLine old new
-Gives most old next.Rest new = CanEndIn old Rest new.piece × (new.lines_left ≡ old.lines_left) × (length new.piece ≤ most)
+Gives most old next.Rest new =
+    EndsIn old (Rest (next_line_number old.lines_left) new.piece ∷ []) new × (new.lines_left ≡ old.lines_left)
+    × (length new.piece ≤ most)
 Gives most old next.Failed new =
-    CanEndIn old Failed old.held × (length old.held ≤ most) × (new ≡ old) × (old.reading ≡ reading.Failed)
+    EndsIn old (Failed (next_line_number old.lines_left) old.held ∷ []) new × (length old.held ≤ most) × (new ≡ old)
+    × (old.reading ≡ reading.Failed)
 Gives most old next.Long new = IsLong most old × (new ≡ old)
-Gives most old next.TooMany new = CanCome old (TooMany ∷ []) × (new ≡ old)
-Gives most old next.End new = CanCome old [] × (new ≡ old)
+Gives most old next.TooMany new = EndsIn old (TooMany ∷ []) new × (new ≡ old)
+Gives most old next.End new = EndsIn old [] new × (new ≡ old)
 Gives most old next.Unread new = IsUndecided most old × (new ≡ old)
 
 -- how many reads there are at most, where this much is held
@@ -81,21 +93,27 @@ reads_for reading.Failed held = 0
 abbrev pub reads_left : LinesValue → ℕ
 reads_left v = reads_for v.reading (length v.held)
 
--- what can come now could come before
+-- what can come now could come before, and the reading ended as it can end now
 abbrev pub ReadsOn : LinesValue → LinesValue → Type 0
-ReadsOn old new = ((ps : List PieceValue) → CanCome new ps → CanCome old ps) × (new.lines_left ≡ old.lines_left)
+ReadsOn old new =
+    ((end : InputEnd) (ps : List PieceValue) → CanEnd new end ps → CanEnd old end ps)
+    × (new.lines_left ≡ old.lines_left)
 
 -- what a reader of lines gives next, where it reads as much as it needs to know
 abbrev pub Finds : ℕ → LinesValue → NextPiece → LinesValue → Type 0
 Finds most old next.Line new = GivesLine old new
-Finds most old next.Rest new = CanEndIn old Rest new.piece × (length new.piece ≤ most)
+Finds most old next.Rest new =
+    EndsIn old (Rest (next_line_number old.lines_left) new.piece ∷ []) new × (length new.piece ≤ most)
 Finds most old next.Failed new =
-    (bytes : List ℕ) × CanEndIn old Failed bytes × (length bytes ≤ most) × (new.reading ≡ reading.Failed)
-Finds most old next.Long new = IsLong most old
-Finds most old next.TooMany new = CanCome old (TooMany ∷ [])
-Finds most old next.End new = CanCome old []
+    (bytes : List ℕ) × EndsIn old (Failed (next_line_number old.lines_left) bytes ∷ []) new × (length bytes ≤ most)
+    × (new.reading ≡ reading.Failed)
+Finds most old next.Long new = ReadsOn old new × IsLong most new
+Finds most old next.TooMany new = EndsIn old (TooMany ∷ []) new
+Finds most old next.End new = EndsIn old [] new
 Finds most old next.Unread new = ⊥
 
--- whatever can come after, something with this property can come before
+-- whatever can come after, something with this property can come before, and the reading ends as it does there
 abbrev pub Leaves : LinesValue → LinesValue → (List PieceValue → List PieceValue → Type 0) → Type 0
-Leaves old new holds = (left : List PieceValue) → CanCome new left → (all : List PieceValue) × CanCome old all × holds all left
+Leaves old new holds =
+    (end : InputEnd) (left : List PieceValue) → CanEnd new end left
+    → (all : List PieceValue) × CanEnd old end all × holds all left

@@ -1,5 +1,5 @@
 -- The pieces of an input: its lines, and how the reading of it ends.
-use Rattle.std.specs.Prelude.{ℕ, Bool, false, ◌+◌, ◌-◌, ◌==◌, nat_eq, nat_lt, if◌then◌else◌, List, [], ◌∷◌, length}
+use Rattle.std.specs.Prelude.{ℕ, Bool, false, ◌+◌, ◌-◌, ◌==◌, nat_eq, nat_lt, if◌then◌else◌, List, [], ◌∷◌, length, Option}
 use Rattle.std.specs.List.{starts_with, slice_split}
 use Rattle.sq_lines.specs.declared.buffer.TheConstants.{MAX_UNENDED}
 use Rattle.sq_lines.specs.declared.reader.TheConstants.{MAX_LINES}
@@ -25,15 +25,16 @@ pub data PieceValue : Type 0 where
   -- a byte after the last line that may come
   TooMany : PieceValue
 
--- how the bytes of an input end: they are all that there is, or a read failed behind them
+-- how the bytes of an input end: they are all that there is, or a read failed behind them, and its reader then had this left,
+-- where that is known
 pub data InputEnd : Type 0 where
   Whole : InputEnd
-  Cut : InputEnd
+  Cut : (left : Option (List ℕ)) → InputEnd
 
 -- what is after the last line end, where it isn't too long: a rest, unless it is empty, or what came before a read
 -- failed
 abbrev pub ending_piece : InputEnd → ℕ → List ℕ → List PieceValue
-ending_piece Cut left bytes = Failed (next_line_number left) bytes ∷ []
+ending_piece (Cut known) left bytes = Failed (next_line_number left) bytes ∷ []
 ending_piece Whole left [] = []
 ending_piece Whole left (byte ∷ bytes) = Rest (next_line_number left) (byte ∷ bytes) ∷ []
 

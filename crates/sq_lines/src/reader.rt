@@ -1,7 +1,7 @@
 // Readers of lines.
 ghost use Rattle.std.specs.Prelude.{◌≡◌, ◌≤◌, ◌<◌, ◌+◌, [], ◌∷◌, length, ◌==◌, not, true, List, Some, IfOk, IfErr, IfSome, IfNone};
-ghost use Rattle.sq_lines.specs.Pieces.{next_begins, next_line_number, PieceValue};
-ghost use Rattle.sq_lines.specs.Coming.{CanCome, IsUndecided, Gives, Finds, ReadsOn, reads_left};
+ghost use Rattle.sq_lines.specs.Pieces.{next_begins, next_line_number, PieceValue, InputEnd};
+ghost use Rattle.sq_lines.specs.Coming.{CanCome, CanEnd, IsUndecided, Gives, Finds, ReadsOn, reads_left};
 ghost use Rattle.std.specs.List.{list_all};
 
 use crate::buffer::{MAX_UNENDED, buffer_of, move_to_front, place_of, read_behind};
@@ -200,7 +200,8 @@ impl<R: Read> LineReader<R> {
     /// Asks the reader for more bytes, where it isn't known what comes next.
     pub fn read_more(&mut self)
         requires { IsUndecided MAX_UNENDED self.old }
-        ensures comes { (ps : List PieceValue) → CanCome self.new ps → CanCome self.old ps }
+        ensures comes { (end : InputEnd) (ps : List PieceValue) → CanEnd self.new end ps
+            → CanEnd self.old end ps }
         ensures lines { self.new.lines_left ≡ self.old.lines_left }
         ensures fewer { reads_left self.new < reads_left self.old }
     {

@@ -9,6 +9,7 @@ pub mod Answers
 pub mod Refusal
 pub mod Legal
 pub mod Orderly
+pub mod Laws
 pub mod Worked
 pub mod Staged
 pub mod WorkedStages

@@ -1,19 +1,19 @@
 // Laws of the definitions: worked examples, which the checker computes, two limits, what every legal history keeps, and that
 // each refusal has a meaning.
-ghost use Rattle.std.specs.Prelude.{◌≡◌, ◌≢◌, ◌≤◌, ◌<◌, ℕ, [], length, Contains, false, true, Some, is_some, pos};
+ghost use Rattle.std.specs.Prelude.{◌≡◌, ◌≢◌, ℕ, [], length, Contains, false, true, Some, is_some, pos};
 ghost use Rattle.sq_explain.specs.Meanings.{meaning_of};
 ghost use Rattle.sq_schema.specs.Prelude.{TxnValue, rows_of};
 ghost use Rattle.sq_ranges.specs.Prelude.{OpeningValue, IsOpening, stage_on};
-ghost use Rattle.sq_ranges.specs.declared.opening.TheConstants.{MAX_WAITING};
 ghost use Rattle.sq_model.specs.Trace.{Trace, stage, notes, loads, link};
-ghost use Rattle.sq_model.specs.Tables.{IsFoldedRoot, now, stands, family_of, is_full};
+ghost use Rattle.sq_model.specs.Tables.{IsFoldedRoot, now, stands, family_of};
 ghost use Rattle.sq_model.specs.Leader.{phase};
 ghost use Rattle.sq_model.specs.declared.answer.Refusal.{Refusal};
 ghost use Rattle.sq_model.specs.Refusal.{refusal_number};
 ghost use Rattle.sq_model.specs.Place.{At, place, destination, runner, is_coming};
-ghost use Rattle.sq_model.specs.Waiting.{waiting, has_to_wait};
+ghost use Rattle.sq_model.specs.Waiting.{waiting};
 ghost use Rattle.sq_model.specs.Answers.{answer};
 ghost use Rattle.sq_model.specs.Legal.{IsLegal, answers, after};
+ghost use Rattle.sq_model.specs.Laws.{FindsFullLog, FindsCrowd};
 ghost use Rattle.sq_model.specs.Orderly.{IsOrderly, CoverOnce};
 ghost use Rattle.sq_model.specs.Staged.{TellsAlone, since};
 ghost use Rattle.sq_model.specs.WorkedStages.{two_stages, in_stages, in_stages_answers};
@@ -148,9 +148,8 @@ pub fn folds_only_at_the_end()
 
 /// A log that is full takes no further transaction, whatever came before.
 pub fn refuses_at_a_full_log()
-    ensures { (o : OpeningValue) (t : Trace) (part : ℕ) (txn : TxnValue) → part < o.old.parts
-        → has_to_wait o t part txn.root ≡ false → runner o t txn.root ≡ Some part
-        → is_full o t txn.root ≡ true
+    ensures { (o : OpeningValue) (t : Trace) (part : ℕ) (txn : TxnValue)
+        → FindsFullLog o t part txn.root
         → answer o t (Step.Submit part txn) ≡ Answer.Refused Refusal.LogFull }
 {}
 
@@ -164,8 +163,8 @@ pub fn folds_lose_nothing()
 
 /// Where as many wait as can, a further transaction isn't let in, whatever came before.
 pub fn refuses_a_crowd()
-    ensures { (o : OpeningValue) (t : Trace) (part : ℕ) (txn : TxnValue) → part < o.old.parts
-        → has_to_wait o t part txn.root ≡ true → MAX_WAITING ≤ length (waiting o t part)
+    ensures { (o : OpeningValue) (t : Trace) (part : ℕ) (txn : TxnValue)
+        → FindsCrowd o t part txn.root
         → answer o t (Step.Submit part txn) ≡ Answer.Refused Refusal.WaitFull }
 {}
 

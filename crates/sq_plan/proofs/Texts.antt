@@ -125,7 +125,7 @@ ranges_read : (ranges : List PlanRange) → FitRanges ranges → of_items (items
 ranges_read [] fit = refl
 ranges_read (range ∷ ranges) fit = rw (range_reads range fit.0, ranges_read ranges fit.1) refl
 
--- the JSON that is printed for a plan stands for the plan's value
+-- the JSON that is printed for a plan has the plan's value
 plan_reads : (plan : PlanValue) → IsPlan plan → of_json (outline (plan_data plan)) ≡ Some (plan_data plan)
 plan_reads plan is_plan = reads plan.version plan.parts plan.ranges (omega (arith, parts_bound plan is_plan)) (plan_fits plan is_plan)
   where
@@ -159,7 +159,7 @@ plan_is_flat plan = is_flat plan.version plan.parts plan.ranges
     is_flat First parts ranges = let flat = ranges_are_flat ranges in omega arith
     is_flat (Second stages) parts ranges = let flat = ranges_are_flat ranges in omega arith
 
--- what is printed of JSON that stands for a value is read as this value
+-- what is printed of JSON that has a value is read as this value
 read-print : (j : json.Json) (value : Data) → HasNumbers j → tree.depth j ≤ max_depth → of_json j ≡ Some value → read (print (json_tokens j)) ≡ Some value
 read-print j value numbers flat reads =
     let back = tokens-print (json_tokens j) (ArePrintable-json_tokens j numbers) ∙ sym (append-nil (json_tokens j)) in

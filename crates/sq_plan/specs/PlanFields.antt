@@ -1,12 +1,15 @@
 -- What the fields of a plan in JSON say, before the checks.
-use Rattle.std.specs.Prelude.{◌≡◌, ℕ, nat_lt, List, Some, Option, option_map}
+use Rattle.std.specs.Prelude.{◌≡◌, ℕ, nat_lt, List, Some, Option, option_map, Result, Ok, Err}
 use Rattle.std.specs.List.{list_all}
+use Rattle.serde_json.specs.Data.{Data}
 use Rattle.serde_json.specs.View.{items_view}
 use Rattle.sq_plan.specs.declared.plan.PlanRange.{PlanRange}
 use Rattle.sq_plan.specs.declared.read.PlanFields.{PlanFields}
 use Rattle.sq_plan.specs.declared.read.Layout.{Layout}
-use Rattle.sq_plan.specs.PlanValue.{is_tiling}
-use Rattle.sq_plan.specs.Reading.{ranges_in}
+use Rattle.sq_plan.specs.declared.read.Heading.{Heading}
+use Rattle.sq_plan.specs.declared.fault.PlanFault.{PlanFault}
+use Rattle.sq_plan.specs.PlanValue.{PlanValue, is_tiling}
+use Rattle.sq_plan.specs.Reading.{ranges_in, checked, plan_of}
 
 -- whether the ranges follow one another, and whether each owner is one of this many partitions
 abbrev pub layout : ℕ → List PlanRange → Layout
@@ -20,3 +23,20 @@ pub record HasRanges (fields : PlanFields) (ranges : List PlanRange) : Type 0 wh
 -- what the fields say of stages
 abbrev pub stages_of : PlanFields → Option (List ℕ)
 stages_of fields = option_map (λ text. text.now) fields.stages
+
+-- what the checks of fields with these ranges come to: the plan, or the fault of the first that fails
+abbrev pub checked_fields : PlanFields → List PlanRange → Result PlanValue PlanFault
+checked_fields fields ranges = checked (stages_of fields) fields.parts ranges
+
+-- the checks of these fields decide what the JSON value is read as
+abbrev pub AreFieldsOf : Data → PlanFields → Type 0
+AreFieldsOf value fields = (ranges : List PlanRange) × HasRanges fields ranges × (plan_of value ≡ checked_fields fields ranges)
+
+-- the plan with this heading and these ranges
+abbrev pub plan_under : Heading → List PlanRange → PlanValue
+plan_under heading ranges = record { version = heading.version; parts = heading.parts; ranges = ranges }
+
+-- the checks of fields with these ranges come to the plan with this heading, or to this fault
+abbrev pub ChecksTo : PlanFields → List PlanRange → Result Heading PlanFault → Type 0
+ChecksTo fields ranges (Ok heading) = checked_fields fields ranges ≡ Ok (plan_under heading ranges)
+ChecksTo fields ranges (Err fault) = checked_fields fields ranges ≡ Err fault

@@ -21,7 +21,7 @@ abbrev pub version_text : Version → List ℕ
 version_text First = codes "\"version\":1"
 version_text (Second stages) = codes "\"stages\":\"" ++ stages_name stages ++ codes "\",\"version\":2"
 
--- the number of partitions, the ranges as they stand in the plan, and the version
+-- the number of partitions, the ranges as the plan has them, and the version
 abbrev pub plan_text : PlanValue → List ℕ
 plan_text plan =
     codes "{\"partitions\":" ++ decimal plan.parts

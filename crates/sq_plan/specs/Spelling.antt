@@ -1,4 +1,4 @@
--- How a plan stands in JSON: {"version":1,"partitions":P,"ranges":[[lo,hi,owner],..]}, in version 2 with "stages":".."; the
+-- How a plan is written in JSON: {"version":1,"partitions":P,"ranges":[[lo,hi,owner],..]}, in version 2 with "stages":".."; the
 -- fields in any order and among others.
 use Rattle.std.specs.Prelude.{◌≡◌, ℕ, List, [], ◌∷◌, Some, codes}
 use Rattle.serde_json.specs.Data.{Data, Items, Members, number, unsigned, string, array, no_items, item, object, member, no_members}

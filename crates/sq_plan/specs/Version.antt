@@ -6,7 +6,7 @@ use Rattle.sq_plan.specs.declared.version.Stages.TheVariants.{One, Auto}
 use Rattle.sq_plan.specs.declared.version.Version.{Version}
 use Rattle.sq_plan.specs.declared.version.Version.TheVariants.{First, Second}
 
--- the number that stands in a plan
+-- the number that a plan has for it
 abbrev pub version_number : Version → ℕ
 version_number First = 1
 version_number (Second stages) = 2
@@ -22,7 +22,7 @@ is_auto First = false
 is_auto (Second One) = false
 is_auto (Second Auto) = true
 
--- the text that stands in a plan
+-- the text that a plan has for it
 abbrev pub stages_name : Stages → List ℕ
 stages_name One = codes "one"
 stages_name Auto = codes "auto"

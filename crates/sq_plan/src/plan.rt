@@ -45,7 +45,8 @@ impl Model for Plan {
 
     ghost view = { λ p. record { version = p.version; parts = p.parts; ranges = p.ranges.items } };
 
-    ghost invariant = { λ p. IsPlan (record { version = p.version; parts = p.parts; ranges = p.ranges.items }) };
+    ghost invariant = { λ p.
+        IsPlan (record { version = p.version; parts = p.parts; ranges = p.ranges.items }) };
 }
 
 impl Plan {

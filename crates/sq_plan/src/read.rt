@@ -1,10 +1,10 @@
 // Reading a plan from JSON.
-ghost use Rattle.std.specs.Prelude.{◌≡◌, ◌^◌, ◌<◌, ◌≤◌, ◌⊎◌, nat_lt, List, length, true, Some, None, Ok, Err, MatchResult, IfOk, IsOk, IsSomeAnd, option_map};
+ghost use Rattle.std.specs.Prelude.{◌≡◌, ◌^◌, ◌<◌, ◌≤◌, ◌⊎◌, nat_lt, List, length, true, Some, None, Err, MatchResult, IfOk, IsOk, IsSomeAnd, option_map};
 ghost use Rattle.std.specs.List.{list_all};
 ghost use Rattle.sq_plan.specs.declared.plan.PlanRange.{PlanRange};
-ghost use Rattle.sq_plan.specs.PlanFields.{layout, HasRanges, stages_of};
+ghost use Rattle.sq_plan.specs.PlanFields.{layout, HasRanges, AreFieldsOf, ChecksTo};
 ghost use Rattle.serde_json.specs.View.{view, items_view};
-ghost use Rattle.sq_plan.specs.Reading.{ReadsPlan, json_of, whole_at, text_at, stages_at, version_by, parts_limit_by, range_in, ranges_in, checked, plan_of as plan_of_json};
+ghost use Rattle.sq_plan.specs.Reading.{ReadsPlan, json_of, whole_at, text_at, stages_at, version_by, parts_limit_by, range_in, ranges_in, plan_of as plan_of_json};
 
 use crate::fault::PlanFault;
 use crate::part::PartId;
@@ -143,8 +143,7 @@ fn stages_in(value: &Value, version: u64) -> Option<Option<&str>>
 // What the fields say, or the fault of the first check of them that fails.
 fn fields_of(value: &Value) -> Result<PlanFields<'_>, PlanFault>
     ensures { MatchResult result
-        (λ fields. (ranges : List PlanRange) × HasRanges fields ranges
-        × (plan_of_json (view value.now) ≡ checked (stages_of fields) fields.parts ranges))
+        (AreFieldsOf (view value.now))
         (λ fault. plan_of_json (view value.now) ≡ Err fault) }
 {
     let version = whole_number(value, "version").ok_or(PlanFault::Shape)?;
@@ -197,10 +196,8 @@ struct Heading {
 
 // What the plan says besides its ranges, or the fault of the first check that fails.
 fn heading_of(fields: PlanFields<'_>) -> Result<Heading, PlanFault>
-    ensures { (ranges : List PlanRange) → HasRanges fields.entry ranges → MatchResult result
-        (λ heading. checked (stages_of fields.entry) fields.entry.parts ranges
-        ≡ Ok (record { version = heading.version; parts = heading.parts; ranges = ranges }))
-        (λ fault. checked (stages_of fields.entry) fields.entry.parts ranges ≡ Err fault) }
+    ensures { (ranges : List PlanRange) → HasRanges fields.entry ranges
+        → ChecksTo fields.entry ranges result }
 {
     if !(1..=parts_limit(fields.stages)).contains(&fields.parts) {
         return Err(PlanFault::PartitionCount);

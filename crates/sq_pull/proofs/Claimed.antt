@@ -29,7 +29,7 @@ get-written xs at old new there =
     let within = slice_get_within xs at old there in
     slice_get-get_or (slice_set xs at new) at new (omega (arith, length-set xs at new)) ∙ ap Some (get_or-set_same xs at new new within)
 
--- and what stands elsewhere, as before
+-- and what is elsewhere, as before
 get-elsewhere : {X : Type 0} (xs : List X) (at place : ℕ) (new found : X) → place ≢ at → slice_get xs place ≡ Some found → slice_get (slice_set xs at new) place ≡ Some found
 get-elsewhere xs at place new found away there =
     let within = slice_get_within xs place found there in

@@ -10,7 +10,7 @@ use Rattle.sq_status.specs.Seat.{SeatValue, IsSameSeat}
 use Rattle.sq_status.specs.Walks.{ClaimedOnly}
 use Rattle.sq_pull.specs.Seats.{AreSeatsOf, StepsAt, OnlyClaimed}
 
--- a step of the seat that stands at a place is one of that segment's seat
+-- a step of the seat that is at a place is one of that segment's seat
 pub steps_at : (trees : List TableId) (seats : List SeatValue) (seg at : ℕ) (steps : View → View → Type 0) (before after : SeatValue) → AreSeatsOf trees seats → seg < length trees → at ≡ seg
     → before ≡ get_or seats at before → IsSameSeat before after → steps before.view after.view → StepsAt seg steps seats (slice_set seats at after)
 steps_at trees seats seg at steps before after kept within place read same told =

@@ -202,7 +202,7 @@ impl Pump {
     }
 }
 
-// Those of the first segments that run in a stage, in their order.
+// The ones among the first segments that run in a stage, in their order.
 fn stage_round(
     alloc: Global,
     recon: &Recon,

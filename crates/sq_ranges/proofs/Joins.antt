@@ -52,7 +52,7 @@ module _ (old new : PlanValue) where
             (cases_lt key range.hi);
       }
 
-  -- joined runs stand in a row, and none of them can be joined
+  -- joined runs follow one another, and none of them can be joined
   record Joined (lo hi : ℕ) (ranges result : List Range) : Type 0 where
     row : Row (IsMovingRun old new) lo hi result
     maximal : AreMaximal result

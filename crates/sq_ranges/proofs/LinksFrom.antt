@@ -1,4 +1,4 @@
--- Where links stand among those that are there for ranges.
+-- The places of links among those that there are for ranges.
 use Rattle.std.proofs.Common.{◌≡◌, ℕ, ◌<◌, ◌≤◌, Bool, true, ◌&&◌, ◌==◌, List, length, get_or, map, Option, Some, None, refl, sym, ap, ◌∙◌, subst, ⊎_elim, arith}
 use Rattle.std.specs.Prelude.{slice_get, position, is_some, Contains}
 use Rattle.std.specs.Cmp.{nat_cmp_is}
@@ -62,7 +62,7 @@ module _ {X : Type 0} (ends : X → Link) (ranges : List Range) (links : List X)
       (ap (λ (x : X). (ends x).src) one_is ∙ same_src ∙ ap (λ (x : X). (ends x).src) (sym other_is))
       (ap (λ (x : X). (ends x).dst) one_is ∙ same_dst ∙ ap (λ (x : X). (ends x).dst) (sym other_is))
 
-  -- it is found where it stands
+  -- it is found at its place
   pub stands_from : (i : ℕ) (link : X) → slice_get links i ≡ Some link → position (joins (ends link).src (ends link).dst) links ≡ Some i
   stands_from i link there =
       let low = slice_get_within links i link there in

@@ -22,7 +22,7 @@ module _ (P : Range → Type 0) where
   row_bounds lo hi [] row = row
   row_bounds lo hi (range ∷ ranges) row = let rest = row_bounds range.hi hi ranges row.3 in omega arith
 
-  -- a row stands between wider bounds
+  -- a row is between wider bounds
   pub row_lower : (lo lo' hi : ℕ) (ranges : List Range) → lo' ≤ lo → Row P lo hi ranges → Row P lo' hi ranges
   row_lower lo lo' hi [] le row = omega arith
   row_lower lo lo' hi (range ∷ ranges) le row = (omega arith, row.1, row.2, row.3)
@@ -38,7 +38,7 @@ module _ (P : Range → Type 0) where
   row_each lo hi (range ∷ ranges) row zero d less = row.2
   row_each lo hi (range ∷ ranges) row (suc k) d less = row_each range.hi hi ranges row.3 k d (omega arith)
 
-  -- where each of them stands
+  -- where each of them lies
   pub row_at : (lo hi : ℕ) (ranges : List Range) (i : ℕ) (range : Range) → Row P lo hi ranges → slice_get ranges i ≡ Some range → Stands P lo hi range
   row_at lo hi [] i range row e = absurd (none-some range e)
   row_at lo hi (first ∷ ranges) zero range row e =

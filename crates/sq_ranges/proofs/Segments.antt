@@ -40,7 +40,7 @@ module _ (recon : ReconValue) (is : IsRecon recon) where
   ranges_row : Row Moves 0 ROOT_END recon.ranges
   ranges_row = row_from_rising 0 recon.ranges (omega arith) is.rising
 
-  -- the segments stand in a row: in key order, disjoint, none of them empty
+  -- the segments follow one another: in key order, disjoint, none of them empty
   pub segments_row : Row (IsSegment recon.width) 0 ROOT_END recon.segments
   segments_row =
       subst (Row (IsSegment recon.width) 0 ROOT_END) (sym is.cut)

@@ -14,7 +14,7 @@ use Rattle.sq_ranges.specs.declared.opening.GivenRow.{GivenRow}
 use Rattle.sq_ranges.specs.Between.{recon_of}
 use Rattle.sq_ranges.specs.OpeningValue.{OpeningValue}
 
--- where a given row stands within its root key
+-- the place of a given row within its root key
 abbrev pub key_of : GivenRow → RowKey
 key_of given = record { table = given.table; sub = given.sub }
 

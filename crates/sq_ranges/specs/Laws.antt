@@ -1,14 +1,20 @@
 -- What holds of reconfigurations, in few words.
-use Rattle.std.specs.Prelude.{◌≡◌, ◌≢◌, ℕ, ◌≤◌, ◌<◌, true, List, Option, None, Some, slice_get}
+use Rattle.std.specs.Prelude.{◌≡◌, ◌≢◌, ℕ, ◌≤◌, ◌<◌, true, false, IsTrue, List, Option, None, Some, slice_get}
 use Rattle.sq_plan.specs.PlanValue.{PlanValue, owner}
+use Rattle.sq_tree.specs.Prelude.{is_node, is_under}
 use Rattle.sq_ranges.specs.declared.recon.Range.{Range}
 use Rattle.sq_ranges.specs.declared.recon.Extent.{Extent}
-use Rattle.sq_ranges.specs.ReconValue.{has_key}
+use Rattle.sq_ranges.specs.ReconValue.{ReconValue, IsRecon, has_key}
 
 -- the segment of this number holds the key
 pub record IsHoldingSegment (segments : List Range) (key i : ℕ) (segment : Range) : Type 0 where
   pub at : slice_get segments i ≡ Some segment
   pub held : has_key segment key ≡ true
+
+-- the key lies in this segment of the move, the one of this number
+pub record LiesInSegment (recon : ReconValue) (key i : ℕ) (segment : Range) : Type 0 where
+  pub is : IsRecon recon
+  pub holder : IsHoldingSegment recon.segments key i segment
 
 -- a key that moves is in this segment alone, which goes from its old owner to its new one
 pub record IsMovedBy (old new : PlanValue) (segments : List Range) (key i : ℕ) (segment : Range) : Type 0 where
@@ -22,6 +28,17 @@ pub record IsMovedBy (old new : PlanValue) (segments : List Range) (key i : ℕ)
 abbrev pub IsSegmentOf : PlanValue → PlanValue → List Range → ℕ → Option ℕ → Type 0
 IsSegmentOf old new segments key None = owner old key ≡ owner new key
 IsSegmentOf old new segments key (Some i) = (segment : Range) × IsMovedBy old new segments key i segment
+
+-- the keys of a segment
+abbrev pub keys_of : Range → Extent
+keys_of segment = record { lo = segment.lo; hi = segment.hi }
+
+-- two nodes, neither of them under the other
+pub record AreNotNested (n m : ℕ) : Type 0 where
+  pub one : IsTrue (is_node n)
+  pub other : IsTrue (is_node m)
+  pub not_under : is_under n m ≡ false
+  pub not_above : is_under m n ≡ false
 
 -- the key is one of these
 pub record Covers (keys : Extent) (key : ℕ) : Type 0 where

@@ -50,6 +50,10 @@ segments_of width ranges = flat_map (segments_in width) ranges
 abbrev pub is_width : ℕ → Bool
 is_width width = nat_le 1 width && nat_le width MAX_WIDTH
 
+-- what these ranges and segments say of a move
+abbrev pub recon_with : ℕ → List Range → List Range → Bool → ReconValue
+recon_with width ranges segments auto = record { width = width; ranges = ranges; segments = segments; auto = auto }
+
 -- nothing moves
 abbrev pub no_moves : ReconValue
 no_moves = record { width = 1; ranges = []; segments = []; auto = false }
@@ -162,3 +166,9 @@ link_cmp one other = ordering_then (nat_cmp one.src other.src) (nat_cmp one.dst 
 pub record AreLinks (ranges : List Range) (links : List Link) : Type 0 where
   pub rising : IsStrictlySortedBy link_cmp links
   pub all : (link : Link) → Contains links link ↔ (is_link ranges link.src link.dst ≡ true)
+
+-- what holds of each reconfiguration, its links, and for each segment the place of the partition to which it goes
+pub record HasLists (move : ReconValue) (pairs : List Link) (numbers : List ℕ) : Type 0 where
+  pub recon : IsRecon move
+  pub links : AreLinks move.ranges pairs
+  pub places : numbers ≡ map (place_of move.ranges) move.segments

@@ -76,3 +76,8 @@ early_fault tables old new config rows = option_or (config_fault old new config)
 abbrev pub MayRefuse : Option OpeningFault → Option OpeningFault → OpeningFault → Type 0
 MayRefuse early first Memory = early ≡ None
 MayRefuse early first fault = first ≡ Some fault
+
+-- the opening of two plans with these sizes and rows may be refused for this fault
+abbrev pub MayRefuseOpening : ℕ → PlanValue → PlanValue → Config → List GivenRow → OpeningFault → Type 0
+MayRefuseOpening tables old new config rows fault =
+    MayRefuse (early_fault tables old new config rows) (opening_fault tables old new config rows) fault

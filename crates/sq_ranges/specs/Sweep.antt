@@ -47,7 +47,7 @@ AreMovesFrom old new at (run ∷ runs) = IsNextRun old new at run × AreMovesFro
 abbrev pub left : Sweep → ℕ
 left sweep = length sweep.olds.now + length sweep.news.now
 
--- the plans of a sweep, and where it stands in them
+-- the plans of a sweep, and where it is in them
 pub record IsSweepOf (old new : PlanValue) (sweep : Sweep) : Type 0 where
   pub within : sweep.at ≤ ROOT_END
   pub olds : AreAhead old sweep.at sweep.olds.now

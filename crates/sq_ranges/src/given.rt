@@ -9,7 +9,7 @@ ghost use Rattle.sq_schema.specs.Prelude.{rows_in, is_opening};
 ghost use Rattle.sq_plan.specs.PlanValue.{IsPlan};
 ghost use Rattle.sq_ranges.specs.Between.{recon_of, IsReconOf};
 ghost use Rattle.sq_ranges.specs.Given.{value_of, no_rows, with_one, given_rows, IsTableOf};
-ghost use Rattle.sq_ranges.specs.Refused.{HasFitSizes, config_fault, given_fault, rows_fault, first_fault, opening_fault, early_fault, MayRefuse};
+ghost use Rattle.sq_ranges.specs.Refused.{HasFitSizes, config_fault, given_fault, rows_fault, first_fault, opening_fault, MayRefuse, MayRefuseOpening};
 
 use crate::fault::OpeningFault;
 use crate::opening::{Config, GivenRow, MAX_CAPACITY, MAX_LIMIT, MIN_LIMIT};
@@ -31,8 +31,7 @@ pub(crate) fn moves_and_table(
     requires { tables ≤ MAX_TABLES }
     ensures fault { MatchResult result
         (λ _. opening_fault tables old.now new.now config rows.now ≡ None)
-        (MayRefuse (early_fault tables old.now new.now config rows.now)
-        (opening_fault tables old.now new.now config rows.now)) }
+        (MayRefuseOpening tables old.now new.now config rows.now) }
     ensures recon { IfOk result (λ parts. (parts.0 ≡ recon_of old.now new.now config.width)
         × IsReconOf old.now new.now config.width parts.0) }
     ensures table { IfOk result (λ parts. IsTableOf rows.now parts.1) }

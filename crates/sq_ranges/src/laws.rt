@@ -11,12 +11,12 @@ ghost use Rattle.sq_ranges.specs.declared.segment.TheConstants.{SEGMENT_LIMIT};
 ghost use Rattle.sq_ranges.specs.declared.opening.TheConstants.{MIN_LIMIT, MAX_LIMIT, MAX_CAPACITY, MAX_WAITING};
 ghost use Rattle.sq_ranges.specs.Between.{segment_limit};
 ghost use Rattle.sq_tree.specs.declared.node.TheConstants.{NODES, LEAVES};
-ghost use Rattle.sq_tree.specs.Prelude.{is_node, is_leaf, is_above, is_under};
+ghost use Rattle.sq_tree.specs.Prelude.{is_node, is_leaf, is_above};
 ghost use Rattle.sq_ranges.specs.declared.recon.Range.{Range};
 ghost use Rattle.sq_ranges.specs.ReconValue.{ReconValue, IsRecon, segment_of, leaf_of, extent};
 ghost use Rattle.sq_ranges.specs.Moves.{AreTheMoves, moves_of};
 ghost use Rattle.sq_ranges.specs.Between.{IsReconOf};
-ghost use Rattle.sq_ranges.specs.Laws.{IsHoldingSegment, IsSegmentOf, Covers, LiesIn, AreHalves};
+ghost use Rattle.sq_ranges.specs.Laws.{IsSegmentOf, LiesInSegment, Covers, LiesIn, AreHalves, AreNotNested, keys_of};
 
 /// The limits of plans, of what moves and of what waits, in digits.
 pub fn the_limits()
@@ -47,25 +47,25 @@ pub fn each_key_that_moves_has_one_segment()
 
 /// A node covers those keys of its segment whose leaf it is above, and its leaf is one of [`LEAVES`].
 pub fn a_node_covers_the_keys_of_its_leaves()
-    ensures leaf { (recon : ReconValue) (i key : ℕ) (segment : Range) → IsRecon recon
-        → IsHoldingSegment recon.segments key i segment → leaf_of recon.width segment key < LEAVES }
-    ensures covers { (recon : ReconValue) (i key n : ℕ) (segment : Range) → IsRecon recon
-        → IsHoldingSegment recon.segments key i segment
-        → Covers (extent recon.width segment n) key
+    ensures leaf { (recon : ReconValue) (i key : ℕ) (segment : Range)
+        → LiesInSegment recon key i segment → leaf_of recon.width segment key < LEAVES }
+    ensures covers { (recon : ReconValue) (i key n : ℕ) (segment : Range)
+        → LiesInSegment recon key i segment → Covers (extent recon.width segment n) key
         ↔ (is_above n (leaf_of recon.width segment key) ≡ true) }
 {}
 
 /// The keys of a node lie in its segment, which node 1 covers whole. The two halves of a node make it up, and two
 /// nodes that aren't nested have no key in common.
 pub fn nodes_divide_their_segment()
-    ensures whole { (recon : ReconValue) (i n : ℕ) (segment : Range) → IsRecon recon
+    ensures inside { (recon : ReconValue) (i n : ℕ) (segment : Range) → IsRecon recon
         → slice_get recon.segments i ≡ Some segment
-        → LiesIn (extent recon.width segment n) (record { lo = segment.lo; hi = segment.hi })
-        × (extent recon.width segment 1 ≡ record { lo = segment.lo; hi = segment.hi }) }
+        → LiesIn (extent recon.width segment n) (keys_of segment) }
+    ensures whole { (recon : ReconValue) (i : ℕ) (segment : Range) → IsRecon recon
+        → slice_get recon.segments i ≡ Some segment
+        → extent recon.width segment 1 ≡ keys_of segment }
     ensures halves { (width n : ℕ) (segment : Range) → IsTrue (is_node n) → is_leaf n ≡ false
         → AreHalves (extent width segment (2 * n)) (extent width segment (2 * n + 1))
         (extent width segment n) }
-    ensures apart { (width n m key : ℕ) (segment : Range) → IsTrue (is_node n) → IsTrue (is_node m)
-        → is_under n m ≡ false → is_under m n ≡ false
+    ensures apart { (width n m key : ℕ) (segment : Range) → AreNotNested n m
         → Covers (extent width segment n) key → Covers (extent width segment m) key → ⊥ }
 {}

@@ -112,7 +112,7 @@ impl Opening {
     ghost use Rattle.sq_ranges.specs.SetUp.{IsSetUp};
     ghost use Rattle.sq_ranges.specs.Between.{recon_of};
     ghost use Rattle.sq_ranges.specs.Given.{IsOpeningOf, value_of, with_one};
-    ghost use Rattle.sq_ranges.specs.Refused.{config_fault, given_fault, opening_fault, early_fault, MayRefuse};
+    ghost use Rattle.sq_ranges.specs.Refused.{config_fault, given_fault, opening_fault, MayRefuse, MayRefuseOpening};
 
     /// The opening of two plans with these sizes and rows. Otherwise the plans and the rows come back as they were,
     /// with the first of these faults: those of the plans and the width of a leaf, as [`Recon::fault`] has them; the
@@ -130,9 +130,7 @@ impl Opening {
     ) -> Result<Opening, RefusedOpening>
         ensures fault { MatchResult result
             (λ _. opening_fault schema old new config rows.items ≡ None)
-            (λ refused. MayRefuse (early_fault schema old new config rows.items)
-            (opening_fault schema old new config rows.items)
-            refused.fault) }
+            (λ refused. MayRefuseOpening schema old new config rows.items refused.fault) }
         ensures ok { IfOk result (IsOpeningOf schema old new config rows.items) }
         ensures set_up { IfOk result IsSetUp }
         ensures old_returned { IfErr result (λ refused. refused.old ≡ old) }
@@ -170,7 +168,8 @@ impl Opening {
         config: Config,
     ) -> Result<Opening, RefusedPlans>
         ensures fault { let fault = config_fault old new config in
-            MatchResult result (λ _. fault ≡ None) (λ refused. MayRefuse fault fault refused.fault) }
+            MatchResult result (λ _. fault ≡ None)
+            (λ refused. MayRefuse fault fault refused.fault) }
         ensures ok { IfOk result (IsOpeningOf schema old new config []) }
         ensures set_up { IfOk result IsSetUp }
         ensures old_returned { IfErr result (λ refused. refused.old ≡ old) }
@@ -263,7 +262,8 @@ impl Opening {
     /// The same opening with other rows.
     pub fn with_table(self, table: Table) -> Opening
         requires { (root : ℕ) → ROOT_END ≤ root → rows_in table root ≡ [] }
-        ensures { result ≡ record self { table = table } }
+        ensures opening { result ≡ record self { table = table } }
+        ensures set_up { IsSetUp result }
     {
         // For the proof alone: a table is by rising root key, and each has some rows.
         let _rows = table.iter();
@@ -285,6 +285,7 @@ impl Opening {
           new = new;
           recon = recon_of self.new new self.config.width;
         }) }
+        ensures set_up { IfOk result IsSetUp }
         ensures returned { IfErr result (λ refused. refused.1 ≡ self) }
     {
         // For the proof alone: a table is by rising root key, and each has some rows.
@@ -360,7 +361,7 @@ impl GivenRow {
         Row::new(self.number, self.note)
     }
 
-    // A row that stands so in its root key, as it was given.
+    // A row at this place of its root key, as it was given.
     pub(crate) fn of(root: Root, key: RowKey, row: Row) -> GivenRow
         ensures { value_of result ≡ record { root = root; key = key; row = row } }
     {

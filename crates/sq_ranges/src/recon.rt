@@ -62,8 +62,7 @@ pub struct Recon {
 }
 
 impl Model for Recon {
-    ghost use Rattle.std.specs.Prelude.{◌≡◌, map};
-    ghost use Rattle.sq_ranges.specs.ReconValue.{ReconValue, IsRecon, AreLinks, place_of};
+    ghost use Rattle.sq_ranges.specs.ReconValue.{ReconValue, HasLists, recon_with};
 
     ghost Value = { ReconValue };
 
@@ -74,11 +73,8 @@ impl Model for Recon {
       auto = r.auto;
     } };
 
-    ghost invariant = { λ r. record {
-      recon : IsRecon (record { width = r.width; ranges = r.ranges.items; segments = r.segments.items; auto = r.auto });
-      links : AreLinks r.ranges.items r.links.items;
-      places : r.places.items ≡ map (place_of r.ranges.items) r.segments.items;
-    } };
+    ghost invariant = { λ r.
+        HasLists (recon_with r.width r.ranges.items r.segments.items r.auto) r.links.items r.places.items };
 }
 
 impl Recon {

@@ -45,8 +45,8 @@ impl<'a> Sweep<'a> {
         None
     }
 
-    // A run of keys that ends where the sweep stands, with the pieces behind it that have its owners. The sweep
-    // then stands at its end.
+    // A run of keys that ends where the sweep is, with the pieces behind it that have its owners. The sweep
+    // then is at its end.
     fn extended(&mut self, mut run: Range) -> Range
         ensures whole { (old new : PlanValue) (from : ℕ) → Reaches old new from self.old run
             → EndsAt old new from self.new result }

@@ -1,4 +1,4 @@
--- Lists of entries whose keys strictly rise: what stands at a place, and what an edit there does.
+-- Lists of entries whose keys strictly rise: what is at a place, and what an edit there does.
 use Rattle.std.proofs.Common.{◌≡◌, ℕ, zero, suc, ◌+◌, ◌<◌, ◌≤◌, not, List, [], ◌∷◌, length, get_or, set, Some, None, Ordering, IsTrue, cond, take, refl, sym, ap, ◌∙◌, inl, inr, arith}
 use Rattle.std.specs.declared.cmp.Ordering.TheVariants.{Less, Equal, Greater}
 use Rattle.std.specs.List.{AllByRecursion, AllWithin, insert, remove}

@@ -47,7 +47,7 @@ pub row_at-with_write : (rows : RowList) (key q : RowKey) (row : Option RowValue
 row_at-with_write rows key q None = row_at-without_row rows key q
 row_at-with_write rows key q (Some row) = row_at-with_row rows key q row
 
--- what the last write of the key wrote, or else the row that stood
+-- what the last write of the key wrote, or else the row that was there
 abbrev pub row_or : Option Write → Option RowValue → Option RowValue
 row_or None row = row
 row_or (Some write) row = write.1
@@ -64,7 +64,7 @@ latest_of rows key (write ∷ writes) = rw (reverse-append (write ∷ []) writes
 pub latest : (rows : RowList) (key : RowKey) (writes : List Write) → row_at (with_writes rows writes) key ≡ row_or (find_in (λ write. is_key write.0 key) (reverse writes)) (row_at rows key)
 latest rows key writes = ap (λ ws. row_at (with_writes rows ws) key) (sym (reverse-reverse writes)) ∙ latest_of rows key (reverse writes)
 
--- a row that stands has a note that isn't too long
+-- a row that there is has a note that isn't too long
 pub row_at-short : (rows : RowList) (key : RowKey) → AllPass is_entry rows → IfSome (row_at rows key) (λ row. length row.note ≤ MAX_NOTE)
 row_at-short [] key sound = tt
 row_at-short (entry ∷ rows) key sound =

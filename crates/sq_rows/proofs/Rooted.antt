@@ -1,4 +1,4 @@
--- Edits keep the rule that rows of other tables stand only under the root row.
+-- Edits keep the rule that there are rows of other tables only under the root row.
 use Rattle.std.proofs.Common.{◌≡◌, Bool, true, false, cond, not, ◌&&◌, ◌==◌, [], ◌∷◌, length, Some, None, is_some, inl, inr, ⊎_elim, refl, sym, subst, arith}
 use Rattle.std.specs.Ordering.{eq_by_cmp}
 use Rattle.std.specs.List.{AllPass, list_all}
@@ -24,7 +24,7 @@ by_root rows stands = or_left (is_some (row_at rows root_key)) (list_all is_root
 by_tables : (rows : RowList) → AllPass is_root_entry rows → is_rooted rows ≡ true
 by_tables rows all = or_right (is_some (row_at rows root_key)) (list_all is_root_entry rows) (list_all-from_AllPass is_root_entry rows all)
 
--- the root row stands, or else only rows of the root table do
+-- there is the root row, or else there are only rows of the root table
 cases_rooted : (rows : RowList) (G : Type 0) → is_rooted rows ≡ true → (is_some (row_at rows root_key) ≡ true → G) → (AllPass is_root_entry rows → G) → G
 cases_rooted rows G rooted root tables = ⊎_elim root (λ all. tables (AllPass-from_list_all is_root_entry rows all)) (or_cases (is_some (row_at rows root_key)) (list_all is_root_entry rows) rooted)
 
@@ -46,7 +46,7 @@ is_rooted-with_row rows key row may rooted =
       | inr stands ↦ by_root (with_row rows key row) (root_stays rows key row (not-false (is_some (row_at rows root_key)) stands))
     ]
 
--- a row that stands among rows of the root table is one of them
+-- a row that is among rows of the root table is one of them
 known_table : (rows : RowList) (key : RowKey) (row : RowValue) → row_at rows key ≡ Some row → AllPass is_root_entry rows → (key.table == 0) ≡ true
 known_table [] key row found all = absurd (cc)
 known_table (entry ∷ rows) key row found all =

@@ -45,7 +45,7 @@ restored rows key row rising =
 pub row_put : (rows : RowList) (key : RowKey) (row : RowValue) → row_at (with_row rows key row) key ≡ Some row
 row_put rows key row = row_at-with_row rows key key row ∙ ap (λ b. cond b (Some row) (row_at rows key)) (is_key-cmp key key ∙ ap is_eq (tied_itself key_cmp_total key))
 
--- what is put at each key: the later writes, on what stood or on nothing
+-- what is put at each key: the later writes, on what was there or on nothing
 overwritten : (write : Option Write) (row other : Option RowValue) → is_some write ≡ true → row_or write row ≡ row_or write other
 overwritten None row other is = absurd (cc)
 overwritten (Some write) row other is = refl

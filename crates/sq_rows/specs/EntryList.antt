@@ -29,7 +29,7 @@ HasRoom (One entry) more = ⊥
 HasRoom (Many entries) more = vec_len entries + more ≤ vec_capacity entries
 HasRoom (Map entries) more = ⊥
 
--- no row stands, or this key's alone
+-- there is no row, or this key's alone
 abbrev pub StandsAlone : RowList → RowKey → Type 0
 StandsAlone [] key = Unit {0}
 StandsAlone (entry ∷ []) key = entry.0 ≡ key

@@ -18,7 +18,7 @@ root_key = record { table = 0; sub = 0 }
 abbrev pub row_at : RowList → RowKey → Option RowValue
 row_at rows key = find key_cmp key rows
 
--- the rows with this one put, new or in place of the one that stands
+-- the rows with this one put, new or in place of the one that is there
 abbrev pub with_row : RowList → RowKey → RowValue → RowList
 with_row rows key row = put key_cmp key row rows
 

@@ -1,4 +1,4 @@
--- The rows of one root key, as they may stand.
+-- Which rows one root key may have.
 use Rattle.std.specs.Prelude.{◌≡◌, Bool, true, ◌^◌, ◌==◌, ◌&&◌, ◌||◌, nat_lt, nat_le, length, is_some}
 use Rattle.std.specs.List.{AllPass, list_all}
 use Rattle.std.specs.FinMap.Entries.{is_sorted}
@@ -17,6 +17,6 @@ pub record IsRowList (rows : RowList) : Type 0 where
   pub rising : is_sorted key_cmp rows ≡ true
   pub entries : AllPass is_entry rows
 
--- rows of other tables stand only under the root row
+-- there are rows of other tables only under the root row
 abbrev pub is_rooted : RowList → Bool
 is_rooted rows = is_some (row_at rows root_key) || list_all (λ entry. entry.0.table == 0) rows

@@ -18,7 +18,7 @@ pub struct EntryIter<'a, K, V> {
 /// The rows of one root key with their keys, by key in rising order.
 pub type RowIter<'a> = EntryIter<'a, RowKey, Row>;
 
-// Those that are left, in each form.
+// The entries that are left, in each form.
 #[derive(Drop)]
 enum EntriesLeft<'a, K, V> {
     Listed(slice::Iter<'a, (K, V)>),

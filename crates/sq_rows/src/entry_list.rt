@@ -74,7 +74,7 @@ impl EntryList {
         }
     }
 
-    /// Puts a row, new or in place of the one that stands. Where there is no memory the row comes back.
+    /// Puts a row, new or in place of the one that is there. Where there is no memory the row comes back.
     pub(crate) fn insert(&mut self, key: RowKey, row: Row) -> Result<(), AllocFailed<Row>>
         requires { is_sorted key_cmp (entries_of self.old) ≡ true }
         ensures ok { OnOk result (entries_of self.new ≡ with_row (entries_of self.old) key row) }
@@ -230,7 +230,7 @@ impl EntryList {
         Ok(())
     }
 
-    // Whether no row stands in a list but this key's.
+    // Whether a list has no row but this key's.
     fn stands_alone(&self, key: RowKey) -> bool
         ensures { IsTrue result → StandsAlone (entries_of self.now) key }
     {
@@ -241,7 +241,7 @@ impl EntryList {
         }
     }
 
-    // Makes a write of this key, which takes no memory where no other row stands.
+    // Makes a write of this key, which takes no memory where there is no other row.
     fn set(&mut self, key: RowKey, row: Option<Row>)
         requires alone { StandsAlone (entries_of self.old) key }
         requires listed { IsListed self.old }

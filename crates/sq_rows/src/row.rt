@@ -8,7 +8,7 @@ use std::marker::Model;
 /// The most bytes that a note has.
 pub const MAX_NOTE: usize = 255;
 
-/// Where a row stands within its root key. Table 0 is the root table, and its only sub key is 0.
+/// The place of a row within its root key. Table 0 is the root table, and its only sub key is 0.
 #[derive(Clone, Copy, Debug, PartialEq, Eq, PartialOrd)]
 pub struct RowKey {
     /// The table, from 0.

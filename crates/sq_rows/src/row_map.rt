@@ -60,7 +60,7 @@ pub(crate) fn write(
     Ok(())
 }
 
-// Puts the row back that a key had, or none, which takes no memory since one stands.
+// Puts the row back that a key had, or none, which takes no memory since one is there.
 fn put_back(rows: &mut BTreeMap<RowKey, Row>, key: RowKey, old: Option<Row>)
     requires rising { is_sorted key_cmp rows.old.entries ≡ true }
     requires stands { IsSome (row_at rows.old.entries key) }

@@ -87,7 +87,7 @@ impl Rows {
         self.size
     }
 
-    /// Puts a row, new or in place of the one that stands. Where there is no memory the row comes back.
+    /// Puts a row, new or in place of the one that is there. Where there is no memory the row comes back.
     pub fn insert(&mut self, key: RowKey, row: Row) -> Result<(), AllocFailed<Row>>
         requires { length row.note ≤ MAX_NOTE }
         ensures ok { OnOk result (self.new ≡ with_row self.old key row) }

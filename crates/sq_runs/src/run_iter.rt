@@ -12,9 +12,8 @@ use std::slice;
 /// Families of a store by rising root key. To a contract they are the list of those that are left.
 #[derive(Drop)]
 pub struct RunIter<'a> {
-    // Those of the run at hand.
+    // The families of the run at hand.
     families: slice::Iter<'a, Family>,
-    // The runs behind it.
     runs: slice::Iter<'a, FamilyRun>,
 }
 

@@ -1,10 +1,9 @@
 // Families in runs.
 ghost use Rattle.std.specs.Prelude.{◌≡◌, ◌==◌, ◌+◌, ◌++◌, ◌<◌, ◌≤◌, List, [], option_to_list, vec_len, vec_capacity, None, IsTrue, IfOk, IfErr, OnOk, OnErr};
 ghost use Rattle.std.specs.FinMap.{get, insert, remove, len, empty};
-ghost use Rattle.sq_schema.specs.Prelude.{FamilyValue};
-ghost use Rattle.sq_store.specs.StoreValue.{StoreValue, store_reply, store_after, roots_differ, has_none_of};
+ghost use Rattle.sq_store.specs.StoreValue.{store_reply, store_after, roots_differ, has_none_of};
 ghost use Rattle.sq_store.specs.InOrder.{families_in, HoldsByRoot};
-ghost use Rattle.sq_store.specs.PutIn.{IsPutIn};
+ghost use Rattle.sq_store.specs.PutIn.{IsPutIn, TakesBack};
 
 use crate::family_run::FamilyRun;
 use crate::run_iter::RunIter;
@@ -130,10 +129,7 @@ impl RunStore {
     // is room for them.
     fn take_back(&mut self, families: &mut Vec<Family>, mut roots: Vec<Root>)
         requires { vec_len families.old + vec_len roots ≤ vec_capacity families.old }
-        ensures { (before : StoreValue) (given : List FamilyValue) → IsTrue (roots_differ given)
-            → IsTrue (has_none_of before given)
-            → IsPutIn before given families.old.items roots.items self.old
-            → (self.new ≡ before) × (families.new.items ≡ given) }
+        ensures { TakesBack families.old.items roots.items self.old families.new.items self.new }
     {
         while let Some(root) = roots.pop() {
             self.move_out(root, families);

@@ -93,7 +93,7 @@ module _ (P : RowList → Type 0) (kept : (rows : RowList) (op : Op) (after : Ro
   keeps_replay_rows [] rows before = before
   keeps_replay_rows (txn ∷ txns) rows before = keeps_replay_rows txns (effect rows txn) (keeps_effect rows txn before)
 
--- rows of other tables stand only under the root row
+-- there are rows of other tables only under the root row
 rooted_kept : (rows : RowList) (op : Op) (after : RowList) → Edits rows op after → is_rooted rows ≡ true → is_rooted after ≡ true
 rooted_kept rows op _ none rooted = rooted
 rooted_kept rows op _ (put {key} {row} may) rooted = is_rooted-with_row rows key row may rooted

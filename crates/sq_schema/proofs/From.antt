@@ -15,7 +15,7 @@ use Rattle.sq_rows.specs.RowList.{RowList}
 use Rattle.sq_schema.specs.Table.{TableValue}
 use Rattle.sq_rows.proofs.Entries.{sorted_at, all_below}
 
--- what passes is what stands from a place on, where none before it passes and all from it on do
+-- what passes is what is there from a place on, where none before it passes and all from it on do
 filter_from : {X : Type 0} (p : X → Bool) (xs : List X) (at : ℕ) → at ≤ length xs
     → ((i : ℕ) (d : X) → i < at → p (get_or xs i d) ≡ false) → ((i : ℕ) (d : X) → at ≤ i → i < length xs → p (get_or xs i d) ≡ true) → filter p xs ≡ drop at xs
 filter_from p [] zero within before after = refl
@@ -42,7 +42,7 @@ less x y is = ltb-true x y (first (nat_lt x y) (x == y) is)
     first false false h = absurd (cc)
 
 module _ (table : TableValue) (from : ℕ) (rising : is_sorted nat_cmp table ≡ true) where
-  -- those below a root key stand before the others
+  -- those below a root key come before the others
   parted : IsPartitionedBy (λ (entry : ℕ × RowList). nat_lt entry.0 from) table
   parted i j d upto within below =
       elim (cases_lt i j) [

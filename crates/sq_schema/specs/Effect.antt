@@ -24,12 +24,12 @@ is_i64 (negsuc n) = nat_lt n (2 ^ 63)
 abbrev pub OpOutcome : Type 0
 OpOutcome = Result (RowList × OpAnswer) Cause
 
--- a row of another table than the root table stands only under its root row
+-- there is a row of another table than the root table only under its root row
 abbrev pub put_outcome : RowList → RowKey → RowValue → OpOutcome
 put_outcome rows key row =
     if not (key.table == 0) && not (is_some (row_at rows root_key)) then Err NoRoot else Ok (with_row rows key row, Done)
 
--- the number of a row that stands grows by this, where the sum is an `i64`
+-- the number of an existing row grows by this, where the sum is an `i64`
 abbrev pub add_outcome : RowList → RowKey → ℤ → Option RowValue → OpOutcome
 add_outcome rows key by None = Err Absent
 add_outcome rows key by (Some row) =
@@ -37,13 +37,13 @@ add_outcome rows key by (Some row) =
     then Ok (with_row rows key (record { number = row.number +ℤ by; note = row.note }), Number (row.number +ℤ by))
     else Err Range
 
--- a row that stands is deleted, the root row only where it stands alone
+-- an existing row is deleted, the root row only where it is alone
 abbrev pub del_outcome : RowList → RowKey → Option RowValue → OpOutcome
 del_outcome rows key None = Err Absent
 del_outcome rows key (Some row) =
     if eq_by_cmp key_cmp key root_key && not (length rows == 1) then Err Children else Ok (without_row rows key, Done)
 
--- a row stands, and its number isn't below this
+-- there is a row, and its number isn't below this
 abbrev pub check_outcome : RowList → ℤ → Option RowValue → OpOutcome
 check_outcome rows least None = Err Absent
 check_outcome rows least (Some row) = if is_lt (int_cmp row.number least) then Err Small else Ok (rows, Done)

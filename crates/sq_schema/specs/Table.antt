@@ -19,7 +19,7 @@ TableValue = List (ℕ × RowList)
 abbrev pub rows_in : TableValue → RowTable
 rows_in table root = unwrap_or (find nat_cmp root table) []
 
--- some rows; those of other tables stand under the root row
+-- some rows; there are some of other tables only under the root row
 abbrev pub is_opening : RowList → Bool
 is_opening rows = not (length rows == 0) && is_rooted rows
 

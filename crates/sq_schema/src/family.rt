@@ -51,7 +51,7 @@ impl Family {
         }
     }
 
-    /// A family of this root key that starts from these rows; those of other tables stand only under the root row.
+    /// A family of this root key that starts from these rows; there are some of other tables only under the root row.
     /// Where there is no memory for it they come back.
     pub fn opened(alloc: Global, root: Root, rows: Rows) -> Result<Family, Rows>
         requires { IsTrue (is_rooted rows) }
@@ -108,7 +108,7 @@ impl Family {
         self.root
     }
 
-    /// The rows; those of other tables stand only under the root row.
+    /// The rows; there are some of other tables only under the root row.
     pub fn rows(&self) -> &Rows
         ensures rows { result.now ≡ rows_of self.now }
         ensures rooted { IsTrue (is_rooted result.now) }

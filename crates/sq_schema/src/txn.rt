@@ -20,12 +20,12 @@ pub const MAX_OPS: usize = 64;
 pub enum Op {
     /// Answers the row, or that there is none.
     Get(RowKey),
-    /// Puts the row, new or in place of the one that stands. Aborts where a row of another table than the
-    /// root table is put and the root row doesn't stand.
+    /// Puts the row, new or in place of the one that is there. Aborts where a row of another table than the
+    /// root table is put and there is no root row.
     Put(RowKey, Row),
     /// Adds to the row's number and answers the sum. Aborts where there is no row, or where the sum isn't an `i64`.
     Add(RowKey, i64),
-    /// Deletes the row. Aborts where there is none, or where it is the root row and another row stands.
+    /// Deletes the row. Aborts where there is none, or where it is the root row and there is another row.
     Del(RowKey),
     /// Aborts where there is no row, or where its number is below this.
     Check(RowKey, i64),
@@ -67,9 +67,9 @@ pub enum Cause {
     Small,
     /// The sum isn't an `i64`.
     Range,
-    /// The root row doesn't stand.
+    /// There is no root row.
     NoRoot,
-    /// Another row stands under the root row.
+    /// There is another row under the root row.
     Children,
 }
 

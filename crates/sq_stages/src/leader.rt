@@ -1,5 +1,6 @@
 // The leader of a run in threads.
 ghost use Rattle.std.specs.Prelude.{◌≡◌, length, true, IfOk};
+ghost use Rattle.sq_ranges.specs.Prelude.{IsOpening};
 ghost use Rattle.sq_leader.specs.Marks.{all_marked};
 ghost use Rattle.sq_leader.specs.Segments.{is_told_whole};
 ghost use Rattle.sq_leader.specs.Leader.{is_last};
@@ -58,8 +59,6 @@ pub fn lead_on(moving: Moving, opening: &Opening, whole: &[bool]) -> Led
     requires { moving ≡ leading opening.now moving.stage }
     ensures { Leads opening.now moving.stage (is_told_whole whole.now) result }
 {
-    // For the proof alone: what was handed in is an opening.
-    let _recon = opening.recon();
     match hear_reports(moving, opening, whole).next() {
         Ok(moving) => Led::Next(moving),
         Err(refused) => match refused.fault {
@@ -73,10 +72,9 @@ pub fn lead_on(moving: Moving, opening: &Opening, whole: &[bool]) -> Led
 fn end_move(moving: Moving, opening: &Opening, whole: &[bool]) -> Led
     requires reported { HaveReported opening.now moving.stage whole.now moving }
     requires last { is_last moving ≡ true }
+    requires opening { IsOpening opening.now }
     ensures { Leads opening.now moving.stage (is_told_whole whole.now) result }
 {
-    // For the proof alone: what was handed in is an opening.
-    let _recon = opening.recon();
     match moving.finish() {
         Ok(_) => Led::Ended,
         Err(_) => Led::Missing,
@@ -86,7 +84,8 @@ fn end_move(moving: Moving, opening: &Opening, whole: &[bool]) -> Led
 // The leader once each partition has reported that may.
 fn hear_reports(mut moving: Moving, opening: &Opening, whole: &[bool]) -> Moving
     requires { moving ≡ leading opening.now moving.stage }
-    ensures { HaveReported opening.now moving.stage whole.now result }
+    ensures heard { HaveReported opening.now moving.stage whole.now result }
+    ensures opening { IsOpening opening.now }
 {
     for part in 0..u64::from(opening.old_plan().parts()) {
         let stage = moving.stage();

@@ -54,7 +54,7 @@ search_taken n pull v w st taken found =
     let some = some_span n in
     ((n, st) ∷ [], Added-found v n st w found, omega arith, λ leaf above. (n, st, itself (n, st) [], taken, above))
 
--- where a node of a half stands in the whole
+-- where a node of a half is in the whole
 in_left : (n m : ℕ) → Halves n → IsTrue (is_under (2 * n) m) → IsTrue (is_under n m)
 in_left n m half under =
     let b = under_bounds (2 * n) m under in

@@ -13,12 +13,12 @@ fresh first spent =
 abbrev pub one_if : Bool → ℕ
 one_if test = if test then 1 else 0
 
--- how often a node stands in a list
+-- how often a node is in a list
 abbrev pub times : ℕ → List ℕ → ℕ
 times n [] = 0
 times n (m ∷ ms) = one_if (m == n) + times n ms
 
--- how often a node stands in a list with this pull
+-- how often a node is in a list with this pull
 abbrev pub times_with : ℕ → ℕ → List (ℕ × ℕ) → ℕ
 times_with n pull [] = 0
 times_with n pull (e ∷ es) = one_if ((e.0 == n) && (e.1 == pull)) + times_with n pull es

@@ -2,7 +2,7 @@
 use sq_tree::{NodeId, Status};
 use std::collections::LinkedList;
 
-/// What a seat of a tree has done and seen. It stands in clauses and proofs alone: no value of it is made.
+/// What a seat of a tree has done and seen. It is in clauses and proofs alone: no value of it is made.
 pub struct View {
     /// The nodes that the seat split, the newest first.
     pub split: LinkedList<NodeId>,

@@ -48,8 +48,8 @@ pub for_header : {E : Type 0} (r : Result Ending E) (tables : ℕ) (o : OpeningV
 for_header (Err e) tables o begin lines before now eight opens wrote = tt
 for_header (Ok ending) tables o begin lines before now eight opens wrote =
     let some = some_pieces lines in
-    let all = opens some.pieces some.can_come in
-    (all.0, all.1, wrote.0, wrote.1, inl (record { opening = o; left = some.pieces; header = subst (λ n. Opens n (Ok o) some.pieces (header_of n all.0)) eight all.2; wrote = wrote.2 }))
+    let all = opens some.can_come.0 some.pieces some.can_come.1 in
+    (all.0, (some.can_come.0, all.1), wrote.0, wrote.1, inl (record { opening = o; left = some.pieces; header = subst (λ n. Opens n (Ok o) some.pieces (header_of n all.0)) eight all.2; wrote = wrote.2 }))
 
 -- what is written behind a header that has a fault
 pub for_fault : {E : Type 0} (r : Result Ending E) (tables : ℕ) (fault : LocatedFault) (begin lines : LinesValue) (before now : Option (List ℕ)) → tables ≡ MAX_TABLES
@@ -57,5 +57,5 @@ pub for_fault : {E : Type 0} (r : Result Ending E) (tables : ℕ) (fault : Locat
 for_fault (Err e) tables fault begin lines before now eight opens wrote = tt
 for_fault (Ok ending) tables fault begin lines before now eight opens wrote =
     let some = some_pieces lines in
-    let all = opens some.pieces some.can_come in
-    (all.0, all.1, wrote.0, wrote.1, inr (record { fault = fault; left = some.pieces; header = subst (λ n. Opens n (Err fault) some.pieces (header_of n all.0)) eight all.2; wrote = wrote.2 }))
+    let all = opens some.can_come.0 some.pieces some.can_come.1 in
+    (all.0, (some.can_come.0, all.1), wrote.0, wrote.1, inr (record { fault = fault; left = some.pieces; header = subst (λ n. Opens n (Err fault) some.pieces (header_of n all.0)) eight all.2; wrote = wrote.2 }))

@@ -17,7 +17,7 @@ use Rattle.sq_store.proofs.Rising.{both_left, both_right}
 tied_is : (x y : ℕ) → eq_by_cmp nat_cmp x y ≡ true → x ≡ y
 tied_is x y e = eqb-true x y (sym (unsigned_tied x y) ∙ e)
 
--- no entry stands at a key up to one that all keys are above
+-- no entry is at a key up to one that all keys are above
 none_upto : (x key : ℕ) (es : List (ℕ × FamilyValue)) → below_all nat_cmp x es ≡ true → key ≤ x → find nat_cmp key es ≡ None
 none_upto x key [] e low = refl
 none_upto x key (entry ∷ es) e low =

@@ -20,7 +20,7 @@ use Rattle.sq_store.proofs.Counts.{count_within, end_of_is}
 use Rattle.sq_store.proofs.Between.{within-between, between_none, without_none}
 
 module _ (families : List FamilyValue) (rising : roots_rise families ≡ true) where
-  -- the families stand in the store of the list
+  -- the families are in the store of the list
   pub stands : (k : ℕ) (d : FamilyValue) → k < length families → get (store_of families) (get_or families k d).root ≡ Some (get_or families k d)
   stands k d within =
       let is : IsRootAt families (get_or families k d).root k = record { within = within; here = λ e. ap (λ f. f.root) (get_or_default families k e d within) } in

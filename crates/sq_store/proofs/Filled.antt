@@ -21,7 +21,7 @@ use Rattle.sq_store.proofs.Keys.{same_store, tied, untied}
 abbrev pub key_in : List (ℕ × ℕ) → ℕ → Option ℕ
 key_in keys root = update_all (eq_by_cmp nat_cmp) (λ _. None) keys root
 
--- the families of a store stand in the slab under the keys that the list has for their root keys
+-- the families of a store are in the slab under the keys that the list has for their root keys
 pub record IsFilled (families : Slab FamilyValue) (keys : List (ℕ × ℕ)) (store : StoreValue) : Type 0 where
   pub linked : LeadsTo families (key_in keys)
   pub holds : (root : ℕ) → get store root ≡ option_map (family_under families) (key_in keys root)

@@ -150,7 +150,7 @@ no_entries : (es : List (ℕ × FamilyValue)) → map (λ entry. entry.1) es ≡
 no_entries [] none = refl
 no_entries (e ∷ es) none = absurd (cc)
 
--- where there are no families between two bounds, none stands there
+-- where there are no families between two bounds, none is there
 pub none_between : (store : StoreValue) (lo hi root : ℕ) → families_between store lo hi ≡ [] → is_between lo hi root ≡ true → get store root ≡ None
 none_between store lo hi root none inside =
     let kept_store = retain_keys store (is_between lo hi) in

@@ -1,4 +1,4 @@
--- Families that a store is given: their root keys differ, and none of them stands in the store.
+-- Families that a store is given: their root keys differ, and none of them is in the store.
 use Rattle.std.proofs.Common.{◌≡◌, ⊎_elim, ℕ, zero, suc, Bool, true, false, List, [], ◌∷◌, refl, sym, ap, ◌∙◌, arith, true≢false}
 use Rattle.std.specs.Prelude.{◌≢◌, ◌==◌, ◌||◌, cond, not, map, Option, Some, None, is_some, is_none, Contains}
 use Rattle.std.specs.List.{list_any, AllByRecursion, IsDistinct}
@@ -130,7 +130,7 @@ has_none_of-permutation store families others same none =
     let absent = λ (family : FamilyValue). is_none (get store family.root) in
     list_all-from_AllPass absent others (All-permutation (λ family. absent family ≡ true) families others same (AllPass-from_list_all absent families none))
 
--- a store has none of families where none stands at any of their root keys
+-- a store has none of families where none is at any of their root keys
 pub has_none_of-from_each : (store : StoreValue) (families : List FamilyValue) → ((root : ℕ) → is_some (family_in families root) ≡ true → get store root ≡ None) → has_none_of store families ≡ true
 has_none_of-from_each store [] none = refl
 has_none_of-from_each store (family ∷ families) none =

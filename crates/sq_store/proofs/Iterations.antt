@@ -21,7 +21,7 @@ use Rattle.sq_store.proofs.Spans.{kept}
 use Rattle.sq_store.proofs.Firsts.{rising_in}
 use Rattle.sq_store.proofs.Indexes.{entry_roots, families_in-indexed}
 
--- the next item is the family that stands there
+-- the next item is the family that is there
 pub takes_found : (left : List FamilyValue) (found : Option (Bor FamilyValue)) (family : FamilyValue) (rest : List FamilyValue) → option_copied found ≡ Some family → left ≡ family ∷ rest → TakesFirst deref left found rest
 takes_found left None family rest is all = absurd (cc)
 takes_found left (Some x) family rest is all = let same : family ≡ x.now = cc in all ∙ ap (λ f. f ∷ rest) same

@@ -10,7 +10,7 @@ use Rattle.sq_store.specs.First.{IsFirst}
 use Rattle.sq_store.specs.Cut.{roots_between}
 use Rattle.sq_store.proofs.Firsts.{first_is, first_later, first_none, left_between, without_first, without_empty}
 
--- what stands first between two root keys is the first family
+-- what is first between two root keys is the first family
 first_between : (store : StoreValue) (lo hi : ℕ) (family : FamilyValue) (rest : List FamilyValue) → HoldsByRoot store → families_between store lo hi ≡ family ∷ rest → IsFirst store lo hi family
 first_between store lo hi family rest by is = by_case (family_from store lo) refl
   where

@@ -18,7 +18,7 @@ family_under families key = unwrap_or (slab.get families key) (absent 0)
 abbrev pub indexed : Slab FamilyValue → BTreeMap ℕ ℕ → StoreValue
 indexed families index = from_entries (map (λ entry. (entry.0, family_under families entry.1)) index.entries)
 
--- the family that a root key leads to stands in the slab, and the root key is its own
+-- the family that a root key leads to is in the slab, and the root key is its own
 pub record IsLed (families : Slab FamilyValue) (root key : ℕ) : Type 0 where
   pub family : FamilyValue
   pub stands : slab.get families key ≡ Some family

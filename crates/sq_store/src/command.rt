@@ -24,6 +24,6 @@ pub enum StoreAnswer {
     Taken(Result<Cut, AllocError>),
     /// The families were put in, or come back where memory ran out.
     Given(Result<(), Vec<Family>>),
-    /// Two of the families have the same root key, or one of their root keys stands in the store: they come back.
+    /// Two of the families have the same root key, or one of their root keys is in the store: they come back.
     NotGiven(Vec<Family>),
 }

@@ -1,10 +1,10 @@
 // Laws of what a store contains.
-ghost use Rattle.std.specs.Prelude.{◌≡◌, ◌↔◌, ◌≤◌, ◌&&◌, ℕ, List, None, IsTrue, All, is_some, nat_le, nat_lt, if◌then◌else◌};
+ghost use Rattle.std.specs.Prelude.{◌≡◌, ◌↔◌, ◌≤◌, ◌&&◌, ℕ, List, None, IsTrue, All, nat_le, nat_lt, if◌then◌else◌};
 ghost use Rattle.std.specs.FinMap.{get};
 ghost use Rattle.sq_schema.specs.Prelude.{FamilyValue};
 ghost use Rattle.sq_store.specs.StoreValue.{StoreValue, family_in, families_between, without_between, take_end, with_families, fold_of, folded_store, roots_differ, has_none_of};
 ghost use Rattle.sq_store.specs.InOrder.{HoldsByRoot, are_within};
-ghost use Rattle.sq_store.specs.Laws.{IsFullest};
+ghost use Rattle.sq_store.specs.Laws.{IsFullest, family_or};
 
 /// The families between two root keys rise, and are what the store has at the root keys between these.
 pub fn takes_what_is_between()
@@ -27,7 +27,7 @@ pub fn gets_what_it_is_given()
     ensures { (families : List FamilyValue) (store : StoreValue) (root : ℕ)
         → IsTrue (roots_differ families)
         → get (with_families store families) root
-        ≡ (if is_some (family_in families root) then family_in families root else get store root) }
+        ≡ family_or families root (get store root) }
 {}
 
 /// With its logs folded a store has each family as it starts anew from its rows, and none of those without rows.
@@ -50,7 +50,7 @@ pub fn has_none_of_what_was_taken()
         → IsTrue (has_none_of (without_between store lo hi) (families_between store lo hi)) }
 {}
 
-/// A store has none of families exactly if none stands at any of their root keys.
+/// A store has none of families exactly if none is at any of their root keys.
 pub fn has_none_of_absent_families()
     ensures { (store : StoreValue) (families : List FamilyValue)
         → IsTrue (has_none_of store families)

@@ -37,7 +37,8 @@ impl<'a> Model for OwnedEntries<'a> {
 
     ghost view = { λ o. owned_entries o.plan.now o.part o.left };
 
-    ghost invariant = { λ o. IsOwned o.plan.now o.range × IsSuffix o.left o.table.now × (is_sorted nat_cmp o.table.now ≡ true)
+    ghost invariant = { λ o. IsOwned o.plan.now o.range × IsSuffix o.left o.table.now
+        × (is_sorted nat_cmp o.table.now ≡ true)
         × AllPass (λ entry. nat_lt entry.0 ROOT_END) o.table.now };
 }
 

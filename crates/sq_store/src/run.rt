@@ -48,8 +48,8 @@ fn answer<S: FamilyStore>(store: &mut S, command: StoreCommand) -> StoreAnswer
     }
 }
 
-// Whether no two of the families have the same root key. Those that left a store together are sorted, which shows it at
-// once; of others each is looked for behind itself.
+// Whether no two of the families have the same root key. Families that left a store together are sorted, which shows
+// it at once; of others each one is looked for behind itself.
 fn differ(families: &[Family]) -> bool
     ensures { result ≡ roots_differ families.now }
 {

@@ -4,12 +4,12 @@ ghost use Rattle.std.specs.FinMap.{get, insert, remove, len, empty};
 ghost use Rattle.std.specs.Ordering.{nat_cmp};
 ghost use Rattle.std.specs.BTreeMap.{IsFromIterResult};
 ghost use Rattle.sq_schema.specs.Prelude.{FamilyValue, folded};
-ghost use Rattle.sq_store.specs.StoreValue.{StoreValue, store_reply, store_after, families_between, without_between, with_families, folded_store, roots_differ, has_none_of};
+ghost use Rattle.sq_store.specs.StoreValue.{store_reply, store_after, families_between, without_between, with_families, folded_store, roots_differ, has_none_of};
 ghost use Rattle.sq_store.specs.InOrder.{families_in, families_from, AreKeyed, HoldsByRoot};
 ghost use Rattle.sq_store.specs.Listed.{roots_rise};
 ghost use Rattle.sq_store.specs.Counting.{IsChunkOfList};
 ghost use Rattle.sq_store.specs.Cut.{roots_between, IsChunkOfStore};
-ghost use Rattle.sq_store.specs.PutIn.{IsPutIn};
+ghost use Rattle.sq_store.specs.PutIn.{IsPutIn, TakesBack};
 
 use crate::family_iter::FamilyIter;
 use crate::sorted::put_last;
@@ -218,10 +218,7 @@ impl SlabStore {
     // is room for them.
     fn take_back(&mut self, families: &mut Vec<Family>, mut roots: Vec<Root>)
         requires { vec_len families.old + vec_len roots ≤ vec_capacity families.old }
-        ensures { (before : StoreValue) (given : List FamilyValue) → IsTrue (roots_differ given)
-            → IsTrue (has_none_of before given)
-            → IsPutIn before given families.old.items roots.items self.old → (self.new ≡ before)
-            × (families.new.items ≡ given) }
+        ensures { TakesBack families.old.items roots.items self.old families.new.items self.new }
     {
         while let Some(root) = roots.pop() {
             if let Some(family) = self.remove(root) {

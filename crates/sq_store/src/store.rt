@@ -13,7 +13,6 @@ use std::alloc::AllocError;
 /// The families that a chunk takes, by rising root key, and where it ends.
 #[derive(Debug, Drop)]
 pub struct Cut {
-    /// The families.
     pub families: Vec<Family>,
     /// The root key of the first family that it doesn't take, or the extent's high end.
     pub end: u64,
@@ -64,7 +63,7 @@ pub trait FamilyStore {
             (are_within extent.lo cut.end cut.families.items)) }
         ensures keyed { IfOk result (λ cut. AreKeyed cut.families.items) };
 
-    /// Puts families in, in any order, whose root keys differ, and which don't stand there. Where there is no memory
+    /// Puts families in, in any order, whose root keys differ, and which aren't there. Where there is no memory
     /// for them all they come back, and the store stays as it was.
     fn give(&mut self, families: Vec<Family>) -> Result<(), Vec<Family>>
         requires differ { IsTrue (roots_differ families.items) }

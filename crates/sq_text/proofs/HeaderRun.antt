@@ -1,6 +1,6 @@
 -- The lines of a header, read one after another.
-use Rattle.std.proofs.Common.{◌≡◌, ℕ, ◌<◌, ◌≤◌, ◌+◌, true, false, List, [], ◌∷◌, length, refl, sym, ap, ◌∙◌, subst, arith, ◌≢◌}
-use Rattle.std.specs.Prelude.{Option, Some, None, IfSome, Result, Ok, Err, codes, nat_lt}
+use Rattle.std.proofs.Common.{◌≡◌, ℕ, ◌<◌, ◌≤◌, ◌+◌, true, false, List, [], ◌∷◌, length, inl, inr, refl, sym, ap, ◌∙◌, subst, arith, ◌≢◌}
+use Rattle.std.specs.Prelude.{◌⊎◌, Option, Some, None, IfSome, Result, Ok, Err, codes, nat_lt}
 use Rattle.std.specs.Option.{option_map, option_or}
 use Rattle.std.proofs.lemmas.Bool.{le-ltb}
 use Rattle.std.proofs.lemmas.Bool.Decides.{nat_tests}
@@ -22,9 +22,10 @@ use Rattle.sq_ranges.specs.Between.{recon_of}
 use Rattle.sq_ranges.specs.Fault.{of_row}
 use Rattle.sq_ranges.specs.Given.{GivenValue, value_of, with_one, IsOpeningOf}
 use Rattle.sq_ranges.specs.Refused.{shape_fault, given_fault, MayRefuse}
-use Rattle.sq_lines.specs.Pieces.{PieceValue, Line, Rest, Failed, Endless, TooMany, bytes_of, next_begins}
-use Rattle.sq_lines.specs.Coming.{LinesValue, CanCome, ReadsOn, Leaves}
-use Rattle.sq_lines.proofs.Comings.{some_pieces}
+use Rattle.sq_lines.specs.declared.reader.Next.{Next as NextPiece}
+use Rattle.sq_lines.specs.declared.reader.Next.TheVariants as next
+use Rattle.sq_lines.specs.Pieces.{PieceValue, Line, Rest, Failed, Endless, TooMany, next_line_number, bytes_of, next_begins}
+use Rattle.sq_lines.specs.Coming.{LinesValue, CanCome, BeginLong, Finds, ReadsOn, Leaves}
 use Rattle.sq_text.specs.declared.step.TheConstants.{MAX_LINE}
 use Rattle.sq_text.specs.declared.header.FirstLines.{FirstLines}
 use Rattle.sq_text.specs.declared.input_fault.InputFault.{InputFault}
@@ -50,6 +51,27 @@ long_in TooMany long = absurd (omega arith)
 pub long_piece : (piece : PieceValue) (others : List PieceValue) → MAX_LINE < length (bytes_of piece) → next_line (piece ∷ others) ≡ Err fault.LineTooLong
 long_piece piece others long = rw (long_in piece long) refl
 
+-- bytes without a line end, behind which nothing is or a read failed, and a line too many
+unended_line : (number : ℕ) (bytes : List ℕ) → length bytes ≤ MAX_LINE → next_line (Rest number bytes ∷ []) ≡ Err fault.BadHeader
+unended_line number bytes short = let is : nat_lt MAX_LINE (length bytes) ≡ false = le-ltb _ _ short in rw is refl
+
+pub no_line_end : (told : NextPiece) (old new : LinesValue) → (told ≡ next.Rest) ⊎ (told ≡ next.End) → Finds MAX_LINE old told new → Leaves old new (λ all left. next_line all ≡ Err fault.BadHeader)
+no_line_end told old new (inl rest) found = λ end left can.
+    let number = next_line_number old.lines_left in
+    let is : Finds MAX_LINE old next.Rest new = subst (λ (n : NextPiece). Finds MAX_LINE old n new) rest found in
+    (Rest number new.piece ∷ [], is.0 end left can, unended_line number new.piece is.1)
+no_line_end told old new (inr none) found = λ end left can.
+    let is : Finds MAX_LINE old next.End new = subst (λ (n : NextPiece). Finds MAX_LINE old n new) none found in
+    ([], is end left can, refl)
+
+pub cut_line : (number : ℕ) (bytes : List ℕ) → length bytes ≤ MAX_LINE → next_line (Failed number bytes ∷ []) ≡ Err fault.ReadFailed
+cut_line number bytes short = let is : nat_lt MAX_LINE (length bytes) ≡ false = le-ltb _ _ short in rw is refl
+
+-- pieces that begin with one that is too long
+pub long_begin : (pieces : List PieceValue) → BeginLong MAX_LINE pieces → next_line pieces ≡ Err fault.LineTooLong
+long_begin [] long = absurd long
+long_begin (piece ∷ others) long = long_piece piece others long
+
 -- what is read of a line that came
 came : {X Y : Type 0} (view : X → Y) (read : List ℕ → Result Y InputFault) (r : Result X InputFault) (first : Result (List ℕ × List PieceValue) InputFault) (line : List ℕ) (left : List PieceValue) → first ≡ Ok (line, left) → IsReadGivenMemory view r (read line)
     → IsReadGivenMemory {Y = Y × List PieceValue} (λ x. (view x, left)) r (first >>= λ next. read next.0 >>= λ value. Ok (value, next.1))
@@ -62,10 +84,10 @@ of_read view (Err f) wanted e = λ apart. e
 
 pub line_read : {X Y : Type 0} (view : X → Y) (read : List ℕ → Result Y InputFault) (r : Result X InputFault) (line : List ℕ) (old new : LinesValue) → Leaves old new (λ all left. next_line all ≡ Ok (line, left)) → IsReadGivenMemory view r (read line)
     → Leaves old new (λ all left. IsReadGivenMemory (λ x. (view x, left)) r (line_as read all))
-line_read view read r line old new reads is = λ left can. let n = reads left can in (n.0, n.1, came view read r (next_line n.0) line left n.2 is)
+line_read view read r line old new reads is = λ end left can. let n = reads end left can in (n.0, n.1, came view read r (next_line n.0) line left n.2 is)
 
 pub none_read : {X Y : Type 0} (view : X → Y) (read : List ℕ → Result Y InputFault) (f : InputFault) (old new : LinesValue) → Leaves old new (λ all left. next_line all ≡ Err f) → Leaves old new (λ all left. IsReadGivenMemory (λ x. (view x, left)) (Err f) (line_as read all))
-none_read view read f old new reads = λ left can. let n = reads left can in (n.0, n.1, λ apart. rw n.2 refl)
+none_read view read f old new reads = λ end left can. let n = reads end left can in (n.0, n.1, λ apart. rw n.2 refl)
 
 -- ---- opening rows
 
@@ -136,22 +158,22 @@ RowRead tables table at now r old new = Leaves old new (λ all left. IsReadBefor
 
 module _ (tables : ℕ) (table : RowTable) (at : ℕ) (old new : LinesValue) where
   pub row_malformed : (now : RowTable) (f : InputFault) → Leaves old new (λ all left. IsReadGivenMemory {X = GivenRow} {Y = GivenValue × List PieceValue} (λ row. (value_of row, left)) (Err f) (line_as given_of all)) → RowRead tables table at now (Err (located f (Some (line.Row at)))) old new
-  row_malformed now f reads = λ left can.
-      let m = reads left can in
+  row_malformed now f reads = λ end left can.
+      let m = reads end left can in
       (m.0, m.1, λ apart. rw (m.2 apart) refl)
 
-  pub row_unread : (now : RowTable) → RowRead tables table at now (Err (located fault.Memory None)) old new
-  row_unread now = λ left can. let some = some_pieces old in (some.pieces, some.can_come, λ apart. absurd (apart refl))
+  pub row_unread : (now : RowTable) (holds : List PieceValue → List PieceValue → Type 0) → Leaves old new holds → RowRead tables table at now (Err (located fault.Memory None)) old new
+  row_unread now holds reads = λ end left can. let m = reads end left can in (m.0, m.1, λ apart. absurd (apart refl))
 
   module _ (given : GivenRow) (reads : Leaves old new (λ all left. line_as given_of all ≡ Ok (value_of given, left))) where
     pub row_fits : (now : TableValue) → given_fault tables table at (value_of given) ≡ None → ((root : ℕ) → rows_in now root ≡ with_one table (value_of given) root) → RowRead tables table at (rows_in now) (Ok tt) old new
-    row_fits now none taken = λ left can.
-        let m = reads left can in
+    row_fits now none taken = λ end left can.
+        let m = reads end left can in
         (m.0, m.1, rw (m.2, none) (ap (λ (t : RowTable). Ok (t, left)) (same_table table (value_of given) now taken)))
 
     pub row_refused : (now : RowTable) (f : OpeningFault) → MayRefuse (given_fault tables table at (value_of given)) (given_fault tables table at (value_of given)) f → RowRead tables table at now (Err (of_opening f)) old new
-    row_refused now f may = λ left can.
-        let m = reads left can in
+    row_refused now f may = λ end left can.
+        let m = reads end left can in
         (m.0, m.1, λ apart. let is : given_fault tables table at (value_of given) ≡ Some f = fault_told (given_fault tables table at (value_of given)) f may apart in rw (m.2, is) refl)
 
 -- the line of a fault of a row is its own
@@ -186,25 +208,25 @@ pub row_read_at : (tables also_tables : ℕ) (table : RowTable) (at also_at : �
 row_read_at tables also_tables table at also_at now r old new same_tables same_at read = subst (λ n. RowRead n table at now r old new) same_tables (subst (λ n. RowRead also_tables table n now r old new) same_at read)
 
 pub no_rows_yet : (tables : ℕ) (table : RowTable) (first : LinesValue) (at : ℕ) → at ≡ 0 → RowsSoFar tables table first first table at
-no_rows_yet tables table first at zero = λ left can. (left, can, ap (λ n. rows_taken tables table n left) zero)
+no_rows_yet tables table first at zero = λ end left can. (left, can, ap (λ n. rows_taken tables table n left) zero)
 
 module _ (tables : ℕ) (table taken : RowTable) (at : ℕ) (first now mid new : LinesValue) (so_far : RowsSoFar tables table first now taken at) (on : ReadsOn now mid) where
   pub one_more : (more : RowTable) (next : ℕ) → ((ps : List PieceValue) → CanCome mid ps → next_begins (codes "row ") ps ≡ true) → RowRead tables taken at more (Ok tt) mid new → next ≡ at + 1 → RowsSoFar tables table first new more next
-  one_more more next begins reads is = λ left can.
-      let m = reads left can in
-      let a = so_far m.0 (on.0 m.0 m.1) in
-      (a.0, a.1, ap (λ n. rows_taken tables more n left) is ∙ sym (row_next tables taken more at m.0 left (begins m.0 m.1) m.2) ∙ a.2)
+  one_more more next begins reads is = λ end left can.
+      let m = reads end left can in
+      let a = so_far end m.0 (on.0 end m.0 m.1) in
+      (a.0, a.1, ap (λ n. rows_taken tables more n left) is ∙ sym (row_next tables taken more at m.0 left (begins m.0 (end, m.1)) m.2) ∙ a.2)
 
   pub no_more : ((ps : List PieceValue) → CanCome mid ps → next_begins (codes "row ") ps ≡ false) → Leaves first mid (λ all left. rows_taken tables table 0 all ≡ Ok (taken, left))
-  no_more none = λ left can.
-      let a = so_far left (on.0 left can) in
-      (a.0, a.1, sym a.2 ∙ no_row tables taken at left (none left can))
+  no_more none = λ end left can.
+      let a = so_far end left (on.0 end left can) in
+      (a.0, a.1, sym a.2 ∙ no_row tables taken at left (none left (end, can)))
 
   pub bad_row : (more : RowTable) (f : LocatedFault) → ((ps : List PieceValue) → CanCome mid ps → next_begins (codes "row ") ps ≡ true) → RowRead tables taken at more (Err f) mid new → Leaves first new (λ all left. f.fault ≢ fault.Memory → rows_taken tables table 0 all ≡ Err f)
-  bad_row more f begins reads = λ left can.
-      let m = reads left can in
-      let a = so_far m.0 (on.0 m.0 m.1) in
-      (a.0, a.1, λ apart. sym a.2 ∙ row_fails tables taken at m.0 f (begins m.0 m.1) (m.2 apart))
+  bad_row more f begins reads = λ end left can.
+      let m = reads end left can in
+      let a = so_far end m.0 (on.0 end m.0 m.1) in
+      (a.0, a.1, λ apart. sym a.2 ∙ row_fails tables taken at m.0 f (begins m.0 (end, m.1)) (m.2 apart))
 
 -- ---- whole headers
 
@@ -226,27 +248,27 @@ abbrev pub FirstRead : Result FirstLines LocatedFault → LinesValue → LinesVa
 FirstRead r old new = Leaves old new (λ all left. IsReadBefore (λ first. first) r left (first_lines all))
 
 pub no_old : (f : InputFault) (v0 v1 : LinesValue) → Fails (plan_behind (codes "old ")) f v0 v1 → FirstRead (Err (located f (Some line.Old))) v0 v1
-no_old f v0 v1 fails = λ left can. let a = fails left can in
+no_old f v0 v1 fails = λ end left can. let a = fails end left can in
     (a.0, a.1, refused f line.Old left (first_lines a.0) (line_as (plan_behind (codes "old ")) a.0) a.2 (λ e. rw e refl))
 
 pub no_new : (f : InputFault) (old : PlanValue) (v0 v1 v2 : LinesValue) → Reads (plan_behind (codes "old ")) old v0 v1 → Fails (plan_behind (codes "new ")) f v1 v2 → FirstRead (Err (located f (Some line.New))) v0 v2
-no_new f old v0 v1 v2 first fails = λ left can.
-    let b = fails left can in
-    let a = first b.0 b.1 in
+no_new f old v0 v1 v2 first fails = λ end left can.
+    let b = fails end left can in
+    let a = first end b.0 b.1 in
     (a.0, a.1, refused f line.New left (first_lines a.0) (line_as (plan_behind (codes "new ")) b.0) b.2 (λ e. rw (a.2, e) refl))
 
 pub no_config : (f : InputFault) (old new : PlanValue) (v0 v1 v2 v3 : LinesValue) → Reads (plan_behind (codes "old ")) old v0 v1 → Reads (plan_behind (codes "new ")) new v1 v2 → Fails config_of f v2 v3 → FirstRead (Err (located f (Some line.Config))) v0 v3
-no_config f old new v0 v1 v2 v3 first second fails = λ left can.
-    let d = fails left can in
-    let b = second d.0 d.1 in
-    let a = first b.0 b.1 in
+no_config f old new v0 v1 v2 v3 first second fails = λ end left can.
+    let d = fails end left can in
+    let b = second end d.0 d.1 in
+    let a = first end b.0 b.1 in
     (a.0, a.1, refused f line.Config left (first_lines a.0) (line_as config_of d.0) d.2 (λ e. rw (a.2, b.2, e) refl))
 
 pub all_three : (old new : PlanValue) (config : Config) (v0 v1 v2 v3 : LinesValue) → Reads (plan_behind (codes "old ")) old v0 v1 → Reads (plan_behind (codes "new ")) new v1 v2 → Reads config_of config v2 v3 → FirstRead (Ok (record { old = old; new = new; config = config })) v0 v3
-all_three old new config v0 v1 v2 v3 first second third = λ left can.
-    let d = third left can in
-    let b = second d.0 d.1 in
-    let a = first b.0 b.1 in
+all_three old new config v0 v1 v2 v3 first second third = λ end left can.
+    let d = third end left can in
+    let b = second end d.0 d.1 in
+    let a = first end b.0 b.1 in
     (a.0, a.1, rw (a.2, b.2, d.2) refl)
 
 -- the header without rows that the first three lines spell
@@ -254,12 +276,12 @@ abbrev pub PlansRead : ℕ → Result OpeningValue LocatedFault → LinesValue �
 PlansRead tables r old new = Leaves old new (λ all left. Opens tables r left (plans_of all))
 
 pub no_first : (tables : ℕ) (told : LocatedFault) (v0 v1 : LinesValue) → FirstRead (Err told) v0 v1 → PlansRead tables (Err told) v0 v1
-no_first tables told v0 v1 first = λ left can. let a = first left can in (a.0, a.1, λ apart. rw (a.2 apart) refl)
+no_first tables told v0 v1 first = λ end left can. let a = first end left can in (a.0, a.1, λ apart. rw (a.2 apart) refl)
 
 module _ (tables : ℕ) (first : FirstLines) (v0 v1 : LinesValue) (begins : FirstRead (Ok first) v0 v1) where
   pub plans_fit : (o : OpeningValue) → plans_fault first ≡ None → IsOpeningOf tables first.old first.new first.config [] o → PlansRead tables (Ok o) v0 v1
-  plans_fit o none of = λ left can.
-      let a = begins left can in
+  plans_fit o none of = λ end left can.
+      let a = begins end left can in
       let old = sym of.old_plan in
       let new = sym of.new_plan in
       let config = sym of.sizes in
@@ -267,8 +289,8 @@ module _ (tables : ℕ) (first : FirstLines) (v0 v1 : LinesValue) (begins : Firs
       (a.0, a.1, record { spelled = rw (a.2, none) (ap (λ (h : HeaderValue). Ok (h, left)) same); tables_are = of.tables_are; moves = rw (of.old_plan, of.new_plan, of.sizes) of.moves })
 
   pub plans_refused : (f : OpeningFault) → MayRefuse (plans_fault first) (plans_fault first) f → PlansRead tables (Err (of_opening f)) v0 v1
-  plans_refused f may = λ left can.
-      let a = begins left can in
+  plans_refused f may = λ end left can.
+      let a = begins end left can in
       (a.0, a.1, λ apart. let is : plans_fault first ≡ Some f = fault_told (plans_fault first) f may apart in rw (a.2, is) refl)
 
 -- the line of a fault of an opening is none of the first two
@@ -284,13 +306,13 @@ abbrev pub HeaderRead : ℕ → Result OpeningValue LocatedFault → LinesValue 
 HeaderRead tables r old new = Leaves old new (λ all left. Opens tables r left (header_of tables all))
 
 pub no_plans : (tables : ℕ) (told : LocatedFault) (v0 v1 : LinesValue) → PlansRead tables (Err told) v0 v1 → HeaderRead tables (Err told) v0 v1
-no_plans tables told v0 v1 plans = λ left can. let a = plans left can in (a.0, a.1, λ apart. rw (a.2 apart) refl)
+no_plans tables told v0 v1 plans = λ end left can. let a = plans end left can in (a.0, a.1, λ apart. rw (a.2 apart) refl)
 
 module _ (tables : ℕ) (o : OpeningValue) (v0 v1 v2 : LinesValue) (plans : PlansRead tables (Ok o) v0 v1) where
   pub header_fits : (now : OpeningValue) → now ≡ record o { table = now.table } → Leaves v1 v2 (λ all left. rows_taken o.tables (rows_in o.table) 0 all ≡ Ok (rows_in now.table, left)) → HeaderRead tables (Ok now) v0 v2
-  header_fits now kept rows = λ left can.
-      let e = rows left can in
-      let a = plans e.0 e.1 in
+  header_fits now kept rows = λ end left can.
+      let e = rows end left can in
+      let a = plans end e.0 e.1 in
       let taken : rows_taken tables (rows_in o.table) 0 e.0 ≡ Ok (rows_in now.table, left) = subst (λ n. rows_taken n (rows_in o.table) 0 e.0 ≡ Ok (rows_in now.table, left)) a.2.tables_are e.2 in (
         a.0,
         a.1,
@@ -302,9 +324,9 @@ module _ (tables : ℕ) (o : OpeningValue) (v0 v1 v2 : LinesValue) (plans : Plan
       )
 
   pub header_refused : (f : LocatedFault) → Leaves v1 v2 (λ all left. f.fault ≢ fault.Memory → rows_taken o.tables (rows_in o.table) 0 all ≡ Err f) → HeaderRead tables (Err f) v0 v2
-  header_refused f rows = λ left can.
-      let e = rows left can in
-      let a = plans e.0 e.1 in (
+  header_refused f rows = λ end left can.
+      let e = rows end left can in
+      let a = plans end e.0 e.1 in (
         a.0,
         a.1,
         λ apart.

@@ -16,7 +16,7 @@ use Rattle.sq_transition.specs.WorldValue.{WorldValue, no_core, core_at, with_co
 use Rattle.sq_transition.specs.Holds.{share_at, is_leaf_begun, is_key_loaded, leaves_from, comes_into, IsSetFor, MovesHold, CoreHolds, PartitionsHold}
 use Rattle.sq_transition.proofs.Sets.{by_place, get_or-set, each-set}
 
--- the partition that stands at a number where one was set
+-- the partition that is at a number where one was set
 pub core_after : (w : WorldValue) (part p : ℕ) (core : CoreValue) → part < length w.cores → core_at (with_core w part core) p ≡ (if part == p then core else core_at w p)
 core_after w part p core there = get_or-set w.cores part p core no_core there
 

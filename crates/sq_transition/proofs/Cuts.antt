@@ -49,7 +49,7 @@ use Rattle.sq_transition.proofs.Parts.{share_none, family_held}
 use Rattle.sq_transition.proofs.Loads.{chunk_count}
 use Rattle.sq_transition.proofs.NextWork.{SameNext, next_same, distinct-filter, ChangesAt, item_gone, item_changed}
 
--- what is known of an item that is open on a link: what is left of it stands at the source, and nothing of that was loaded
+-- what is known of an item that is open on a link: what is left of it is at the source, and nothing of that was loaded
 pub record OpenFacts (o : OpeningValue) (t : Trace) (src dst : ℕ) (item : Item) : Type 0 where
   pub below : EndsBelow o src dst
   pub home : (root : ℕ) → reached o item.seg item.node (notes t) ≤ root → root < (extent_of o item.seg item.node).hi → place o t root ≡ At src
@@ -89,7 +89,7 @@ standing_bounds o t lo hi root c =
 between_true : (lo hi root : ℕ) → lo ≤ root → root < hi → (nat_le lo root && nat_lt root hi) ≡ true
 between_true lo hi root low high = (λ i. le-leb lo root low i && nat_lt root hi) ∙ lt-ltb root hi high
 
--- what the store has between two keys that stand at the source
+-- what the store has between two keys that are at the source
 module _ (o : OpeningValue) (t : Trace) (src lo hi : ℕ) (core : CoreValue) (h : CoreHolds o t src core) (home : (root : ℕ) → lo ≤ root → root < hi → place o t root ≡ At src) where
   stored_home : (root : ℕ) → lo ≤ root → root < hi → get core.store root ≡ (if stands o t root then Some (family_of o t root) else None)
   stored_home root low high =
@@ -376,7 +376,7 @@ goes_other None src dst s d e off = refl
 goes_other (Some segment) src dst s d e off =
     (λ i. (eqb-true segment.src src (and_parts _ _ e).0 i == s) && (eqb-true segment.dst dst (and_parts (segment.src == src) _ e).1 i == d)) ∙ off
 
--- an item that stands in a filtered list passes the filter
+-- an item that is in a filtered list passes the filter
 passes : (p : Item → Bool) (xs : List Item) (i : ℕ) (item : Item) → slice_get (filter p xs) i ≡ Some item → p item ≡ true
 passes p xs i item e = (kept_in p xs item (Contains-slice_get (filter p xs) i item e)).1
 

@@ -62,7 +62,7 @@ module _ (o : OpeningValue) (t : Trace) (part : ℕ) where
       let e = ne_eqb (destination o root) part apart in
       λ i. if family_stands (family_if root (e i)) && here root then Some (family_if root (e i)) else None
 
-  -- the families that stand there start anew
+  -- the families that are there start anew
   fold_of_share : (root : ℕ) (b : Bool) → stands o t root ≡ b → fold_of (if b && true then Some (family_of o t root) else None) ≡ (if length (now o t root) == 0 then None else Some (anew root (now o t root)))
   fold_of_share root true e = ap (λ (rows : RowList). if length rows == 0 then None else Some (anew root rows)) (rows_now o t root)
   fold_of_share root false e =

@@ -60,7 +60,7 @@ out_set w i src dst core from there same =
     link_again w (with_core w src core) i (read_set (λ c. out_at c q.dst) w src q.src core there (sym from.starts) ∙ ap (out_at core) from.ends)
     (read_stays (λ c. inbox_at c q.src) w src q.dst core there (ap (λ inboxes. slice_index_or inboxes q.src None) same))
 
--- the link once another chunk, or none, stands at its destination
+-- the link once another chunk, or none, is at its destination
 pub inbox_set : (w : WorldValue) (i src dst : ℕ) (core : CoreValue) → IsFrom w i src dst → dst < length w.cores → core.outs ≡ (core_at w dst).outs
     → link_value (with_core w dst core) i ≡ record (link_value w i) { inbox = inbox_at core src }
 inbox_set w i src dst core from there same =
@@ -95,7 +95,7 @@ module _ (o : OpeningValue) (t : Trace) (w : WorldValue) (i src dst : ℕ) (h : 
       (λ _. ap (λ outs. slice_index_or outs (queue_at w j).dst new_out_link) same)
       (λ ends. others (queue_at w j).src (λ starts. apart (h.one_each i j from.within within (from.starts ∙ starts) (from.ends ∙ sym ends))))
 
--- what stands past the end is the default
+-- what is past the end is the default
 within_by : {X : Type 0} (size : X → ℕ) (xs : List X) (i : ℕ) (none : X) → size none ≡ 0 → 0 < size (slice_index_or xs i none) → i < length xs
 within_by size xs i none zero some =
     elim (cases_lt i (length xs)) [

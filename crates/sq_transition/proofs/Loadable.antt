@@ -65,7 +65,7 @@ at_or_way : (part : ℕ) (note : Note) → At part ≡ Under_way note → ⊥
 at_or_way part note e = cc
 
 module _ (o : OpeningValue) (t : Trace) (w : WorldValue) (is : IsOpening o) (legal : IsLegal o t) (h : Holds o t w) where
-  -- a root key of a chunk that comes stands nowhere
+  -- a root key of a chunk that comes is nowhere
   stands_away : (dst : ℕ) (chunk : ChunkValue) → dst < o.old.parts → ChunkHolds o t chunk → ((root : ℕ) → covers chunk.note root ≡ true → place o t root ≡ Under_way chunk.note)
       → has_none_of (core_at w dst).store chunk.families ≡ true
   stands_away dst chunk below holds away =

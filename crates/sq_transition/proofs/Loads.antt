@@ -260,7 +260,7 @@ next_note_of o t l chunk h prefix full =
     ∙ ap (λ ns. ns ++ link l.src l.dst (loads t)) (sym (reverse-append (chunk.note ∷ []) rest) ∙ ap reverse way)
     ∙ way_and_loads o t l h prefix
 
--- a chunk holds as many families as root keys stand among its keys
+-- a chunk holds as many families as root keys are among its keys
 pub chunk_count : (o : OpeningValue) (t : Trace) (chunk : ChunkValue) → ChunkHolds o t chunk → length chunk.families ≡ family_count o t chunk.note
 chunk_count o t chunk c =
     sym (length-map chunk.families (λ (f : FamilyValue). f.root))

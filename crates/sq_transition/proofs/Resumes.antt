@@ -48,7 +48,7 @@ module _ {X : Type 0} where
       let first = prefix_same (λ x. not (p x)) (λ x. not (q x)) xs (λ x has. ap not (same x has)) in
       λ i. if nat_lt (first i) (length xs) then Some (first i) else None
 
-  -- what is found is what stands at the first place
+  -- what is found is what is at the first place
   found_at : (p : X → Bool) (xs : List X) (i : ℕ) (none : X) → position p xs ≡ Some i → find p xs ≡ Some (slice_index_or xs i none)
   found_at p xs i none e =
       let at = position-Some p xs i none e in

@@ -8,7 +8,7 @@ use Rattle.std.proofs.lemmas.Bool.Decides.{eqb_tells}
 pub by_place : (a b : ℕ) (P : Bool → Type 0) → (a ≡ b → P true) → (a ≢ b → P false) → P (a == b)
 by_place a b P same apart = ⊎_elim (λ e. subst P (sym e.0) (same e.1)) (λ e. subst P (sym e.0) (apart e.1)) (eqb_tells a b)
 
--- what stands at a place
+-- what is at a place
 pub get_or-set : {X : Type 0} (xs : List X) (i j : ℕ) (x none : X) → i < length xs → slice_index_or (slice_set xs i x) j none ≡ (if i == j then x else slice_index_or xs j none)
 get_or-set xs i j x none there =
     by_place i j (λ b. slice_index_or (slice_set xs i x) j none ≡ (if b then x else slice_index_or xs j none))

@@ -68,7 +68,7 @@ resume_refused resume.Memory = Memory
 abbrev pub no_txn : TxnValue
 no_txn = record { id = 0; root = 0; ops = [] }
 
--- the first waiting transaction that is ready, which stands at this place, runs and waits no more
+-- the first waiting transaction that is ready, which is at this place, runs and waits no more
 abbrev pub resumed_at : WorldValue → ℕ → Option ℕ → StepResult
 resumed_at w part None = refuse w (resume_refused (unwrap_or (resume_refusal (core_at w part)) resume.NoneReady))
 resumed_at w part (Some place) =

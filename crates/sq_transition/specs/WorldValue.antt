@@ -68,7 +68,7 @@ with_tree w seg tree = record w { trees = slice_set w.trees seg tree }
 abbrev pub status_in : WorldValue → ℕ → ℕ → Status
 status_in w seg node = status_at (tree_at w seg) node
 
--- where the queue from the one partition to the other stands among the queues
+-- the place of the queue from the one partition to the other among the queues
 abbrev pub link_index : WorldValue → ℕ → ℕ → Option ℕ
 link_index w src dst = position (λ queue. (queue.src == src) && (queue.dst == dst)) w.queues
 
@@ -120,7 +120,7 @@ link_of w queue =
       inbox = inbox_at (core_at w queue.dst) queue.src;
     }
 
--- the link whose queue stands at this place
+-- the link whose queue is at this place
 abbrev pub link_value : WorldValue → ℕ → WholeLink
 link_value w i = link_of w (queue_at w i)
 

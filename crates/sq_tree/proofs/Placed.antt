@@ -20,7 +20,7 @@ other_next j = ne_eqb (suc j) zero (λ e. omega arith)
 next_other : (i : ℕ) → (zero == suc i) ≡ false
 next_other i = ne_eqb zero (suc i) (λ e. omega arith)
 
--- what stands at each place after a status was put at one
+-- what is at each place after a status was put at one
 pub slice_index_or-placed : (sts : List Status) (i j : ℕ) (st : Status) → slice_index_or (placed sts i st) j Free ≡ (if j == i then st else slice_index_or sts j Free)
 slice_index_or-placed [] zero zero st = refl
 slice_index_or-placed [] zero (suc j) st = ap (λ b. if b then st else Free) (sym (other_next j))

@@ -78,7 +78,7 @@ impl NodeId {
         u64::from(self.0)
     }
 
-    /// Where the node stands in a list of all nodes.
+    /// The place of the node in a list of all nodes.
     pub fn index(self) -> usize
         ensures place { result + 1 ≡ self }
         ensures bound { result < NODES }

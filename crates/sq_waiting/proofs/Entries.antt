@@ -55,7 +55,7 @@ module _ {X : Type 0} where
   pub absent_later : (e : ℕ × X) (es : List (ℕ × X)) (q : ℕ) → IsStrictlySortedBy nat_cmp (keys_of (e ∷ es)) → q ≤ e.0 → value_at es q ≡ None
   absent_later e es q sorted upto = absent es q e.0 (sorted_head nat_cmp e.0 (keys_of es) sorted) upto
 
-  -- what stands at a key later on stands there
+  -- what is at a key later on is there
   pub at_later : (e : ℕ × X) (es : List (ℕ × X)) (q : ℕ) (x : X) → IsStrictlySortedBy nat_cmp (keys_of (e ∷ es)) → value_at es q ≡ Some x → value_at (e ∷ es) q ≡ Some x
   at_later e es q x sorted found =
       ⊎_elim

@@ -91,7 +91,7 @@ module _ (txns : BTreeMap ℕ TxnValue) (by_root : BTreeSet (ℕ × ℕ)) (due :
   abbrev seen : List Arrival
   seen = arrivals_of txns.entries is_marked
 
-  -- a transaction stands in the index
+  -- a transaction is in the index
   pub indexed : (number : ℕ) (txn : TxnValue) → tree.get nat_cmp txns number ≡ Some txn → (root : ℕ) → has_entry by_root root number ≡ (txn.root == root)
   indexed number txn at root = is.by_root root number ∙ ap (λ read. option_map_or (λ (t : TxnValue). t.root == root) read false) at
 

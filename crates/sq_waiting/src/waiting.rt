@@ -14,8 +14,8 @@ use std::collections::{BTreeMap, BTreeSet};
 use std::marker::Model;
 
 /// Transactions that wait, in the order in which they came. Each has an arrival number, and the numbers rise in that
-/// order. Those that are due are looked at when one is taken up: all with numbers below a bound, and others one by one.
-/// To a contract it is a `WaitingValue`.
+/// order. The due ones are looked at when one is taken up: all with numbers below a bound, and others one by one. To
+/// a contract it is a `WaitingValue`.
 #[derive(Debug, Drop)]
 pub struct Waiting {
     alloc: Global,

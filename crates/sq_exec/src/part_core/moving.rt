@@ -1,13 +1,12 @@
 // The steps of a move at a partition.
-ghost use Rattle.std.specs.Prelude.{◌≡◌, ◌<◌, true, List, if◌then◌else◌, length, map, Some, None, is_some, IfSome, IfOk, IfErr, IsErr, ◌↔◌, OnOk, OnErr, IsTrue};
+ghost use Rattle.std.specs.Prelude.{◌≡◌, ◌<◌, true, if◌then◌else◌, length, map, Some, None, is_some, IfSome, IfOk, IfErr, IsErr, ◌↔◌, OnOk, OnErr, IsTrue};
 ghost use Rattle.std.specs.List.{list_all};
-ghost use Rattle.sq_schema.specs.Prelude.{FamilyValue};
-ghost use Rattle.sq_store.specs.Prelude.{has_none_of, with_families};
+ghost use Rattle.sq_store.specs.Prelude.{has_none_of};
 ghost use Rattle.sq_chunk.specs.ChunkValue.{ChunkValue, IsChunk};
 ghost use Rattle.sq_exec.specs.Runs.{is_whole};
 ghost use Rattle.sq_exec.specs.OutLink.{cut_fault, may_cut};
 ghost use Rattle.sq_exec.specs.CoreValue.{out_at, with_out, inbox_at, with_inbox, loaded_at};
-ghost use Rattle.sq_exec.specs.Moving.{begun_core, can_load, may_load, load_fault, CutsFor, LoadsFrom};
+ghost use Rattle.sq_exec.specs.Moving.{begun_core, can_load, may_load, load_fault, CutsFor, GivesChunk, LoadsFrom};
 
 use crate::fault::{CutFault, LoadFault};
 use crate::out_link::OutLink;
@@ -222,10 +221,8 @@ fn reserve_work(outs: &mut [OutLink]) -> Result<(), AllocError>
 fn give<S: FamilyStore>(store: &mut S, inbox: &mut Option<Chunk>) -> Result<Note, LoadFault>
     requires { (chunk : ChunkValue) → inbox.old ≡ Some chunk
         → IsTrue (has_none_of (S.contents store.old) chunk.families) }
-    ensures ok { IfOk result (λ note. (families : List FamilyValue)
-        × (inbox.old ≡ Some (record { note = note; families = families }))
-        × (inbox.new ≡ None)
-        × (S.contents store.new ≡ with_families (S.contents store.old) families)) }
+    ensures ok { IfOk result (λ note.
+        GivesChunk inbox.old (S.contents store.old) note inbox.new (S.contents store.new)) }
     ensures refusal { IfErr result (λ fault. fault
         ≡ (if is_some inbox.old then LoadFault.Memory else LoadFault.InboxEmpty)) }
     ensures err { OnErr result ((inbox.new ≡ inbox.old)

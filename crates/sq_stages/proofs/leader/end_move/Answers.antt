@@ -6,4 +6,4 @@ returns-in-Ok c = ends c.args.opening.now c.args.moving.stage c.args.whole.now c
 
 pub returns : goal.returns
 returns c =
-    stays_last c.args.opening.now c.args.moving.stage c.args.whole.now c.args.moving c.requires.reported c.recon-recon.ensures.set_up.opening c.requires.last c.in-Err.field-0 c.in-Err.ensures.answer
+    stays_last c.args.opening.now c.args.moving.stage c.args.whole.now c.args.moving c.requires.reported c.requires.opening c.requires.last c.in-Err.field-0 c.in-Err.ensures.answer

@@ -5,7 +5,7 @@ use Rattle.sq_text.proofs.HeaderRun.{row_unread, row_malformed, row_fits, row_re
 use Rattle.sq_text.proofs.header.take_row.Goals as goal
 
 pub returns-in-Err-Memory-clause-row : goal.returns-in-Err-Memory-clause-row
-returns-in-Err-Memory-clause-row g c = rw c.at_no_line.ensures (row_unread c.args.opening.now.tables (rows_in c.args.opening.now.table) c.args.at _ _ (rows_in c.args.opening.now.table))
+returns-in-Err-Memory-clause-row g c = rw c.at_no_line.ensures (row_unread c.args.opening.now.tables (rows_in c.args.opening.now.table) c.args.at _ _ (rows_in c.args.opening.now.table) _ c.in-Err-Memory.ensures.row)
 
 pub returns-in-Err-clause-row : goal.returns-in-Err-clause-row
 returns-in-Err-clause-row g c = rw c.at.ensures (row_malformed c.args.opening.now.tables (rows_in c.args.opening.now.table) c.args.at _ _ (rows_in c.args.opening.now.table) c.in-Err.fault c.in-Err.ensures.row)

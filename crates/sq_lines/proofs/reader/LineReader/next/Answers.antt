@@ -1,28 +1,28 @@
 use Rattle.std.proofs.Common.{◌≡◌, ◌<◌, ◌≤◌, ◌+◌, ◌-◌, length, [], ◌∷◌, inl, inr, refl, sym, ap, ◌∙◌, subst, arith}
 use Rattle.std.specs.Prelude.{slice_range}
-use Rattle.sq_lines.specs.Pieces.{Rest, Failed, next_line_number}
-use Rattle.sq_lines.specs.Coming.{LinesValue, CanCome, IsLong, IsUndecided}
+use Rattle.sq_lines.specs.Pieces.{Rest, Failed, TooMany, next_line_number}
+use Rattle.sq_lines.specs.Coming.{LinesValue, EndsIn, IsLong, IsUndecided}
 use Rattle.sq_lines.proofs.Ranges.{empty_range, length_range}
-use Rattle.sq_lines.proofs.Comings.{at_end, too_many, line_came, rest_comes, failed_comes, long_line, long_unended}
+use Rattle.sq_lines.proofs.Comings.{at_end, too_many, line_came, rest_comes, failed_comes, long_line, long_unended, ends_seen}
 use Rattle.sq_lines.proofs.Buffers.{all_searched, none_held, line_held}
 use Rattle.sq_lines.proofs.reader.LineReader.next.Goals as goal
 
 pub returns-in-Ended : goal.returns-in-Ended
 returns-in-Ended g c =
     let s = c.self.inside in
-    (subst (λ v. CanCome v []) c.self.view_is (at_end _ c.in-Ended.is (empty_range s.buffer.items s.start s.end (omega (arith, c.if-self.true)))), refl)
+    (subst (λ v. EndsIn v [] v) c.self.view_is (at_end _ c.in-Ended.is (empty_range s.buffer.items s.start s.end (omega (arith, c.if-self.true)))), refl)
 
 pub returns-in-Failed : goal.returns-in-Failed
 returns-in-Failed g c =
     let s = c.self.inside in
     let none = empty_range s.buffer.items s.start s.end (omega (arith, c.if-self.true)) in
-    (subst (λ (v : LinesValue). CanCome v (Failed (next_line_number v.lines_left) v.held ∷ [])) c.self.view_is (failed_comes _ c.in-Failed.is (rw none refl) (inl none) (omega (arith, ap length none))), omega (arith, ap length none, ap (λ (v : LinesValue). length v.held) c.self.view_is), refl, sym (ap (λ (v : LinesValue). v.reading) c.self.view_is) ∙ c.in-Failed.is)
+    (subst (λ (v : LinesValue). EndsIn v (Failed (next_line_number v.lines_left) v.held ∷ []) v) c.self.view_is (failed_comes _ c.in-Failed.is (rw none refl) (inl none) (omega (arith, ap length none))), omega (arith, ap length none, ap (λ (v : LinesValue). length v.held) c.self.view_is), refl, sym (ap (λ (v : LinesValue). v.reading) c.self.view_is) ∙ c.in-Failed.is)
 
 pub returns-then-self-eq0 : goal.returns-then-self-eq0
 returns-then-self-eq0 g c =
     let s = c.self.inside in
     let some : 0 < length (slice_range s.buffer.items s.start s.end) = omega (arith, length_range s.buffer.items s.start s.end (omega (arith, c.self.invariant.within, c.self.invariant.room)), c.if-self.false, c.self.invariant.searched_after, c.self.invariant.searched_before) in
-    (subst (λ v. CanCome v _) c.self.view_is (too_many _ c.if-self-eq0.true some), refl)
+    (subst (λ v. EndsIn v (TooMany ∷ []) v) c.self.view_is (too_many _ c.if-self-eq0.true some), refl)
 
 pub invariant_of-self : goal.invariant_of-self
 invariant_of-self g c = all_searched _ _ _ _ c.self.inside.searched _ _ _ c.self.invariant (rw (← c.deref.ensures.value) (sym c.place_of.ensures ∙ c.in_default.is))
@@ -46,14 +46,14 @@ invariant_of-self-in-Failed-reading g c = all_searched _ _ _ _ c.self.inside.sea
 pub returns-in-Failed-reading : goal.returns-in-Failed-reading
 returns-in-Failed-reading g c =
     let held = none_held c.self.invariant (rw (← c.deref.ensures.value) (sym c.place_of.ensures ∙ c.in_default.is)) in
-    (subst (λ (v : LinesValue). CanCome v (Failed (next_line_number v.lines_left) v.held ∷ [])) c.self.view_is (failed_comes _ c.in-Failed-reading.is held.unended (inr (omega (arith, c.if-self-eq0.false))) (omega (arith, held.count, c.if-self-most.false, c.requires))), omega (arith, held.count, c.if-self-most.false, ap (λ (v : LinesValue). length v.held) c.self.view_is), c.self.view_is, sym (ap (λ (v : LinesValue). v.reading) c.self.view_is) ∙ c.in-Failed-reading.is)
+    (ends_seen (λ v. Failed (next_line_number v.lines_left) v.held ∷ []) _ _ _ c.self.view_is (failed_comes _ c.in-Failed-reading.is held.unended (inr (omega (arith, c.if-self-eq0.false))) (omega (arith, held.count, c.if-self-most.false, c.requires))), omega (arith, held.count, c.if-self-most.false, ap (λ (v : LinesValue). length v.held) c.self.view_is), c.self.view_is, sym (ap (λ (v : LinesValue). v.reading) c.self.view_is) ∙ c.in-Failed-reading.is)
 
 pub returns-in-Ended-reading : goal.returns-in-Ended-reading
 returns-in-Ended-reading g c =
     let s = c.self.inside in
     let held = none_held c.self.invariant (rw (← c.deref.ensures.value) (sym c.place_of.ensures ∙ c.in_default.is)) in
     let short : length (slice_range s.buffer.items s.start s.end) ≤ c.args.most = omega (arith, held.count, c.if-self-most.false) in (
-      subst (λ (v : LinesValue). CanCome v (Rest (next_line_number v.lines_left) (slice_range s.buffer.items s.start s.end) ∷ [])) c.self.view_is (rest_comes _ c.in-Ended-reading.is held.unended (omega (arith, c.if-self-eq0.false)) (omega (arith, held.count, c.if-self.false, c.self.invariant.searched_after, c.self.invariant.searched_before)) (omega (arith, short, c.requires))),
+      ends_seen (λ v. Rest (next_line_number v.lines_left) (slice_range s.buffer.items s.start s.end) ∷ []) _ _ _ c.self.view_is (rest_comes _ _ c.in-Ended-reading.is c.in-Ended-reading.is held.unended (omega (arith, c.if-self-eq0.false)) (omega (arith, held.count, c.if-self.false, c.self.invariant.searched_after, c.self.invariant.searched_before)) (omega (arith, short, c.requires))),
       ap (λ (v : LinesValue). v.lines_left) c.self.view_is,
       short,
     )

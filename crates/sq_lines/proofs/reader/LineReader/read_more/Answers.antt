@@ -1,7 +1,7 @@
 use Rattle.std.proofs.Common.{◌≡◌, ℕ, ◌+◌, ◌-◌, ◌++◌, length, refl, sym, ap, ◌∙◌, subst, arith}
 use Rattle.std.specs.Prelude.{vec_len, slice_range}
 use Rattle.std.specs.Global.{Vec}
-use Rattle.std.specs.Io.KnownBytes.{Consumes}
+use Rattle.std.specs.Io.KnownBytes.{Consumes, Keeps}
 use Rattle.sq_lines.specs.declared.reader.ReadState.{ReadState}
 use Rattle.sq_lines.specs.declared.reader.ReadState.TheVariants.{Open, Ended}
 use Rattle.sq_lines.specs.Coming.{LinesValue}
@@ -43,13 +43,14 @@ pub returns-in-Ok-clause-comes : goal.returns-in-Ok-clause-comes
 returns-in-Ok-clause-comes g c =
     let s = c.self.inside in
     let read = read_behind s.buffer.items c.move_to_front.new.buffer.items c.read_behind.new.buffer.items s.start s.end (s.end - s.start + c.in-Ok.count) (omega (arith, c.self.invariant.searched_after, c.self.invariant.searched_before)) (omega arith) c.move_to_front.ensures.moved c.read_behind.ensures.before in
-    λ ps can. read_before c.args.self.now _ (slice_range c.read_behind.new.buffer.items (s.end - s.start) (s.end - s.start + c.in-Ok.count)) ps c.requires.goes_on (ap (λ (v : LinesValue). v.reading) c.self.view_is ∙ c.requires.goes_on) (ap (λ (v : LinesValue). v.lines_left) c.self.view_is)
+    read_before c.args.self.now _ (slice_range c.read_behind.new.buffer.items (s.end - s.start) (s.end - s.start + c.in-Ok.count)) c.requires.goes_on (ap (λ (v : LinesValue). v.reading) c.self.view_is ∙ c.requires.goes_on) (ap (λ (v : LinesValue). v.lines_left) c.self.view_is)
     (read.held ∙ ap (λ (v : LinesValue). v.held ++ slice_range c.read_behind.new.buffer.items (s.end - s.start) (s.end - s.start + c.in-Ok.count)) c.self.view_is)
-    (subst (λ (v : LinesValue). Consumes v.known (g.R.Read.remaining c.read_behind.new.reader) (slice_range c.read_behind.new.buffer.items (s.end - s.start) (s.end - s.start + c.in-Ok.count))) c.self.view_is c.in-Ok.ensures.took) can
+    (subst (λ (v : LinesValue). Consumes v.known (g.R.Read.remaining c.read_behind.new.reader) (slice_range c.read_behind.new.buffer.items (s.end - s.start) (s.end - s.start + c.in-Ok.count))) c.self.view_is c.in-Ok.ensures.took)
 
 pub returns-in-Err-clause-comes : goal.returns-in-Err-clause-comes
 returns-in-Err-clause-comes g c =
     let s = c.self.inside in
     let read = read_behind s.buffer.items c.move_to_front.new.buffer.items c.read_behind.new.buffer.items s.start s.end (s.end - s.start) (omega (arith, c.self.invariant.searched_after, c.self.invariant.searched_before)) (omega arith) c.move_to_front.ensures.moved c.read_behind.ensures.before in
     let same : slice_range c.read_behind.new.buffer.items 0 (s.end - s.start) ≡ slice_range s.buffer.items s.start s.end = read.front s.end (omega (arith, c.self.invariant.searched_after, c.self.invariant.searched_before)) (omega arith) in
-    λ ps can. fail_before c.args.self.now _ ps c.requires.goes_on refl (ap (λ (v : LinesValue). v.lines_left) c.self.view_is) (same ∙ ap (λ (v : LinesValue). v.held) c.self.view_is) can
+    fail_before c.args.self.now _ c.requires.goes_on refl (ap (λ (v : LinesValue). v.lines_left) c.self.view_is) (same ∙ ap (λ (v : LinesValue). v.held) c.self.view_is)
+    (subst (λ (v : LinesValue). Keeps v.known (g.R.Read.remaining c.read_behind.new.reader)) c.self.view_is c.in-Err.ensures.failed)

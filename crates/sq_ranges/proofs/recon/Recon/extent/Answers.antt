@@ -12,7 +12,7 @@ use Rattle.sq_ranges.proofs.recon.Recon.extent.Goals.{In_ok-segment}
 abbrev searched : In_ok-segment → ReconValue
 searched c = record { width = c.self.inside.width; ranges = c.self.inside.ranges.items; segments = c.self.inside.segments.items; auto = c.self.inside.auto }
 
--- the segment that stands there
+-- the segment at this place
 there : (c : In_ok-segment) → slice_get c.self.inside.segments.items c.index.result ≡ Some c.in_ok-segment.segment.now
 there c =
     let segment = c.in_ok-segment.segment.now in

@@ -15,7 +15,7 @@ searched c = record { width = c.self.inside.width; ranges = c.self.inside.ranges
 point : (c : After-count_up_to-at) → IsPoint c.number-key.result c.count_up_to-at.result c.self.inside.segments.items
 point c = subst (IsPoint c.number-key.result c.count_up_to-at.result) c.as_slice.ensures.value c.count_up_to-at.ensures.point
 
--- the segment that stands there
+-- the segment at this place
 there : (c : In_ok-segment) → let segments = c.self.inside.segments.items in let i = c.count_up_to-at.result in let segment = c.in_ok-segment.segment.now in (i < length segments) × (segment ≡ get_or segments i segment) × (slice_get segments i ≡ Some segment)
 there c =
     let segment = c.in_ok-segment.segment.now in

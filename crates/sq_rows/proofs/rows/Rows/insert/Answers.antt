@@ -12,7 +12,7 @@ use Rattle.sq_rows.proofs.rows.Rows.insert.Goals.{After-size}
 pub overflow_add-size : goal.overflow_add-size
 overflow_add-size c = omega (arith, rows_size_bound (entries_of c.self.inside.rows) c.self.invariant.0, c.self.invariant.1, c.size.ensures, c.requires)
 
--- the size of the row that stood
+-- the size of the row that was there
 old_size : (c : After-size) → c.weight-old_size.result.1 ≡ size_of_row (row_at (entries_of c.self.inside.rows) c.args.key)
 old_size c = c.weight-old_size.ensures.size ∙ ap size_of_row (c.get.ensures ∙ ap (λ rows. row_at rows c.args.key) (sym c.self.view_is))
 

@@ -12,7 +12,7 @@ use Rattle.sq_schema.proofs.Marked.{row_at-unmarked}
 use Rattle.sq_schema.proofs.pending.PendingRows.get.Goals as goal
 use Rattle.sq_schema.proofs.pending.PendingRows.get.Goals.{After-find}
 
--- the row of the key is the one of its newest write, or else the one that stood
+-- the row of the key is the one of its newest write, or else the one that was there
 found_row : (c : After-find) → row_or (option_copied c.find.result) (row_at c.self.inside.rows.now c.args.key) ≡ row_at (pending_rows c.args.self.now) c.args.key
 found_row c =
     let base = c.self.inside.rows.now in

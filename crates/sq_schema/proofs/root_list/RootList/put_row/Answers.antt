@@ -41,7 +41,7 @@ unreachable-requires-in_default c =
     let none = rw c.in_default.is at c.get_mut.ensures.value in
     missing (find nat_cmp c.args.root c.in-Mapped.map.entries) (sym (find-lookup nat_cmp c.in-Mapped.map.entries c.args.root) ∙ sym none) (rw c.in-Mapped.is at c.requires.present)
 
--- the rows that stood in the map
+-- the rows that were in the map
 found : (c : In-Some) → lookup (is_at (nat_cmp c.args.root)) c.in-Mapped.map.entries ≡ Some c.in-Some.rows.now
 found c = sym (rw c.in-Some.is at c.get_mut.ensures.value)
 
