@@ -1,6 +1,7 @@
 // Whether all parts of what was gathered are there and fit together.
 ghost use Rattle.std.specs.Prelude.{◌≡◌, count_by, IfOk};
 ghost use Rattle.std.specs.Bool.{Decides};
+ghost use Rattle.sq_ranges.specs.Prelude.{IsOpening};
 ghost use Rattle.sq_node_model.specs.Prelude.{HasEachPart, FitTogether};
 ghost use Rattle.sq_audit.specs.Located.{entries_in, ListsAll};
 ghost use Rattle.sq_audit.specs.Fits.{is_of_link, AreKnownLinks, HasOne, HaveOneEach};
@@ -23,8 +24,6 @@ pub(crate) fn fit(
     requires { ListsAll g.now (entries_in all.now) }
     ensures { IfOk result (λ fit. Decides fit (FitTogether opening.now g.now)) }
 {
-    // For the proof alone: the opening is set up.
-    let _ = opening.recon();
     if !has_parts(opening, g) {
         return Ok(false);
     }
@@ -42,7 +41,8 @@ pub(crate) fn fit(
 
 // Whether there is a store for each partition, a link wherever a range moves in the stage, and a tree for each segment.
 fn has_parts(opening: &Opening, g: &Gathered) -> bool
-    ensures { Decides result (HasEachPart opening.now g.now) }
+    ensures parts { Decides result (HasEachPart opening.now g.now) }
+    ensures opening { IsOpening opening.now }
 {
     let recon = opening.recon();
     if g.stores.len() != usize::from(opening.old_plan().parts()) {

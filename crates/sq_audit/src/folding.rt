@@ -2,6 +2,7 @@
 ghost use Rattle.std.specs.Prelude.{◌≡◌, ℕ, ◌≤◌, [], map, filter, not, IfOk, IfErr};
 ghost use Rattle.sq_schema.specs.declared.root.TheConstants.{ROOT_END};
 ghost use Rattle.sq_schema.specs.Prelude.{rows_in};
+ghost use Rattle.sq_ranges.specs.Prelude.{IsSetUp};
 ghost use Rattle.sq_store.specs.Prelude.{folded_store};
 ghost use Rattle.sq_node_model.specs.Prelude.{IsStageDone, folded_opening, folded_gathered};
 ghost use Rattle.sq_audit.specs.Answers.{IdsDiffer};
@@ -38,8 +39,6 @@ pub fn fold<R: Threads + Sync>(
     ensures folded { IfOk result (IsFold opening gathered jobs.items) }
     ensures unfolded { IfErr result (IsUnfolded opening gathered jobs.items) }
 {
-    // For the proof alone: the opening is set up.
-    let _ = opening.recon();
     match prepare(rt, alloc, &opening, &gathered, &jobs) {
         Ok(Prepared::Ready(ready)) => Ok(finish(alloc, opening, gathered, jobs, ready)),
         Ok(Prepared::Unsound(defect)) => Err(Unfolded::Unsound(defect)),
@@ -98,6 +97,7 @@ fn finish(
     requires by_id { AreById ready.ids.items }
     requires bound { (root : ℕ) → ROOT_END ≤ root → rows_in ready.table root ≡ [] }
     ensures opening { result.opening ≡ folded_opening opening ready.table }
+    ensures set_up { IsSetUp result.opening }
     ensures gathered { result.gathered
         ≡ folded_gathered gathered (map folded_store gathered.stores) }
     ensures jobs { result.jobs.items

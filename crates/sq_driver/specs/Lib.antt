@@ -3,3 +3,4 @@ pub mod Nodes
 pub mod Told
 pub mod Pumps
 pub mod Laws
+pub mod Begun

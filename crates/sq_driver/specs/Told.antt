@@ -1,5 +1,5 @@
 -- How nodes change that are driven with tellers.
-use Rattle.std.specs.Prelude.{◌≡◌, List, [], ◌∷◌, ◌++◌, map}
+use Rattle.std.specs.Prelude.{◌≡◌, Bool, true, List, [], ◌∷◌, ◌++◌, map}
 use Rattle.sq_node_model.specs.NodeValue.{ReceiptValue}
 use Rattle.sq_node.specs.FabricValue.{FabricValue}
 use Rattle.sq_node.specs.NodeState.{NodeState}
@@ -20,6 +20,26 @@ pub record HasTold {X : Type 0} (tells : X → ReceiptValue → X → Type 0)
   pub more : List ReceiptValue
   pub written : new ≡ old ++ more
   pub told : TellsEach tells before more after
+
+-- a teller that hasn't broken off then lists each receipt that it hears of behind the others, and had not broken off before
+abbrev pub ListsEach : {X : Type 0} → (X → ReceiptValue → X → Type 0)
+    → (X → List ReceiptValue) → (X → Bool) → Type 0
+ListsEach {X} tells told goes_on =
+    (before after : X) (receipt : ReceiptValue) → tells before receipt after → goes_on after ≡ true
+    → (goes_on before ≡ true) × (told after ≡ told before ++ receipt ∷ [])
+
+-- one list of receipts grew by the same receipts as another
+abbrev pub GrewAlike : List ReceiptValue → List ReceiptValue
+    → List ReceiptValue → List ReceiptValue → Type 0
+GrewAlike old before new after =
+    (more : List ReceiptValue) × (new ≡ old ++ more) × (after ≡ before ++ more)
+
+-- the list of a teller that hasn't broken off grew by just the receipts that its node wrote
+abbrev pub ListsWhatIsWritten : {X : Type 0} → (X → ReceiptValue → X → Type 0)
+    → (X → List ReceiptValue) → (X → Bool) → Type 0
+ListsWhatIsWritten {X} tells told goes_on =
+    (old new : List ReceiptValue) (before after : X) → HasTold tells old before new after
+    → goes_on after ≡ true → GrewAlike old (told before) new (told after)
 
 -- a node was driven, and its teller heard of what it wrote
 pub record DrivenAndTold {X : Type 0} (tells : X → ReceiptValue → X → Type 0) (fabric : FabricValue)

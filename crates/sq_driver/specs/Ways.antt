@@ -10,7 +10,7 @@ ComesBySteps step first (before ∷ earlier) last = ComesBySteps step first earl
 abbrev pub ComesStepByStep : {X : Type 0} → (X → X → Type 0) → X → X → Type 0
 ComesStepByStep {X} step first last = (way : List X) × ComesBySteps step first way last
 
--- each of the workers was driven, and stands in its place
+-- each of the workers was driven, and is in its place
 pub record EachDriven {X : Type 0} (driven : X → X → Type 0) (old new : List X) : Type 0 where
   pub count : length new ≡ length old
   pub each : (i : ℕ) (d : X) → i < length old → driven (slice_index_or old i d) (slice_index_or new i d)

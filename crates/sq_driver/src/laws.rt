@@ -1,13 +1,13 @@
 //! What holds of the workers of a run. The functions do nothing: each states a law, which the checker proves.
-ghost use Rattle.std.specs.Prelude.{◌≡◌, ℕ, Bool, true, List, [], ◌∷◌, ◌++◌, All};
+ghost use Rattle.std.specs.Prelude.{ℕ, Bool, List, All};
 ghost use Rattle.sq_ranges.specs.Prelude.{OpeningValue, IsOpening};
 ghost use Rattle.sq_pull.specs.Pump.{PumpValue};
-ghost use Rattle.sq_store.specs.Prelude.{StoreValue};
 ghost use Rattle.sq_node_model.specs.Prelude.{ReceiptValue, BeganWith, first_began};
-ghost use Rattle.sq_node.specs.Prelude.{FabricValue, NodeState, IsNodeOf, HoldsUnder, IsOpened, IsReopened};
+ghost use Rattle.sq_node.specs.Prelude.{FabricValue, NodeState, IsNodeOf, HoldsUnder, IsOpened};
 ghost use Rattle.sq_driver.specs.Nodes.{AllDriven};
 ghost use Rattle.sq_driver.specs.declared.teller.TellingNode.{TellingNode};
-ghost use Rattle.sq_driver.specs.Told.{HasTold, AllDrivenTelling, nodes_of};
+ghost use Rattle.sq_driver.specs.Begun.{BeginStage};
+ghost use Rattle.sq_driver.specs.Told.{ListsEach, ListsWhatIsWritten, AllDrivenTelling, nodes_of};
 ghost use Rattle.sq_driver.specs.Pumps.{HasAllSeats, AllPumpsDriven};
 
 use crate::teller::Teller;
@@ -28,16 +28,10 @@ pub fn opened_workers_can_be_driven()
 
 /// The nodes and the pumps that a stage of a run begins with can be driven.
 pub fn resumed_workers_can_be_driven()
-    ensures nodes { (o : OpeningValue) (stage : ℕ) (stores : List StoreValue)
-        (receipts : List ReceiptValue) (count : ℕ)
-        (fabric : FabricValue) (nodes : List NodeState) (pumps : List PumpValue)
-        → IsReopened o stage stores receipts count fabric nodes pumps
-        → All (IsNodeOf fabric) nodes }
-    ensures pumps { (o : OpeningValue) (stage : ℕ) (stores : List StoreValue)
-        (receipts : List ReceiptValue) (count : ℕ)
-        (fabric : FabricValue) (nodes : List NodeState) (pumps : List PumpValue)
-        → IsReopened o stage stores receipts count fabric nodes pumps
-        → All (HasAllSeats fabric) pumps }
+    ensures nodes { (fabric : FabricValue) (nodes : List NodeState) (pumps : List PumpValue)
+        → BeginStage fabric nodes pumps → All (IsNodeOf fabric) nodes }
+    ensures pumps { (fabric : FabricValue) (nodes : List NodeState) (pumps : List PumpValue)
+        → BeginStage fabric nodes pumps → All (HasAllSeats fabric) pumps }
 {}
 
 /// What a node keeps holds of all nodes of a run once they were driven, under each opening, and each beginning of a stage,
@@ -67,10 +61,5 @@ pub fn nodes_with_tellers_are_driven<T: Teller>()
 /// order. `told` is its list, and `goes_on` whether it didn't break off; of one that never does, this is always true.
 pub fn what_is_told_is_what_is_written<T: Teller>()
     ensures { (told : T → List ReceiptValue) (goes_on : T → Bool)
-        → ((before after : T) (receipt : ReceiptValue)
-        → T.Tells before receipt after → goes_on after ≡ true
-        → (goes_on before ≡ true) × (told after ≡ told before ++ receipt ∷ []))
-        → (old new : List ReceiptValue) (before after : T)
-        → HasTold T.Tells old before new after → goes_on after ≡ true
-        → (more : List ReceiptValue) × (new ≡ old ++ more) × (told after ≡ told before ++ more) }
+        → ListsEach T.Tells told goes_on → ListsWhatIsWritten T.Tells told goes_on }
 {}

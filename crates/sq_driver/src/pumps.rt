@@ -55,7 +55,7 @@ impl Worker for Pump {
 
 /// Drives a pump: it takes this many turns. Before them it splits the segments where they are few, so that it claims no
 /// large part of what moves at once. In a turn it claims a tree node of a segment whose source has few requests to
-/// begin, if there is one: what isn't claimed is still served where it stands, and a transaction that waits can claim
+/// begin, if there is one: what isn't claimed is still served where it is, and a transaction that waits can claim
 /// it.
 ///
 /// It ends before where it is done: there was nothing to claim in any segment of the running stage, and nothing is

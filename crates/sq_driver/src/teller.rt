@@ -17,7 +17,6 @@ pub trait Teller {
 /// A node, and the recorder of its receipts.
 #[derive(Drop)]
 pub struct TellingNode<T> {
-    /// The node.
     pub node: Node,
     /// The recorder of each receipt that it writes.
     pub teller: T,

@@ -17,7 +17,7 @@ use Rattle.sq_gather.specs.Ends.{WasPut, HavePut, AreApart, SourcesPut, Destinat
 use Rattle.sq_ranges.proofs.LinksFrom.{stands_from}
 use Rattle.sq_gather.proofs.Staged.{ranges_in, as_links}
 
--- a node's end for the other partition stands among its ends, and it is of this link
+-- a node's end for the other partition is among its ends, and it is of this link
 pub record StandsFor (ends : List (Option EndValue)) (other i : ℕ) : Type 0 where
   pub end : EndValue
   pub there : end_at ends other ≡ Some end

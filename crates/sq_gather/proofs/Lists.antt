@@ -3,7 +3,7 @@ use Rattle.std.proofs.Common.{◌≡◌, ℕ, suc, List, [], ◌∷◌, ◌++◌
 use Rattle.std.specs.List.{flat_map}
 use Rattle.std.specs.Prelude.{slice_get}
 
--- the first of the items that are left stands behind those that were taken
+-- the first of the items that are left is behind those that were taken
 pub stands_after : {X : Type 0} (xs : List X) (x : X) (rest left : List X) → left ≡ x ∷ rest → slice_get (xs ++ left) (length xs) ≡ Some x
 stands_after {X} [] x rest left is = ap (λ (all : List X). slice_get all 0) is
 stands_after (y ∷ xs) x rest left is = stands_after xs x rest left is

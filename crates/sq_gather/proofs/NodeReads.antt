@@ -12,7 +12,7 @@ use Rattle.sq_tree.specs.Tree.{status_at}
 use Rattle.sq_tree.proofs.Readings.{reads_whole}
 use Rattle.sq_tree.specs.Reading.{is_complete_reading}
 
--- the status that stands at a place is the status of the node behind it
+-- the status that is at a place is the status of the node behind it
 pub stands_at : (statuses : List Status) (node place : ℕ) (status : Status) → place + 1 ≡ node → slice_index_or statuses place Free ≡ status → status_at statuses node ≡ status
 stands_at statuses node place status behind is = subst (λ n. status_at statuses n ≡ status) (let e : suc place ≡ node = omega (arith, behind) in e) is
 

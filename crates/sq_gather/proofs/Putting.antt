@@ -1,4 +1,4 @@
--- Ends of links that are put where their links stand, the last one first.
+-- Ends of links that are put at the places of their links, the last one first.
 use Rattle.std.proofs.Common.{◌≡◌, ℕ, ◌+◌, ◌<◌, ◌≤◌, List, [], ◌∷◌, ◌++◌, length, map, Option, Some, None, refl, sym, ap, ◌∙◌, subst, ⊎_elim, inl, inr, length-append, arith}
 use Rattle.std.specs.Prelude.{◌⊎◌, slice_get, slice_set, slice_index_or}
 use Rattle.std.proofs.lemmas.Bool.{cases_eq, cases_lt}
@@ -20,7 +20,7 @@ pub record AreFront {X : Type 0} (left all : List X) : Type 0 where
 front_fewer : {X : Type 0} (left rest all : List X) (x : X) → left ≡ rest ++ x ∷ [] → AreFront left all → AreFront rest all
 front_fewer {X} left rest all x is front = record { each = λ k y there. front.each k y (ap (λ (list : List X). slice_get list k) is ∙ slice_get-front rest (x ∷ []) k y there) }
 
--- the last of them stands among all where it stood
+-- the last of them is among all where it was
 front_last : {X : Type 0} (left rest all : List X) (x : X) → left ≡ rest ++ x ∷ [] → AreFront left all → slice_get all (length rest) ≡ Some x
 front_last {X} left rest all x is front = front.each (length rest) x (ap (λ (list : List X). slice_get list (length rest)) is ∙ slice_get-pushed rest x)
 

@@ -1,6 +1,5 @@
 -- Runs: how they begin, how they continue, and how the next stage and the next move begin.
 use Rattle.std.proofs.Common.{◌≡◌, ℕ, ◌+◌, List, length, refl, sym, ap₂, ◌∙◌, subst}
-use Rattle.sq_schema.specs.Table.{TableValue}
 use Rattle.sq_ranges.specs.OpeningValue.{OpeningValue}
 use Rattle.sq_ranges.specs.Opening.{IsOpening}
 use Rattle.sq_pull.specs.Pump.{PumpValue}
@@ -8,14 +7,13 @@ use Rattle.sq_node_model.specs.BeganWith.{BeganWith, first_began, CanBegin}
 use Rattle.sq_node_model.specs.Gathered.{GatheredValue}
 use Rattle.sq_node_model.specs.Placed.{IsPlaced}
 use Rattle.sq_node_model.specs.Next.{IsStageDone, IsNextMove, next_began, onward_began}
-use Rattle.sq_node_model.specs.Folded.{folded_opening}
 use Rattle.sq_node_model.proofs.Began.{first_can}
 use Rattle.sq_node_model.proofs.Next.{can_next, opens_next}
 use Rattle.sq_node_model.proofs.Onward.{can_onward, opens_onward}
 use Rattle.sq_node.specs.FabricValue.{FabricValue, HasBegun, IsFabric}
 use Rattle.sq_node.specs.NodeState.{NodeState}
 use Rattle.sq_node.specs.Opened.{AreFirstSeats, AllHoldUnder, AllOpenWith, IsReopened, IsOpened}
-use Rattle.sq_gather.specs.Gathered.{AllHold}
+use Rattle.sq_gather.specs.Gathered.{HoldsInStage}
 use Rattle.sq_gather.specs.Reopened.{IsRunInStage, AllStay, AllPumpsStay}
 use Rattle.sq_gather.proofs.AllOf.{all_of_new, all_of_opened, pump_claimed}
 
@@ -53,26 +51,10 @@ run_goes_on o began fabric old new before after opening run nodes pumps =
           was.2.holds o began opening (run.hold part was.0 was.1);
     }
 
--- what a node keeps holds of each node of a run
-pub all_hold : (o : OpeningValue) (began : BeganWith) (nodes : List NodeState) → AllHoldUnder o began nodes → AllHold o began nodes
-all_hold o began nodes hold part node there = (hold part node there).holds
-
--- it is an opening whatever its rows
-pub rowless_opening : (o : OpeningValue) (table : TableValue) → IsOpening o → IsOpening (folded_opening o table)
-rowless_opening o table is =
-    record {
-      old_plan = is.old_plan;
-      new_plan = is.new_plan;
-      parts = is.parts;
-      moves = is.moves;
-      segments = is.segments;
-      few_segments = is.few_segments;
-      some_width = is.some_width;
-      small_width = is.small_width;
-      some_limit = is.some_limit;
-      some_capacity = is.some_capacity;
-      small_capacity = is.small_capacity;
-    }
+-- what is gathered of a run can be placed
+pub holds_in_stage : (o : OpeningValue) (began : BeganWith) (fabric : FabricValue) (nodes : List NodeState) (pumps : List PumpValue) → IsRunInStage o began fabric nodes pumps → HoldsInStage o began fabric nodes
+holds_in_stage o began fabric nodes pumps run =
+    record { shared = run.shared; begun = run.begun; can = run.can; hold = λ part node there. (run.hold part node there).holds }
 
 -- a stage that opens with what was gathered is a run that began so, where it could begin so
 run_opens : (o : OpeningValue) (began : BeganWith) (g : GatheredValue) (count : ℕ) (fabric : FabricValue) (nodes : List NodeState) (pumps : List PumpValue) → IsOpening o → length g.stores ≡ o.old.parts

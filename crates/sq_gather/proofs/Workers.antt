@@ -23,7 +23,7 @@ pumps_of fabric nodes pumps all i d lt = (all.each_pump i (get_or pumps i d) (sl
 pub written : {X : Type 0} (old new : List X) (len : ℕ) → len ≡ length new → take len (new ++ drop (length new) old) ≡ new
 written old new len whole = ap (λ n. take n (new ++ drop (length new) old)) whole ∙ take-append_seam new (drop (length new) old)
 
--- what stands at a place now was something before, and went from there
+-- what is at a place now was something before, and went from there
 stood : {X : Type 0} (goes : X → X → Type 0) (old new : List X) → length new ≡ length old → ((i : ℕ) (d : X) → i < length old → goes (get_or old i d) (get_or new i d))
     → (i : ℕ) (now : X) → slice_get new i ≡ Some now → (was : X) × (slice_get old i ≡ Some was) × goes was now
 stood goes old new count each i now there =

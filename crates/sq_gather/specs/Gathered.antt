@@ -7,12 +7,12 @@ use Rattle.sq_link.specs.Values.{LinkValue}
 use Rattle.sq_status.specs.Seat.{SeatValue}
 use Rattle.sq_pull.specs.Seats.{AreSeatsOf}
 use Rattle.sq_pull.specs.Pump.{PumpValue}
-use Rattle.sq_node_model.specs.BeganWith.{BeganWith}
+use Rattle.sq_node_model.specs.BeganWith.{BeganWith, CanBegin}
 use Rattle.sq_node_model.specs.NodeHolds.{NodeHolds}
 use Rattle.sq_node_model.specs.Gathered.{GatheredLink, GatheredValue, IsClosedLink}
-use Rattle.sq_node.specs.FabricValue.{FabricValue, ends_of}
+use Rattle.sq_node.specs.FabricValue.{FabricValue, HasBegun, ends_of}
 use Rattle.sq_node.specs.NodeState.{NodeState, IsNodeOf, views_of, node_value}
-use Rattle.sq_node.specs.Opened.{AreFirstSeats}
+use Rattle.sq_node.specs.Opened.{AreFirstSeats, IsFabricOf}
 use Rattle.sq_gather.specs.Trees.{AreClosed}
 
 -- the pump is one of the run, and its seats began and completed nothing
@@ -57,3 +57,10 @@ pub record IsGathered (fabric : FabricValue) (nodes : List NodeState) (pumps : L
 -- of each node all holds that a node keeps
 abbrev pub AllHold : OpeningValue → BeganWith → List NodeState → Type 0
 AllHold o began nodes = (part : ℕ) (node : NodeState) → slice_get nodes part ≡ Some node → NodeHolds o began (node_value node)
+
+-- the stage of a run could begin so, what the run shares fits the opening, and what a node keeps holds of each node
+pub record HoldsInStage (o : OpeningValue) (began : BeganWith) (fabric : FabricValue) (nodes : List NodeState) : Type 0 where
+  pub shared : IsFabricOf o fabric
+  pub begun : HasBegun began fabric
+  pub can : CanBegin o began
+  pub hold : AllHold o began nodes

@@ -8,10 +8,10 @@ use Rattle.sq_node_model.specs.BeganWith.{BeganWith, CanBegin}
 use Rattle.sq_node_model.specs.Gathered.{GatheredValue}
 use Rattle.sq_node_model.specs.Placed.{IsPlaced}
 use Rattle.sq_node_model.specs.Next.{IsStageDone, IsNextMove, next_began, onward_began}
-use Rattle.sq_node.specs.FabricValue.{FabricValue, HasBegun}
+use Rattle.sq_node.specs.FabricValue.{FabricValue, IsFabric, HasBegun}
 use Rattle.sq_node.specs.NodeState.{NodeState, IsNodeOf}
 use Rattle.sq_node.specs.Holds.{KeepsAll}
-use Rattle.sq_node.specs.Opened.{IsFabricOf, AllHoldUnder}
+use Rattle.sq_node.specs.Opened.{IsFabricOf, IsOpened, AllHoldUnder}
 use Rattle.sq_gather.specs.Gathered.{AreAllOf}
 
 -- a run is in a stage that began so: what it shares fits the opening, the stage could begin so,
@@ -23,6 +23,20 @@ pub record IsRunInStage (o : OpeningValue) (began : BeganWith) (fabric : FabricV
   pub can : CanBegin o began
   pub all : AreAllOf fabric nodes pumps
   pub hold : AllHoldUnder o began nodes
+
+-- what opens a run, and what is opened: with this many pumps
+pub record OpensRun (o : OpeningValue) (count : ℕ) (fabric : FabricValue) (nodes : List NodeState)
+    (pumps : List PumpValue) : Type 0 where
+  pub opening : IsOpening o
+  pub whole : IsFabric fabric
+  pub opened : IsOpened o count fabric nodes pumps
+
+-- a run is one in its stage still, under each opening and each beginning under which it was: these were its nodes and pumps, and these
+-- are they now
+abbrev pub StaysInStage : FabricValue → List NodeState → List PumpValue → List NodeState → List PumpValue → Type 0
+StaysInStage fabric old before new after =
+    (o : OpeningValue) (began : BeganWith) → IsOpening o → IsRunInStage o began fabric old before
+    → IsRunInStage o began fabric new after
 
 -- this is a run in the stage after the one that was gathered, if that is placed and its segments are complete
 abbrev pub IsNextStageOf : OpeningValue → GatheredValue → FabricValue → List NodeState → List PumpValue → Type 0

@@ -1,28 +1,26 @@
 // Runs, and what can be gathered.
 ghost use Rattle.std.specs.Prelude.{ℕ, List};
-ghost use Rattle.sq_ranges.specs.Prelude.{OpeningValue, IsOpening};
+ghost use Rattle.sq_ranges.specs.Prelude.{OpeningValue};
 ghost use Rattle.sq_pull.specs.Seats.{AreSeatsOf, OnlyClaimed};
 ghost use Rattle.sq_pull.specs.Pump.{PumpValue};
-ghost use Rattle.sq_node_model.specs.Prelude.{BeganWith, first_began, CanBegin};
-ghost use Rattle.sq_node.specs.Prelude.{FabricValue, HasBegun, IsFabric, NodeState, IsFabricOf, IsOpened};
-ghost use Rattle.sq_gather.specs.Gathered.{AreAllOf, AllHold, IsPumpOf};
-ghost use Rattle.sq_gather.specs.Reopened.{IsRunInStage, AllStay, AllPumpsStay};
+ghost use Rattle.sq_node_model.specs.Prelude.{BeganWith, first_began};
+ghost use Rattle.sq_node.specs.Prelude.{FabricValue, NodeState};
+ghost use Rattle.sq_gather.specs.Gathered.{AreAllOf, HoldsInStage, IsPumpOf};
+ghost use Rattle.sq_gather.specs.Reopened.{IsRunInStage, OpensRun, StaysInStage, AllStay, AllPumpsStay};
 
 /// What a run opens with is a run in its first stage.
 pub fn a_run_begins()
     ensures { (o : OpeningValue) (count : ℕ) (fabric : FabricValue) (nodes : List NodeState)
         (pumps : List PumpValue)
-        → IsOpening o → IsFabric fabric → IsOpened o count fabric nodes pumps
+        → OpensRun o count fabric nodes pumps
         → IsRunInStage o (first_began o) fabric nodes pumps }
 {}
 
 /// A run stays one where each of its nodes and of its pumps stays one of it, and what a node keeps holds still.
 pub fn a_run_goes_on()
-    ensures { (o : OpeningValue) (began : BeganWith) (fabric : FabricValue)
-        (old new : List NodeState) (before after : List PumpValue)
-        → IsOpening o → IsRunInStage o began fabric old before → AllStay fabric old new
-        → AllPumpsStay fabric before after
-        → IsRunInStage o began fabric new after }
+    ensures { (fabric : FabricValue) (old new : List NodeState) (before after : List PumpValue)
+        → AllStay fabric old new → AllPumpsStay fabric before after
+        → StaysInStage fabric old before new after }
 {}
 
 /// A run can be gathered: its nodes and pumps are all of it, and what is gathered is placed and continues what its
@@ -33,8 +31,7 @@ pub fn a_run_can_be_gathered()
         → IsRunInStage o began fabric nodes pumps → AreAllOf fabric nodes pumps }
     ensures placed { (o : OpeningValue) (began : BeganWith) (fabric : FabricValue)
         (nodes : List NodeState) (pumps : List PumpValue)
-        → IsRunInStage o began fabric nodes pumps → IsFabricOf o fabric × HasBegun began fabric
-        × CanBegin o began × AllHold o began nodes }
+        → IsRunInStage o began fabric nodes pumps → HoldsInStage o began fabric nodes }
 {}
 
 /// A pump that turned is one of the run still, whose seats began and completed nothing.

@@ -17,6 +17,6 @@ pub use gathered::Gathered;
 pub use link_ends::LinkEnds;
 pub use links::{ClosedLink, close_link, close_links};
 pub use reopened::{move_on, reopen};
-pub use run::{Ungathered, gather};
+pub use run::gather;
 pub use stage_done::reads_complete;
 pub use trees::close_trees;

@@ -1,15 +1,15 @@
-// Going on with what was gathered: in the next stage of a move, or in another move.
+// A run continues with what was gathered: in the next stage of a move, or in another move.
 ghost use Rattle.std.specs.Prelude.{◌≡◌, ◌+◌, ◌≤◌, length, IfOk, IfErr, OnOk};
 ghost use Rattle.sq_schema.specs.Prelude.{TableValue};
 ghost use Rattle.sq_pull.specs.declared.numbers.TheConstants.{MAX_PUMPS};
+ghost use Rattle.sq_ranges.specs.Prelude.{IsOpening};
 ghost use Rattle.sq_node_model.specs.Prelude.{folded_opening};
 ghost use Rattle.sq_node.specs.Prelude.{IsFabric, IsReopened, AllHoldAsBegun};
 ghost use Rattle.sq_gather.specs.Gathered.{AreAllOf};
 ghost use Rattle.sq_gather.specs.Reopened.{IsNextStageOf, IsFirstStageAfter};
 
 use crate::gathered::Gathered;
-use sq_node::{Fabric, Node, Unresumed};
-use sq_pull::Pump;
+use sq_node::{Fabric, RunParts, Unresumed};
 use sq_ranges::Opening;
 use std::alloc::Global;
 
@@ -28,24 +28,23 @@ pub fn reopen(
     opening: &Opening,
     g: Gathered,
     pumps: u32,
-) -> Result<(Fabric, Vec<Node>, Vec<Pump>), Gathered>
+) -> Result<RunParts, Gathered>
     requires { pumps ≤ MAX_PUMPS }
     ensures reopened { IfOk result
-        (λ run. IsReopened opening.now (g.stage + 1) g.stores g.receipts pumps run.0 run.1.items
-        run.2.items) }
+        (λ run. IsReopened opening.now (g.stage + 1) g.stores g.receipts pumps run.fabric
+        run.nodes.items run.pumps.items) }
     ensures run { IfOk result (λ run. (table : TableValue)
-        → IsNextStageOf (folded_opening opening.now table) g run.0 run.1.items run.2.items) }
-    ensures all { IfOk result (λ run. AreAllOf run.0 run.1.items run.2.items) }
-    ensures pumps { IfOk result (λ run. length run.2.items ≡ pumps) }
+        → IsNextStageOf (folded_opening opening.now table) g run.fabric run.nodes.items
+        run.pumps.items) }
+    ensures all { IfOk result (λ run. AreAllOf run.fabric run.nodes.items run.pumps.items) }
+    ensures pumps { IfOk result (λ run. length run.pumps.items ≡ pumps) }
     ensures returned { IfErr result (λ back. back ≡ g) }
 {
-    // For the proof alone: what was handed in is an opening.
-    let _recon = opening.recon();
     let Some(next) = g.stage.checked_add(1) else {
         return Err(g);
     };
-    let (fabric, nodes, pumps) = resume(alloc, opening, next, g, pumps)?;
-    Ok((fabric, nodes, pumps))
+    let opened = resume(alloc, opening, next, g, pumps)?;
+    Ok(opened)
 }
 
 /// Opens the first stage of another move, with what was gathered of the last stage of one: what a run shares in it, its nodes with
@@ -54,25 +53,20 @@ pub fn reopen(
 /// follows, this is a run of that opening.
 ///
 /// Where `next` is of another number of partitions, and where there is no memory, what was gathered comes back as it was.
-pub fn move_on(
-    alloc: Global,
-    next: &Opening,
-    g: Gathered,
-    pumps: u32,
-) -> Result<(Fabric, Vec<Node>, Vec<Pump>), Gathered>
+pub fn move_on(alloc: Global, next: &Opening, g: Gathered, pumps: u32) -> Result<RunParts, Gathered>
     requires { pumps ≤ MAX_PUMPS }
     ensures reopened { IfOk result
-        (λ run. IsReopened next.now 0 g.stores g.receipts pumps run.0 run.1.items run.2.items) }
+        (λ run. IsReopened next.now 0 g.stores g.receipts pumps run.fabric run.nodes.items
+        run.pumps.items) }
     ensures run { IfOk result (λ run. (table : TableValue)
-        → IsFirstStageAfter (folded_opening next.now table) g run.0 run.1.items run.2.items) }
-    ensures all { IfOk result (λ run. AreAllOf run.0 run.1.items run.2.items) }
-    ensures pumps { IfOk result (λ run. length run.2.items ≡ pumps) }
+        → IsFirstStageAfter (folded_opening next.now table) g run.fabric run.nodes.items
+        run.pumps.items) }
+    ensures all { IfOk result (λ run. AreAllOf run.fabric run.nodes.items run.pumps.items) }
+    ensures pumps { IfOk result (λ run. length run.pumps.items ≡ pumps) }
     ensures returned { IfErr result (λ back. back ≡ g) }
 {
-    // For the proof alone: what was handed in is an opening.
-    let _recon = next.recon();
-    let (fabric, nodes, pumps) = resume(alloc, next, FIRST_STAGE, g, pumps)?;
-    Ok((fabric, nodes, pumps))
+    let opened = resume(alloc, next, FIRST_STAGE, g, pumps)?;
+    Ok(opened)
 }
 
 // What a run shares in a stage of a move, its nodes with what was gathered, and this many pumps. Where that isn't of as many
@@ -83,24 +77,21 @@ fn resume(
     stage: u64,
     g: Gathered,
     pumps: u32,
-) -> Result<(Fabric, Vec<Node>, Vec<Pump>), Gathered>
+) -> Result<RunParts, Gathered>
     requires { pumps ≤ MAX_PUMPS }
-    ensures run { IfOk result (λ run.
-        IsReopened opening.now stage g.stores g.receipts pumps run.0 run.1.items run.2.items) }
+    ensures run { IfOk result (λ run. IsReopened opening.now stage g.stores g.receipts pumps
+        run.fabric run.nodes.items run.pumps.items) }
     ensures holds { IfOk result (λ run. (table : TableValue)
-        → AllHoldAsBegun (folded_opening opening.now table) run.0 g.stores run.1.items) }
-    ensures all { IfOk result (λ run. AreAllOf run.0 run.1.items run.2.items) }
+        → AllHoldAsBegun (folded_opening opening.now table) run.fabric g.stores
+        run.nodes.items) }
+    ensures all { IfOk result (λ run. AreAllOf run.fabric run.nodes.items run.pumps.items) }
     ensures stores { OnOk result (length g.stores ≡ opening.now.old.parts) }
-    ensures fabric { IfOk result (λ run. IsFabric run.0) }
+    ensures opening { OnOk result (IsOpening opening.now) }
+    ensures fabric { IfOk result (λ run. IsFabric run.fabric) }
     ensures returned { IfErr result (λ back. back ≡ g) }
 {
     match Fabric::resumed(alloc, opening, stage, g.stores, g.left, g.receipts, pumps) {
-        Ok((fabric, nodes, pumps)) => {
-            // For the proof alone: what was handed in is an opening, and this is a fabric.
-            let _recon = opening.recon();
-            let _trees = fabric.trees();
-            Ok((fabric, nodes, pumps))
-        }
+        Ok(opened) => Ok(opened),
         Err(
             Unresumed {
                 stores,

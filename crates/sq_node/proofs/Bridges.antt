@@ -20,7 +20,7 @@ use Rattle.sq_node.specs.NodeState.{NodeState, views_of, passed_by}
 use Rattle.sq_node.specs.Looks.{OnlyLooked, SeatsLooked}
 use Rattle.sq_node.specs.Steps.{ClaimsFor}
 
--- an end stands at a place that there is
+-- an end is at a place that there is
 pub stands_below : {X : Type 0} (ends : List (Option X)) (at : ℕ) (end : X) → slice_index_or ends at None ≡ Some end → at < length ends
 stands_below ends at end there =
     ⊎_elim (λ (low : at < length ends). low) (λ (past : length ends ≤ at). let none = sym (get_or_past ends at None past) ∙ there in cc) (cases_lt at (length ends))
@@ -35,7 +35,7 @@ passed_one ends at end chunk there k =
     ∙ put_field read at (Some now) (λ j. end_at ends j) k
     ∙ ap (λ (list : List ChunkValue). put at list (λ j. read (end_at ends j)) k) (ap (λ (before : List ChunkValue). before ++ chunk ∷ []) (sym (ap read there)))
 
--- the view of the seat that stands there, or of one that did nothing
+-- the view of the seat that is there, or of one that did nothing
 abbrev view_of : Option SeatValue → View
 view_of found = option_map_or (λ (seat : SeatValue). seat.view) found (fresh false false)
 

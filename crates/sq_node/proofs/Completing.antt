@@ -41,7 +41,7 @@ all_settled core seats nodes complete none is seg n whole =
     (λ (settled : HasSettled seats seg n). settled) (is.each seg n whole)
 
 module _ (core : CoreValue) (old new : List SeatValue) (nodes left : List (ℕ × ℕ)) (at : ℕ) (complete : List Bool) (one : CompletesOne old nodes at new left) (is : IsNode core old nodes complete) where
-  -- what is left stood there
+  -- what is left was there
   was_there : (seg n : ℕ) → Contains left (seg, n) → Contains nodes (seg, n)
   was_there seg n there =
       let among : Contains (remove nodes one.place) (seg, n) = subst (λ (xs : List (ℕ × ℕ)). Contains xs (seg, n)) one.rest there in

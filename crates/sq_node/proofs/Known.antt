@@ -48,7 +48,7 @@ knows_walked leaf levels v u walk =
     subst (KnowsNoLess v) (sym walk.3.after)
     (record { looked = λ n st seen. Contains-append_right walk.1 v.looked (n, st) seen; completed = λ n pull done. done })
 
--- a seat that knows no less than one did stands there
+-- a seat that knows no less than one did is there
 pub record StillKnows (seats : List SeatValue) (seg : ℕ) (v : View) : Type 0 where
   pub seat : SeatValue
   pub there : slice_get seats seg ≡ Some seat

@@ -249,7 +249,7 @@ more_none nodes at pair old cur new there looked step none place seg n below sta
     subst (λ (p : ℕ × ℕ). HasNoneToComplete old new p.0 p.1) is (none_now pair.1 pair.0 old cur new looked step))
     (cases_lt place at)
 
--- the node that was read stands at its place
+-- the node that was read is at its place
 pub stands_at : (nodes now : List (ℕ × ℕ)) (at : ℕ) (pair : ℕ × ℕ) → now ≡ nodes → at < length nodes → pair ≡ get_or now at pair → slice_get nodes at ≡ Some pair
 stands_at nodes now at pair same within read = slice_get_read nodes (length nodes) at pair refl within (read ∙ ap (λ (xs : List (ℕ × ℕ)). get_or xs at pair) same)
 

@@ -13,13 +13,13 @@ use Rattle.sq_node.specs.Ends.{EndValue, no_link, link_at, end_at}
 use Rattle.sq_node.specs.FabricValue.{ends_of, AreStageLinks}
 use Rattle.sq_node.specs.Opened.{HasAllEnds, new_end}
 
--- an element of a list stands where it stood once one more is added
+-- an element of a list keeps its place once one more is added
 pub before : {X : Type 0} (xs : List X) (x d : X) (k : ℕ) → k < length xs → get_or (xs ++ x ∷ []) k d ≡ get_or xs k d
 before [] x d k lt = absurd (omega (arith, lt))
 before (y ∷ xs) x d zero lt = refl
 before (y ∷ xs) x d (suc k) lt = before xs x d k (omega (arith, lt))
 
--- and that stands behind them
+-- and that is behind them
 pub last : {X : Type 0} (xs : List X) (x d : X) → get_or (xs ++ x ∷ []) (length xs) d ≡ x
 last [] x d = refl
 last (y ∷ xs) x d = last xs x d
@@ -33,7 +33,7 @@ links_more items links at end link are lt stands src dst =
 pub as_many : (items : List Link) (links : List LinkValue) (at : ℕ) → map ends_of links ≡ take at items → at ≤ length items → at ≡ length links
 as_many items links at are within = omega (arith, length-map links ends_of, ap length are, length-take at items)
 
--- the end of a link that stands here, along which nothing went
+-- the end of a link that is here, along which nothing went
 abbrev end_of : LinkValue → ℕ → EndValue
 end_of link i = record { link = i; pass = record { queue = link.queue; chunks = [] } }
 

@@ -29,12 +29,13 @@ use Rattle.sq_node_model.specs.Folded.{folded_opening}
 use Rattle.sq_node_model.proofs.CoreNew.{core_new, get_or-same}
 use Rattle.sq_node_model.proofs.Members.{push_stood}
 use Rattle.sq_node.specs.Ends.{EndValue, src_of, dst_of, end_at}
-use Rattle.sq_node.specs.FabricValue.{FabricValue, HasBegun}
+use Rattle.sq_node.specs.FabricValue.{FabricValue, IsFabric, HasBegun}
 use Rattle.sq_node.specs.NodeState.{NodeState, IsNodeOf, views_of, passed_by}
 use Rattle.sq_node.specs.Holds.{HoldsUnder}
 use Rattle.sq_node.specs.Settled.{IsNode}
+use Rattle.sq_pull.specs.Seats.{AreSeatsOf}
 use Rattle.sq_pull.specs.Pump.{PumpValue}
-use Rattle.sq_node.specs.Opened.{IsNewPump, AreNewPumps, AreFirstSeats, AreNewSeats, GaveEach, HasEnds, LeavesEnds, HavePassedNothing, AreNewEnds, IsFabricOf, IsNewNode, AreNewNodes, AllOpenWith, AllHoldUnder, IsReopened, opened_stores, running_core}
+use Rattle.sq_node.specs.Opened.{IsNewPump, AreNewPumps, AreFirstSeats, AreNewSeats, GaveEach, HasEnds, LeavesEnds, HavePassedNothing, AreNewEnds, IsFabricOf, IsNewNode, AreNewNodes, AreNewNodesFrom, AllOpenWith, AllHoldUnder, IsReopened, opened_stores, running_core}
 use Rattle.sq_node.proofs.NewLinks.{before, last}
 
 -- nothing is loaded at a partition as a stage begins
@@ -173,6 +174,47 @@ more_nodes o fabric stores store nodes node are made =
           (push_stood nodes node part one there);
     }
 
+pub no_nodes : (o : OpeningValue) (fabric : FabricValue) (first : ℕ) → AreNewNodesFrom o fabric first [] []
+no_nodes o fabric first = record { all = refl; each = λ at node there. absurd (omega (arith, slice_get_within [] at node there)) }
+
+-- one more node, of the partition before the others
+pub node_before : (o : OpeningValue) (fabric : FabricValue) (first : ℕ) (store : StoreValue) (stores : List StoreValue) (node : NodeState) (nodes : List NodeState) → AreNewNodesFrom o fabric (first + 1) stores nodes
+    → IsNewNode fabric (running_core o fabric.stage first store) node → AreNewNodesFrom o fabric first (store ∷ stores) (node ∷ nodes)
+node_before o fabric first store stores node nodes are made = record { all = ap suc are.all; each = each }
+  where
+    each : (at : ℕ) (one : NodeState) → slice_get (node ∷ nodes) at ≡ Some one → IsNewNode fabric (running_core o fabric.stage (first + at) (slice_index_or (store ∷ stores) at empty)) one
+    each zero one there = subst (IsNewNode fabric (running_core o fabric.stage (first + 0) store)) (same_Some node one there)
+        (subst (λ (n : ℕ). IsNewNode fabric (running_core o fabric.stage n store) node) (omega arith) made)
+    each (suc at) one there = subst (λ (n : ℕ). IsNewNode fabric (running_core o fabric.stage n (slice_index_or stores at empty)) one) (omega arith) (are.each at one there)
+
+-- so they are whatever seats the fabric keeps
+pub same_from : (o : OpeningValue) (old new : FabricValue) (first : ℕ) (stores : List StoreValue) (nodes : List NodeState) → IsAlike old new → AreNewNodesFrom o old first stores nodes → AreNewNodesFrom o new first stores nodes
+same_from o old new first stores nodes same are =
+    subst (λ (fabric : FabricValue). AreNewNodesFrom o fabric first stores nodes) (sym same)
+    (record { all = are.all; each = λ at node there. same_node old new.seats new.receipts (running_core o old.stage (first + at) (slice_index_or stores at empty)) node (are.each at node there) })
+
+-- from the first partition on they are all nodes
+pub nodes_from : (o : OpeningValue) (fabric : FabricValue) (stores : List StoreValue) (nodes : List NodeState) → AreNewNodesFrom o fabric 0 stores nodes → AreNewNodes o fabric stores nodes
+nodes_from o fabric stores nodes are =
+    record {
+      all = are.all;
+      each = λ part node there. subst (λ (n : ℕ). IsNewNode fabric (running_core o fabric.stage n (slice_index_or stores part empty)) node) (omega arith) (are.each part node there);
+    }
+
+-- the families of new nodes are those that they were opened with
+pub stores_of : (o : OpeningValue) (fabric : FabricValue) (first : ℕ) (stores : List StoreValue) (nodes : List NodeState) → AreNewNodesFrom o fabric first stores nodes → map (λ (node : NodeState). node.core.store) nodes ≡ stores
+stores_of o fabric first [] [] are = refl
+stores_of o fabric first [] (node ∷ nodes) are = let count = are.all in absurd (omega arith)
+stores_of o fabric first (store ∷ stores) [] are = let count = are.all in absurd (omega arith)
+stores_of o fabric first (store ∷ stores) (node ∷ nodes) are =
+    let count = are.all in
+    let own : node.core.store ≡ store = ap (λ (core : CoreValue). core.store) (are.each 0 node refl).core in
+    let rest : map (λ (one : NodeState). one.core.store) nodes ≡ stores = stores_of o fabric (first + 1) stores nodes (record {
+      all = omega arith;
+      each = λ at one there. subst (λ (n : ℕ). IsNewNode fabric (running_core o fabric.stage n (slice_index_or stores at empty)) one) (omega arith) (are.each (suc at) one there);
+    }) in
+    λ k. own k ∷ rest k
+
 gave_trees : (old new : List SeatValue) → GaveEach old new → map (λ (seat : SeatValue). seat.tree) new ≡ map (λ (seat : SeatValue). seat.tree) old
 gave_trees [] [] gives = refl
 gave_trees [] (seat ∷ new) gives = let count = gives.count in absurd (omega arith)
@@ -229,6 +271,20 @@ new_nodes_hold o began fabric stores nodes count begun can opens are part node t
 pub same_shared : (o : OpeningValue) (old new : FabricValue) → IsAlike old new → IsFabricOf o old → IsFabricOf o new
 same_shared o old new same shared =
     subst (IsFabricOf o) (sym same) (record { recon = shared.recon; parts = shared.parts; capacity = shared.capacity })
+
+-- it is a fabric with whatever seats its trees gave out, and whatever receipts it keeps
+pub still_fabric : (old new : FabricValue) (given : ℕ) → IsAlike old new → IsFabric old → AreFirstSeats given new.trees new.seats → IsFabric new
+still_fabric old new given same is seats =
+    subst IsFabric (sym same) (record {
+      few = is.few;
+      trees = is.trees;
+      seats = subst (λ (trees : List TableId). AreSeatsOf trees new.seats) (ap (λ (f : FabricValue). f.trees) same) seats.of;
+      first = λ seg seat there. ap (λ (v : View). v.first) (seats.each seg seat there);
+      links = is.links;
+    })
+
+pub told_fabric : (fabric : FabricValue) (receipts : List ReceiptValue) → IsFabric fabric → IsFabric (record fabric { receipts = receipts })
+told_fabric fabric receipts is = record { few = is.few; trees = is.trees; seats = is.seats; first = is.first; links = is.links }
 
 -- a pump is new whatever seats and receipts the fabric keeps
 same_pump : (fabric : FabricValue) (seats : List SeatValue) (receipts : List ReceiptValue) (number : ℕ) (pump : PumpValue) → IsNewPump fabric number pump → IsNewPump (record fabric { seats = seats; receipts = receipts }) number pump

@@ -25,7 +25,7 @@ less_room [] (r ∷ rooms) count room have = absurd (some_rooms rooms room have.
 less_room (n ∷ counts) [] count room have = absurd (some_counts counts count have.1)
 less_room (n ∷ counts) (r ∷ rooms) count room have = let rest = less_room counts rooms count room have.1 in ((have.0, rest.0), rest.1)
 
--- a list in which an element is put where it stands is the list
+-- a list in which an element is put at its own place is the list
 pub set_same : {X : Type 0} (xs : List X) (i : ℕ) (x : X) → x ≡ get_or xs i x → slice_set xs i x ≡ xs
 set_same [] i x is = refl
 set_same (y ∷ xs) zero x is = ap (λ z. z ∷ xs) is

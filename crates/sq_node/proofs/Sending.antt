@@ -47,7 +47,7 @@ none_to_send fabric node dst full =
     by_end None none = inr (inl none)
     by_end (Some end) there = inr (inr (end, there, full end there))
 
--- an end that was read where it stands
+-- an end that was read at its place
 pub read_end : (ends : List (Option EndValue)) (i j : ℕ) (read : Option EndValue) → i ≡ j → j < length ends → read ≡ get_or ends i read → end_at ends j ≡ read
 read_end ends i j read same within is =
     get_or_default ends j None read within ∙ ap (λ (n : ℕ). get_or ends n read) (sym same) ∙ sym is

@@ -72,7 +72,7 @@ module _ {X : Type 0} (fresh : ℕ → X) (count : ℕ) (mine : ℕ → Bool) (o
           subst (λ (es : List (Option X)). Takes fresh count mine other which old (number + 1) es now) (sym told.1)
           (subst (λ (ts : List (Option X)). Takes fresh count mine other which old (number + 1) (set ends at None) ts) (sym pushed) (takes_some at e is there.0 there.1 there.2 told.0))
 
--- where the link between two partitions stands
+-- the place of the link between two partitions
 pub found_link : (near far : LinkValue → ℕ) (links : List LinkValue) (part other at : ℕ) → link_between near far links part other ≡ Some at
     → (at < length links) × (near (link_at links at) ≡ part) × (far (link_at links at) ≡ other)
 found_link near far links part other at is =

@@ -83,7 +83,7 @@ pub record HasAllEnds (links : List LinkValue) (ends : List (Option EndValue)) :
   pub count : length ends ≡ length links
   pub each : (i : ℕ) → i < length links → end_at ends i ≡ Some (new_end links i)
 
--- the ends of a partition's links stand here, each where its link is
+-- the ends of a partition's links are here, each where its link is
 pub record HasEnds (near : LinkValue → ℕ) (links : List LinkValue) (ends : List (Option EndValue)) (part : ℕ) : Type 0 where
   pub count : length ends ≡ length links
   pub each : (i : ℕ) → i < length links → near (link_at links i) ≡ part → end_at ends i ≡ Some (new_end links i)
@@ -123,6 +123,12 @@ pub record AreNewNodes (o : OpeningValue) (fabric : FabricValue) (stores : List 
   pub all : length nodes ≡ length stores
   pub each : (part : ℕ) (node : NodeState) → slice_get nodes part ≡ Some node
       → IsNewNode fabric (running_core o fabric.stage part (slice_index_or stores part empty)) node
+
+-- for each of these families the node of their partition, to which nothing has happened. The first partition is this one
+pub record AreNewNodesFrom (o : OpeningValue) (fabric : FabricValue) (first : ℕ) (stores : List StoreValue) (nodes : List NodeState) : Type 0 where
+  pub all : length nodes ≡ length stores
+  pub each : (at : ℕ) (node : NodeState) → slice_get nodes at ≡ Some node
+      → IsNewNode fabric (running_core o fabric.stage (first + at) (slice_index_or stores at empty)) node
 
 -- of each node all holds that a node keeps
 abbrev pub AllHoldUnder : OpeningValue → BeganWith → List NodeState → Type 0

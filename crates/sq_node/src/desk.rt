@@ -15,7 +15,6 @@ use std::sync::Wait;
 pub struct Post {
     /// The partition.
     pub to: PartId,
-    /// The job.
     pub job: Txn,
 }
 

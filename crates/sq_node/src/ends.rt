@@ -61,7 +61,6 @@ impl<S: Side> PartEnd<S> {
         }
     }
 
-    /// The end.
     pub fn into_end(self) -> Option<LinkEnd<LinkPass<S>>>
         ensures { result ≡ self }
     {

@@ -75,7 +75,6 @@ pub struct FabricParts {
     pub trees: Vec<StatusTree>,
     /// For each segment the seat that its tree was opened with.
     pub seats: Vec<TreeSeat>,
-    /// The links.
     pub links: Vec<SharedLink>,
     /// The receipts of earlier stages, in the order in which they were handed in.
     pub receipts: Vec<Receipt>,
@@ -256,7 +255,6 @@ impl Fabric {
         self.requests.get(usize::from(part.number()))?.pop(rt)
     }
 
-    /// Counts an answer.
     pub(crate) fn count_answer(&self) {
         self.answered.fetch_add(1, Ordering::SeqCst);
     }

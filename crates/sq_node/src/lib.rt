@@ -8,6 +8,7 @@ mod ends;
 mod fabric;
 mod node;
 mod receipt;
+mod run_parts;
 mod stepped;
 
 pub use desk::Post;
@@ -16,4 +17,5 @@ pub use ends::{LinkEnd, PartEnd, Receiver, RecvEnd, SendEnd, Sender};
 pub use fabric::{Fabric, FabricParts, JOB_PLACES, Unresumed};
 pub use node::{Node, NodeParts};
 pub use receipt::Receipt;
+pub use run_parts::RunParts;
 pub use stepped::Stepped;

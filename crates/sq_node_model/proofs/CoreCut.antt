@@ -24,7 +24,7 @@ use Rattle.sq_node_model.proofs.Puts.{put_set}
 use Rattle.sq_node_model.proofs.Outs.{IsNoteOf}
 use Rattle.sq_node_model.proofs.NodeCut.{keeps_cut}
 
--- what stands past the end of a list
+-- what is past the end of a list
 -- an end that isn't new is the end of a link to a partition
 pub out_below : (core : CoreValue) (dst : ℕ) → (out_at core dst ≡ new_out_link → ⊥) → dst < length core.outs
 out_below core dst used =

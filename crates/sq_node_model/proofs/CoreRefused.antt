@@ -63,7 +63,7 @@ module _ {began : BeganWith} (o : OpeningValue) (is : IsOpening o) (core : CoreV
       by (Some other) e = carried_covered chunk family.root other sound.rising e
       by None e = absurd (true≢false (sym (eq-eqb family.root family.root refl) ∙ not_found (λ (other : FamilyValue). other.root == family.root) chunk.families e family has))
 
-  -- a family that stands at a key that comes here was loaded
+  -- a family that is at a key that comes here was loaded
   stood : has_none_of core.store chunk.families ≡ false → OverlapsLoaded node chunk
   stood e =
       let found = some_stands core.store chunk.families e in

@@ -108,7 +108,7 @@ module _ (o : OpeningValue) (began : BeganWith) (is : IsOpening o) (nodes : List
     pub has_cut : HasCut c.ends.from chunk
     has_cut = (c.link.dst, Contains-slice_get (cut_to c.ends.from c.link.dst) c.number chunk c.at)
 
-    -- its note stands at its place
+    -- its note is at its place
     pub noted_at : slice_get c.link.notes c.number ≡ Some chunk.note
     noted_at =
         subst (λ notes. slice_get notes c.number ≡ Some chunk.note) (sym (cut_notes_are o began nodes c.link c.ends))

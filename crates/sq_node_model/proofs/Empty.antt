@@ -21,7 +21,7 @@ use Rattle.sq_ranges.specs.ReconValue.{stage_on, stage_in}
 use Rattle.sq_ranges.specs.OpeningValue.{OpeningValue}
 use Rattle.sq_model.specs.Links.{is_about, has_last}
 use Rattle.sq_model.specs.Orderly.{Tiles}
-use Rattle.sq_model.proofs.Lists.{any_in, list_any-Contains, flat_map_in, slice_get-Contains, Contains-cases, Contains-nothing}
+use Rattle.sq_model.proofs.Lists.{any_in, list_any-Contains, flat_map_in, slice_get-Contains, Contains-cases, Contains-first, Contains-nothing}
 use Rattle.sq_model.proofs.Notes.{SegmentGoes, goes_once}
 use Rattle.sq_model.proofs.Tiles.{about_is}
 use Rattle.sq_node_model.specs.Stages.{runs_in}
@@ -55,6 +55,11 @@ none_after o (first ∷ newer) older note tiles has last =
     true≢false (sym all ∙ tiles.0.first_last))
     (λ later. none_after o newer older note tiles.1 later last)
     (Contains-cases first newer note has)
+
+-- a list that contains nothing is empty
+pub nothing_in : {X : Type 0} (xs : List X) → ((x : X) → Contains xs x → ⊥) → xs ≡ []
+nothing_in [] none = refl
+nothing_in (x ∷ xs) none = absurd (none x (Contains-first x xs))
 
 module _ (o : OpeningValue) (g : GatheredValue) (p : IsPlaced o g) (done : IsStageDone o g) where
   -- a begun tree node of the stage is complete

@@ -39,7 +39,7 @@ some_is : {X : Type 0} (found : Option X) → is_some found ≡ true → (x : X)
 some_is None e = absurd (true≢false (sym e))
 some_is (Some x) e = (x, refl)
 
--- the family that a chunk has stands somewhere, perhaps with a longer log
+-- the family that a chunk has is somewhere, perhaps with a longer log
 pub record IsCarriedOn (g : GatheredValue) (root : ℕ) (family : FamilyValue) : Type 0 where
   pub spot : Spot
   pub now : FamilyValue

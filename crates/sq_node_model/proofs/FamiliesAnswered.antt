@@ -98,7 +98,7 @@ module _ {began : BeganWith} (o : OpeningValue) (part : ℕ) (cut loaded : Chunk
   stored_some root family has =
       ⊎_elim (λ e. (new, stored_new root e.1)) (λ e. (family, stored_other root family e.1 has)) (eqb_tells root txn.root)
 
-  -- the family stood before, or is an empty one
+  -- the family was there before, or is an empty one
   stood : IsStored store txn.root was ⊎ ((get store txn.root ≡ None) × (was ≡ absent txn.root))
   stood = by (get store txn.root) refl
     where

@@ -81,7 +81,7 @@ module _ {began : BeganWith} (o : OpeningValue) (part : ℕ) (cut loaded now : C
         (m.only other has);
   }
 
-  -- what was brought and stands in the store is what it was
+  -- what was brought and is in the store is what it was
   brought_is : (root : ℕ) (family : FamilyValue) → IsCarried chunk root family → brought chunk root ≡ family
   brought_is root family carried = ap (λ found. unwrap_or found (absent root)) carried
 

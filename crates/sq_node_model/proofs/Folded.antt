@@ -45,6 +45,23 @@ tiles_too o table (note ∷ notes) tiles = (
   tiles_too o table notes tiles.1,
 )
 
+-- it is an opening whatever its rows
+pub rowless_opening : (o : OpeningValue) (table : TableValue) → IsOpening o → IsOpening (folded_opening o table)
+rowless_opening o table is =
+    record {
+      old_plan = is.old_plan;
+      new_plan = is.new_plan;
+      parts = is.parts;
+      moves = is.moves;
+      segments = is.segments;
+      few_segments = is.few_segments;
+      some_width = is.some_width;
+      small_width = is.small_width;
+      some_limit = is.some_limit;
+      some_capacity = is.some_capacity;
+      small_capacity = is.small_capacity;
+    }
+
 module _ (o : OpeningValue) (is : IsOpening o) (g : GatheredValue) (p : IsPlaced o g) (done : IsStageDone o g) (table : TableValue) (stores : List StoreValue) (f : IsFolded o g table stores) where
   abbrev now : OpeningValue
   now = folded_opening o table
@@ -52,7 +69,7 @@ module _ (o : OpeningValue) (is : IsOpening o) (g : GatheredValue) (p : IsPlaced
   abbrev h : GatheredValue
   h = folded_gathered g stores
 
-  -- a family that stands is one that stood at its spot, folded
+  -- a family that stands is one that was at its spot, folded
   came_of : (spot : Spot) (root : ℕ) (family : FamilyValue) → StandsAt h spot root family → (was : FamilyValue) × StandsAt g spot root was × (as_folded was ≡ family)
   came_of (Store part) root family stands =
       option_and_then_some folded_family (family_at_spot g (Store part) root) family (sym (f.families part root) ∙ stands)

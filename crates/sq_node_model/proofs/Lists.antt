@@ -1,4 +1,4 @@
--- Lists that are made of others: what stands at their places, and what they contain.
+-- Lists that are made of others: what is at their places, and what they contain.
 use Rattle.std.proofs.Common.{◌≡◌, ◌⊎◌, inl, inr, ℕ, zero, suc, ◌+◌, ◌-◌, ◌<◌, Bool, true, List, [], ◌∷◌, ◌++◌, map, length, get_or, slice_get, Contains, find, Option, Some, None, refl, sym, ap, ◌∙◌, subst, true≢false, arith}
 use Rattle.std.specs.Prelude.{reverse, option_map}
 use Rattle.std.specs.List.{flat_map}
@@ -15,7 +15,7 @@ Contains-flat_map f (z ∷ xs) x y has there =
       | inr later ↦ Contains-append_right (f z) (flat_map f xs) y (Contains-flat_map f xs x y later there)
     ]
 
--- what stands at a place of a mapped list comes from what stood there
+-- what is at a place of a mapped list comes from what was there
 pub map_at : {X Y : Type 0} (f : X → Y) (xs : List X) (k : ℕ) (y : Y) → slice_get (map f xs) k ≡ Some y → (x : X) × (slice_get xs k ≡ Some x) × (f x ≡ y)
 map_at f [] k y at = absurd cc
 map_at f (x ∷ xs) zero y at = (x, refl, same_Some (f x) y at)
@@ -30,7 +30,7 @@ stands_at [] k below = absurd (omega (arith, below))
 stands_at (x ∷ xs) zero below = (x, refl)
 stands_at (x ∷ xs) (suc k) below = stands_at xs k (omega (arith, below))
 
--- what stands in one of two lists that are joined
+-- what is in one of two lists that are joined
 pub append_at : {X : Type 0} (xs ys : List X) (k : ℕ) (x : X) → slice_get (xs ++ ys) k ≡ Some x → (slice_get xs k ≡ Some x) ⊎ ((j : ℕ) × (slice_get ys j ≡ Some x))
 append_at [] ys k x at = inr (k, at)
 append_at (z ∷ xs) ys zero x at = inl at

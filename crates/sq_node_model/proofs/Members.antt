@@ -21,7 +21,7 @@ Contains-unreversed {X} xs x has = subst (λ (list : List X). Contains list x) (
 pub Contains-map : {X Y : Type 0} (f : X → Y) (xs : List X) (x : X) → Contains xs x → Contains (map f xs) (f x)
 Contains-map f xs x has = (has.0, omega (arith, has.1, length-map xs f), get_or-map f xs has.0 x ∙ ap f has.2)
 
--- where the element at a place stood before that at another place was removed
+-- where the element at a place was before that at another place was removed
 skip : ℕ → ℕ → ℕ
 skip zero j = suc j
 skip (suc i) zero = zero
@@ -49,7 +49,7 @@ removed_from (y ∷ xs) zero j x at = at
 removed_from (y ∷ xs) (suc i) zero x at = at
 removed_from (y ∷ xs) (suc i) (suc j) x at = removed_from xs i j x at
 
--- an element that stood at another place than the removed one
+-- an element that was at another place than the removed one
 pub record StoodAt {X : Type 0} (xs : List X) (i : ℕ) (x : X) : Type 0 where
   pub place : ℕ
   pub apart : place ≢ i

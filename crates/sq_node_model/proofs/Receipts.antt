@@ -59,7 +59,7 @@ module _ (o : OpeningValue) (began : BeganWith) (is : IsOpening o) (nodes : List
       let told = (gathers.holds q node at).receipts.told receipt has commit in
       none told.0 (subst (λ k. IsStoredOrCut (HasCut node) node.store k told.0) same told.1))
 
-  -- which one is that doesn't own the root key, and at which no family of it stands
+  -- which one is that doesn't own the root key, and at which it has no family
   other_silent : (q : ℕ) (node : NodeValue) (root position : ℕ) → slice_get nodes q ≡ Some node
       → (spot : Spot) (family : FamilyValue) → StandsAt g spot root family → spot ≢ Store q → owner_in o began.stage root ≢ q → times_named root position node.receipts ≡ 0
   other_silent q node root position at spot family stands elsewhere owned =

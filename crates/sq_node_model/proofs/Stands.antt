@@ -1,4 +1,4 @@
--- Which families stand at which spots: those of the nodes' stores, and those of the chunks that were cut and not loaded.
+-- Which families are at which spots: those of the nodes' stores, and those of the chunks that were cut and not loaded.
 use Rattle.std.proofs.Common.{◌≡◌, ◌⊎◌, inl, inr, ⊎_elim, ℕ, ◌+◌, List, length, slice_get, Option, Some, refl, sym, ap, ◌∙◌, subst}
 use Rattle.std.specs.Prelude.{option_and_then}
 use Rattle.std.specs.FinMap.{get}

@@ -22,7 +22,7 @@ use Rattle.sq_node_model.specs.Spots.{gathered_status}
 use Rattle.sq_node_model.proofs.Trees.{grown_tree, begun_stands}
 use Rattle.sq_node_model.proofs.Lists.{Contains-flat_map}
 
--- a node that is counted with its pull stands in the list
+-- a node that is counted with its pull is in the list
 counted_in : (n pull : ℕ) (entries : List (ℕ × ℕ)) → 0 < times_with n pull entries → Contains entries (n, pull)
 counted_in n pull [] some_times = absurd (omega (arith, some_times))
 counted_in n pull (e ∷ es) some_times =

@@ -47,7 +47,7 @@ grown_tree statuses views tree = record {
         ap (λ b. b || is_split (status_at statuses (parent (suc (suc n))))) (ne_eqb (suc (suc n)) 1 (λ e. omega (arith, e)))
         ∙ ap is_split (tree.shape.above (suc (suc n)) (omega arith) (not_free (status_at statuses (suc (suc n))) touched))
 
--- a node that stands in a list with its pull is counted
+-- a node that is in a list with its pull is counted
 times-Contains : (n pull : ℕ) (entries : List (ℕ × ℕ)) → Contains entries (n, pull) → 0 < times_with n pull entries
 times-Contains n pull [] has = absurd (Contains-nothing (n, pull) has)
 times-Contains n pull (e ∷ es) has =

@@ -25,7 +25,7 @@ pub record IsLeft (works left : List WorkValue) (work : WorkValue) (end : ℕ) :
   pub once : NoneTwice left
 
 module _ (works : List WorkValue) (i end : ℕ) (work : WorkValue) (there : slice_get works i ≡ Some work) (once : NoneTwice works) where
-  -- what stands elsewhere is on another node
+  -- what is elsewhere is on another node
   other_node : (other : WorkValue) → StoodAt works i other → is_work_on work.seg work.node other ≡ false
   other_node other stood =
       elim (cases_Bool (is_work_on work.seg work.node other)) [
@@ -35,7 +35,7 @@ module _ (works : List WorkValue) (i end : ℕ) (work : WorkValue) (there : slic
         | inr off ↦ off
       ]
 
-  -- and what is on another node stands elsewhere
+  -- and what is on another node is elsewhere
   elsewhere : (other : WorkValue) → is_work_on work.seg work.node other ≡ false → (j : ℕ) → slice_get works j ≡ Some other → j ≢ i
   elsewhere other off j at =
       λ same.
@@ -69,7 +69,7 @@ module _ (works : List WorkValue) (i end : ℕ) (work : WorkValue) (there : slic
     once = one_each;
   }
     where
-      -- what stands at a place now stood there with the same node
+      -- what is at a place now was there with the same node
       before : (j : ℕ) (now : WorkValue) → slice_get going_on j ≡ Some now → (was : WorkValue) × (slice_get works j ≡ Some was) × (was.seg ≡ now.seg) × (was.node ≡ now.node)
       before j now at =
           ⊎_elim

@@ -2,31 +2,73 @@
 use Rattle.std.specs.Prelude.{◌≡◌, ℕ, true, [], ◌∷◌, ◌++◌, slice_get, Some, None}
 use Rattle.sq_schema.specs.TxnValue.{TxnValue}
 use Rattle.sq_tree.specs.declared.status.Status.{Status}
+use Rattle.sq_tree.specs.declared.status.Status.TheVariants.{Partial}
+use Rattle.sq_tree.specs.Node.{is_node}
+use Rattle.sq_chunk.specs.declared.chunk.Note.{Note}
 use Rattle.sq_chunk.specs.ChunkValue.{ChunkValue}
 use Rattle.sq_ranges.specs.declared.recon.Range.{Range}
 use Rattle.sq_ranges.specs.OpeningValue.{OpeningValue}
+use Rattle.sq_ranges.specs.Opening.{IsOpening}
+use Rattle.sq_store.specs.StoreValue.{StoreValue}
 use Rattle.sq_exec.specs.declared.outcome.Outcome.{Outcome}
 use Rattle.sq_exec.specs.CoreValue.{CoreValue, out_at, with_out, with_inbox}
 use Rattle.sq_exec.specs.Work.{WorkValue}
-use Rattle.sq_exec.specs.Moving.{whole_node, begun_core}
+use Rattle.sq_exec.specs.Moving.{LoadsFrom, whole_node, begun_core}
 use Rattle.sq_status.specs.declared.view.View.{View}
 use Rattle.sq_status.specs.Plays.{Won}
-use Rattle.sq_node_model.specs.NodeValue.{NodeAtWork, node_of, put}
-use Rattle.sq_node_model.specs.Steps.{receipts_after}
+use Rattle.sq_node_model.specs.NodeValue.{NodeValue, NodeAtWork, node_of, put}
+use Rattle.sq_node_model.specs.Steps.{node_begun, node_loaded, node_served, receipts_after}
 use Rattle.sq_node_model.specs.Stages.{runs_in}
 use Rattle.sq_node_model.specs.BeganWith.{BeganWith}
 use Rattle.sq_node_model.specs.NodeHolds.{NodeHolds}
-use Rattle.sq_node_model.specs.Cores.{IsUnused}
+use Rattle.sq_node_model.specs.Cores.{staged_core, IsCoreOf, IsLoadable, HasNoneToLoad, IsUnused}
 
 -- all that a node keeps holds of this one
 abbrev pub AllHolds : OpeningValue → BeganWith → NodeAtWork → Type 0
 AllHolds o began node = NodeHolds o began (node_of node)
+
+-- what a node keeps holds of it after a step where it did before
+abbrev pub Keeps : OpeningValue → BeganWith → NodeAtWork → NodeAtWork → Type 0
+Keeps o began node after = AllHolds o began node → AllHolds o began after
+
+-- so it does under each opening and each beginning of a stage
+abbrev pub KeepsAlways : NodeAtWork → NodeAtWork → Type 0
+KeepsAlways node after = (o : OpeningValue) (began : BeganWith) → Keeps o began node after
+
+-- so it does under each opening and each beginning of a stage that the partition of the node is in
+abbrev pub KeepsInStage : NodeAtWork → NodeAtWork → Type 0
+KeepsInStage node after =
+    (o : OpeningValue) (began : BeganWith) → IsOpening o → IsCoreOf o began.stage node.core → Keeps o began node after
+
+-- so it does where keys come to the partition from that one in the stage
+abbrev pub KeepsAsReceiver : ℕ → NodeAtWork → NodeAtWork → Type 0
+KeepsAsReceiver src node after =
+    (o : OpeningValue) (began : BeganWith) → IsOpening o → IsCoreOf o began.stage node.core
+    → runs_in o began.stage src node.core.part ≡ true → Keeps o began node after
+
+-- under each opening, and each beginning of a stage, under which all holds of the node: it has nothing to load from the partition
+abbrev pub HasNoneToLoadFrom : ℕ → NodeAtWork → Type 0
+HasNoneToLoadFrom src node =
+    (o : OpeningValue) (began : BeganWith) → IsOpening o → IsCoreOf o began.stage node.core → AllHolds o began node
+    → HasNoneToLoad o began.stage (node_of node) src
+
+-- the partition of the node loaded a chunk that can be loaded, which came from that one
+pub record LoadsOne (node : NodeAtWork) (src : ℕ) (new : CoreValue) : Type 0 where
+  pub note : Note
+  pub step : LoadsFrom node.core src note new
+  pub loadable : IsLoadable node.core src step.chunk
 
 -- the node has this partition, and its thread did nothing yet
 pub record IsFreshWith (core : CoreValue) (node : NodeAtWork) : Type 0 where
   pub partition : node.core ≡ core
   pub unused : IsUnused node.views node.sent node.received
   pub receipts : node.receipts ≡ []
+
+-- all that a node keeps holds of each node of a partition that opens with this store as the stage begins, and whose thread did
+-- nothing yet
+abbrev pub NewNodesHold : OpeningValue → BeganWith → ℕ → StoreValue → Type 0
+NewNodesHold o began part store =
+    (node : NodeAtWork) → IsFreshWith (staged_core o began.stage part store) node → AllHolds o began node
 
 -- the node with the partition in this state
 abbrev pub with_partition : NodeAtWork → CoreValue → NodeAtWork
@@ -69,6 +111,24 @@ once_begun node word = record node {
   views = put word.seg word.view node.views;
 }
 
+-- the value of the node after that: its partition gave up the keys of the tree node, which is to be sent where the segment goes
+abbrev pub begun_value : NodeAtWork → WonWord → Range → NodeValue
+begun_value node word segment = node_begun (node_of node) segment.dst (work_won node word segment)
+
+-- the seat of a node, whose partition is in this stage, won the word for a tree node of this segment
+pub record WinsBegin (o : OpeningValue) (i : ℕ) (node : NodeAtWork) (word : WonWord) (segment : Range) : Type 0 where
+  pub core : IsCoreOf o i node.core
+  pub there : slice_get o.recon.segments word.seg ≡ Some segment
+  pub won : WinsAs Partial node word
+
+-- so it did, for a segment that moves out of the partition in this stage
+pub record WinsBeginOutward (o : OpeningValue) (i : ℕ) (node : NodeAtWork) (word : WonWord) : Type 0 where
+  pub core : IsCoreOf o i node.core
+  pub segment : Range
+  pub moves : MovesOut o i node.core.part word.seg segment
+  pub one : is_node word.node ≡ true
+  pub won : WinsAs Partial node word
+
 -- the node once the chunk of an outbox went onto its link
 abbrev pub once_sent : NodeAtWork → ℕ → ChunkValue → NodeAtWork
 once_sent node dst chunk = record node {
@@ -93,3 +153,11 @@ once_served node core txn outcome = record node {
   core = core;
   receipts = receipts_after node.core.store txn outcome node.receipts;
 }
+
+-- this is the step of a node that loads a chunk which came from the partition
+abbrev pub LoadsAs : NodeAtWork → CoreValue → ℕ → ChunkValue → Type 0
+LoadsAs node new src chunk = node_of (with_partition node new) ≡ node_loaded (node_of node) src chunk
+
+-- this is the step of a node that serves a transaction so
+abbrev pub ServesAs : NodeAtWork → CoreValue → TxnValue → Outcome → Type 0
+ServesAs node core txn outcome = node_of (once_served node core txn outcome) ≡ node_served (node_of node) txn outcome

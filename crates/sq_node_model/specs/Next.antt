@@ -5,11 +5,13 @@ use Rattle.sq_tree.specs.Reading.{is_complete_reading}
 use Rattle.sq_ranges.specs.declared.recon.Range.{Range}
 use Rattle.sq_ranges.specs.ReconValue.{stage_in, stages}
 use Rattle.sq_ranges.specs.OpeningValue.{OpeningValue}
+use Rattle.sq_ranges.specs.Opening.{IsOpening}
 use Rattle.sq_model.specs.Staged.{owner_in}
 use Rattle.sq_node_model.specs.BeganWith.{BeganWith}
 use Rattle.sq_node_model.specs.declared.spot.Spot.TheVariants.{Store}
 use Rattle.sq_node_model.specs.Gathered.{GatheredValue}
 use Rattle.sq_node_model.specs.Spots.{gathered_status, family_at_spot}
+use Rattle.sq_node_model.specs.Placed.{IsPlaced}
 
 -- the segment is complete: its node 1 reads complete
 abbrev pub is_whole_in : GatheredValue → ℕ → Bool
@@ -20,6 +22,12 @@ abbrev pub IsStageDone : OpeningValue → GatheredValue → Type 0
 IsStageDone o g =
     (seg : ℕ) (segment : Range) → slice_get o.recon.segments seg ≡ Some segment → stage_in o.recon segment ≡ g.stage
     → is_whole_in g seg ≡ true
+
+-- a stage of this opening's move is over: what was gathered of it is placed, and its segments are complete
+pub record IsStageOver (o : OpeningValue) (g : GatheredValue) : Type 0 where
+  pub opening : IsOpening o
+  pub placed : IsPlaced o g
+  pub done : IsStageDone o g
 
 -- the next stage begins with the families where they are now, and with all receipts so far
 abbrev pub next_began : OpeningValue → GatheredValue → BeganWith

@@ -1,14 +1,13 @@
 // What holds of all that is gathered, whatever the threads did.
-ghost use Rattle.std.specs.Prelude.{◌≡◌, ℕ, ◌+◌, List, slice_get, Some, Contains};
+ghost use Rattle.std.specs.Prelude.{◌≡◌, ℕ, List, [], slice_get, Some};
 ghost use Rattle.sq_store.specs.Prelude.{StoreValue};
-ghost use Rattle.sq_chunk.specs.ChunkValue.{ChunkValue};
 ghost use Rattle.sq_ranges.specs.Prelude.{OpeningValue, IsOpening};
-ghost use Rattle.sq_node_model.specs.NodeValue.{NodeAtWork, NodeValue};
-ghost use Rattle.sq_node_model.specs.Cores.{staged_core, OpensWith};
-ghost use Rattle.sq_node_model.specs.AtWork.{AllHolds, IsFreshWith};
+ghost use Rattle.sq_node_model.specs.NodeValue.{NodeValue};
+ghost use Rattle.sq_node_model.specs.Cores.{OpensWith};
+ghost use Rattle.sq_node_model.specs.AtWork.{NewNodesHold};
 ghost use Rattle.sq_schema.specs.Prelude.{TableValue};
 ghost use Rattle.sq_node_model.specs.Folded.{folded_opening, folded_gathered, IsFolded};
-ghost use Rattle.sq_node_model.specs.Next.{IsStageDone, IsNextMove, next_began, onward_began};
+ghost use Rattle.sq_node_model.specs.Next.{IsStageDone, IsStageOver, IsNextMove, next_began, onward_began};
 ghost use Rattle.sq_node_model.specs.BeganWith.{BeganWith, CanBegin};
 ghost use Rattle.sq_node_model.specs.Gathered.{GatheredLink, GatheredValue, Gathers};
 ghost use Rattle.sq_node_model.specs.Placed.{IsPlaced, GoOn};
@@ -25,47 +24,38 @@ pub fn what_is_gathered_is_placed()
         → IsOpening o → CanBegin o began → Gathers o began nodes g → GoOn began g }
 {}
 
-/// Where what was gathered is placed and the segments of its stage are complete, the next stage can begin with it: the nodes
-/// that open with its stores, and whose threads did nothing yet, hold.
+/// Where a stage is over, the next one can begin with what was gathered: the nodes that open with its stores, and whose
+/// threads did nothing yet, hold.
 pub fn the_next_stage_begins()
     ensures can { (o : OpeningValue) (g : GatheredValue)
-        → IsOpening o → IsPlaced o g → IsStageDone o g → CanBegin o (next_began o g) }
+        → IsStageOver o g → CanBegin o (next_began o g) }
     ensures holds { (o : OpeningValue) (g : GatheredValue) (q : ℕ) (store : StoreValue)
-        (node : NodeAtWork)
-        → IsOpening o → IsPlaced o g → IsStageDone o g → slice_get g.stores q ≡ Some store
-        → IsFreshWith (staged_core o (g.stage + 1) q store) node
-        → AllHolds o (next_began o g) node }
+        → IsStageOver o g → slice_get g.stores q ≡ Some store
+        → NewNodesHold o (next_began o g) q store }
 {}
 
-/// Where what was gathered of the last stage of a move is placed, and its segments are complete, a move that follows can begin
-/// with it: each partition opens with its store.
+/// Where the last stage of a move is over, a move that follows can begin with what was gathered: each partition opens with
+/// its store.
 pub fn the_next_move_begins()
-    ensures can { (o next : OpeningValue) (g : GatheredValue) → IsOpening o → IsPlaced o g
-        → IsStageDone o g
-        → IsNextMove o g next → CanBegin next (onward_began o g) }
+    ensures can { (o next : OpeningValue) (g : GatheredValue)
+        → IsStageOver o g → IsNextMove o g next → CanBegin next (onward_began o g) }
     ensures opens { (o next : OpeningValue) (g : GatheredValue) (q : ℕ) (store : StoreValue)
-        → IsOpening o → IsPlaced o g
-        → IsStageDone o g → IsNextMove o g next → slice_get g.stores q ≡ Some store
+        → IsStageOver o g → IsNextMove o g next → slice_get g.stores q ≡ Some store
         → OpensWith next (onward_began o g) q store }
 {}
 
-/// What was gathered of a stage whose segments are complete is placed again, with its segments complete, once the logs of
-/// its families are folded: with an opening whose table is their rows, and without receipts.
+/// What was gathered of a stage that is over is so again once the logs of its families are folded: it is placed, with its
+/// segments complete, under an opening whose table is their rows, and without receipts.
 pub fn what_is_folded_is_placed()
-    ensures placed { (o : OpeningValue) (g : GatheredValue) (table : TableValue)
+    ensures { (o : OpeningValue) (g : GatheredValue) (table : TableValue)
         (stores : List StoreValue)
-        → IsOpening o → IsPlaced o g → IsStageDone o g → IsFolded o g table stores
-        → IsPlaced (folded_opening o table) (folded_gathered g stores) }
-    ensures done { (o : OpeningValue) (g : GatheredValue) (table : TableValue)
-        (stores : List StoreValue)
-        → IsOpening o → IsPlaced o g → IsStageDone o g → IsFolded o g table stores
-        → IsStageDone (folded_opening o table) (folded_gathered g stores) }
+        → IsStageOver o g → IsFolded o g table stores
+        → IsStageOver (folded_opening o table) (folded_gathered g stores) }
 {}
 
 /// Where what was gathered is placed and the segments of its stage are complete, no chunk is under way.
 pub fn nothing_is_under_way()
     ensures { (o : OpeningValue) (g : GatheredValue) (i : ℕ) (link : GatheredLink)
-        (chunk : ChunkValue)
         → IsPlaced o g → IsStageDone o g → slice_get g.links i ≡ Some link
-        → Contains link.under_way chunk → ⊥ }
+        → link.under_way ≡ [] }
 {}

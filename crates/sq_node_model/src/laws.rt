@@ -1,11 +1,11 @@
 // What each step of a node does to it, and that it keeps what holds of the node.
-ghost use Rattle.std.specs.Prelude.{◌≡◌, ◌<◌, ℕ, Bool, List, length, true, false, slice_get, Some, None, IfSome, Contains};
+ghost use Rattle.std.specs.Prelude.{◌≡◌, ◌<◌, ℕ, Bool, List, length, true, false, Some, None, IfSome, Contains};
 ghost use mathlib.Core.Option.{some};
 ghost use lib.ListN.{get_elem?};
 ghost use Rattle.sq_schema.specs.Prelude.{TxnValue};
 ghost use Rattle.sq_tree.specs.declared.status.Status.{Status};
 ghost use Rattle.sq_tree.specs.declared.status.Status.TheVariants.{Partial, Complete};
-ghost use Rattle.sq_tree.specs.Prelude.{is_node, is_begun, status_at, IsGrown};
+ghost use Rattle.sq_tree.specs.Prelude.{is_begun, status_at, IsGrown};
 ghost use Rattle.sq_store.specs.Prelude.{StoreValue};
 ghost use Rattle.sq_chunk.specs.declared.chunk.Note.{Note};
 ghost use Rattle.sq_chunk.specs.ChunkValue.{ChunkValue, IsChunk};
@@ -13,17 +13,17 @@ ghost use Rattle.sq_ranges.specs.declared.recon.Range.{Range};
 ghost use Rattle.sq_ranges.specs.Prelude.{OpeningValue, IsOpening};
 ghost use Rattle.sq_exec.specs.declared.outcome.Outcome.{Outcome};
 ghost use Rattle.sq_exec.specs.declared.outcome.Resumed.{Resumed};
-ghost use Rattle.sq_exec.specs.Prelude.{is_whole, CoreValue, out_at, inbox_at, loaded_at, may_load, CutsFor, LoadsFrom, IsTaken, IsResumed};
+ghost use Rattle.sq_exec.specs.Prelude.{CoreValue, is_whole, out_at, inbox_at, loaded_at, may_load, CutsFor, IsTaken, IsResumed};
 ghost use Rattle.sq_status.specs.declared.view.View.{View};
 ghost use Rattle.sq_status.specs.Rule.{IsTreeOf};
 ghost use Rattle.sq_status.specs.Plays.{Won};
 ghost use Rattle.sq_node_model.specs.NodeValue.{NodeAtWork, node_of};
-ghost use Rattle.sq_node_model.specs.Steps.{node_begun, node_cut, node_sent, node_received, node_loaded, node_completed, node_served};
-ghost use Rattle.sq_node_model.specs.Stages.{runs_in};
+ghost use Rattle.sq_node_model.specs.Steps.{node_cut, node_sent, node_received, node_completed};
 ghost use Rattle.sq_node_model.specs.BeganWith.{BeganWith, CanBegin, first_began};
 ghost use Rattle.sq_node_model.specs.BegunHolds.{IsBegunOver};
-ghost use Rattle.sq_node_model.specs.Cores.{staged_core, IsCoreOf, OpensWith, IsLoadable, HasNoneToLoad};
-ghost use Rattle.sq_node_model.specs.AtWork.{AllHolds, IsFreshWith, with_partition, with_views, DidNoMore, WonWord, WinsAs, MovesOut, work_won};
+ghost use Rattle.sq_node_model.specs.Cores.{IsCoreOf, OpensWith};
+ghost use Rattle.sq_node_model.specs.AtWork.{Keeps, KeepsAlways, KeepsInStage, KeepsAsReceiver, NewNodesHold, HasNoneToLoadFrom, LoadsOne, LoadsAs, ServesAs};
+ghost use Rattle.sq_node_model.specs.AtWork.{with_partition, with_views, DidNoMore, WonWord, WinsAs, WinsBegin, WinsBeginOutward, begun_value};
 ghost use Rattle.sq_node_model.specs.AtWork.{once_begun, once_sent, once_received, once_completed, once_served};
 
 /// The families of the opening rows are what a stage may begin with.
@@ -35,33 +35,25 @@ pub fn an_opening_can_begin()
 /// a node that keeps all of it.
 pub fn a_new_node_holds()
     ensures { (o : OpeningValue) (began : BeganWith) (part : ℕ) (store : StoreValue)
-        (node : NodeAtWork)
         → part < o.old.parts → CanBegin o began → OpensWith o began part store
-        → IsFreshWith (staged_core o began.stage part store) node
-        → AllHolds o began node }
+        → NewNodesHold o began part store }
 {}
 
 /// Looks, splits and claims change nothing of a node.
 pub fn a_look_keeps_a_node()
-    ensures { (o : OpeningValue) (began : BeganWith) (node : NodeAtWork) (now : ℕ → View)
-        → DidNoMore node.views now
-        → AllHolds o began node → AllHolds o began (with_views node now) }
+    ensures { (node : NodeAtWork) (now : ℕ → View)
+        → DidNoMore node.views now → KeepsAlways node (with_views node now) }
 {}
 
 /// A node begins a node of a segment's tree that leaves it where its seat won the word and its partition gives the keys
 /// up: what holds of it holds still.
 pub fn a_begin_keeps_a_node()
     ensures step { (o : OpeningValue) (i : ℕ) (node : NodeAtWork) (word : WonWord) (segment : Range)
-        → IsOpening o → IsCoreOf o i node.core → slice_get o.recon.segments word.seg ≡ Some segment
-        → WinsAs Partial node word
-        → node_of (once_begun node word)
-        ≡ node_begun (node_of node) segment.dst (work_won node word segment) }
+        → IsOpening o → WinsBegin o i node word segment
+        → node_of (once_begun node word) ≡ begun_value node word segment }
     ensures keeps { (o : OpeningValue) (began : BeganWith) (node : NodeAtWork) (word : WonWord)
-        (segment : Range)
-        → IsOpening o → IsCoreOf o began.stage node.core
-        → MovesOut o began.stage node.core.part word.seg segment
-        → is_node word.node ≡ true → WinsAs Partial node word
-        → AllHolds o began node → AllHolds o began (once_begun node word) }
+        → IsOpening o → WinsBeginOutward o began.stage node word
+        → Keeps o began node (once_begun node word) }
 {}
 
 /// So it does where it cuts a chunk.
@@ -72,7 +64,7 @@ pub fn a_cut_keeps_a_node()
     ensures keeps { (o : OpeningValue) (began : BeganWith) (node : NodeAtWork) (new : CoreValue)
         (dst : ℕ) (note : Note)
         → IsOpening o → CutsFor node.core dst note new
-        → AllHolds o began node → AllHolds o began (with_partition node new) }
+        → Keeps o began node (with_partition node new) }
 {}
 
 /// So it does where it sends the chunk of an outbox.
@@ -80,10 +72,9 @@ pub fn a_send_keeps_a_node()
     ensures step { (node : NodeAtWork) (dst : ℕ) (chunk : ChunkValue)
         → (out_at node.core dst).outbox ≡ Some chunk
         → node_of (once_sent node dst chunk) ≡ node_sent (node_of node) dst chunk }
-    ensures keeps { (o : OpeningValue) (began : BeganWith) (node : NodeAtWork) (dst : ℕ)
-        (chunk : ChunkValue)
+    ensures keeps { (node : NodeAtWork) (dst : ℕ) (chunk : ChunkValue)
         → (out_at node.core dst).outbox ≡ Some chunk
-        → AllHolds o began node → AllHolds o began (once_sent node dst chunk) }
+        → KeepsAlways node (once_sent node dst chunk) }
 {}
 
 /// So it does where it receives a chunk into an empty inbox, whatever chunk it is.
@@ -91,25 +82,18 @@ pub fn a_receive_keeps_a_node()
     ensures step { (node : NodeAtWork) (src : ℕ) (chunk : ChunkValue)
         → src < length node.core.inboxes
         → node_of (once_received node src chunk) ≡ node_received (node_of node) src chunk }
-    ensures keeps { (o : OpeningValue) (began : BeganWith) (node : NodeAtWork) (src : ℕ)
-        (chunk : ChunkValue)
+    ensures keeps { (node : NodeAtWork) (src : ℕ) (chunk : ChunkValue)
         → src < length node.core.inboxes → inbox_at node.core src ≡ None
-        → AllHolds o began node → AllHolds o began (once_received node src chunk) }
+        → KeepsAlways node (once_received node src chunk) }
 {}
 
 /// So it does where it loads a chunk that can be loaded.
 pub fn a_load_keeps_a_node()
     ensures step { (o : OpeningValue) (i : ℕ) (node : NodeAtWork) (new : CoreValue) (src : ℕ)
-        (note : Note)
-        → IsCoreOf o i node.core → (loads : LoadsFrom node.core src note new)
-        → IsLoadable node.core src loads.chunk
-        → node_of (with_partition node new) ≡ node_loaded (node_of node) src loads.chunk }
-    ensures keeps { (o : OpeningValue) (began : BeganWith) (node : NodeAtWork) (new : CoreValue)
-        (src : ℕ) (note : Note)
-        → IsOpening o → IsCoreOf o began.stage node.core
-        → (loads : LoadsFrom node.core src note new) → IsLoadable node.core src loads.chunk
-        → runs_in o began.stage src node.core.part ≡ true
-        → AllHolds o began node → AllHolds o began (with_partition node new) }
+        → IsCoreOf o i node.core → (loads : LoadsOne node src new)
+        → LoadsAs node new src loads.step.chunk }
+    ensures keeps { (node : NodeAtWork) (new : CoreValue) (src : ℕ)
+        → LoadsOne node src new → KeepsAsReceiver src node (with_partition node new) }
 {}
 
 /// So it does where it completes a tree node whose last chunk it loaded.
@@ -118,42 +102,37 @@ pub fn a_complete_keeps_a_node()
         → WinsAs Complete node word
         → node_of (once_completed node word)
         ≡ node_completed (node_of node) word.seg word.node word.pull }
-    ensures keeps { (o : OpeningValue) (began : BeganWith) (node : NodeAtWork) (word : WonWord)
+    ensures keeps { (node : NodeAtWork) (word : WonWord)
         → is_whole (loaded_at node.core word.seg) word.node ≡ true → WinsAs Complete node word
-        → AllHolds o began node → AllHolds o began (once_completed node word) }
+        → KeepsAlways node (once_completed node word) }
 {}
 
 /// So it does where it takes a transaction: one that runs has its receipt, and one that waits or is sent on has none.
 pub fn a_submit_keeps_a_node()
     ensures step { (node : NodeAtWork) (new : CoreValue) (waits : Bool) (txn : TxnValue)
         (outcome : Outcome)
+        → IsTaken waits node.core txn outcome new → ServesAs node new txn outcome }
+    ensures keeps { (node : NodeAtWork) (new : CoreValue) (waits : Bool) (txn : TxnValue)
+        (outcome : Outcome)
         → IsTaken waits node.core txn outcome new
-        → node_of (once_served node new txn outcome) ≡ node_served (node_of node) txn outcome }
-    ensures keeps { (o : OpeningValue) (began : BeganWith) (node : NodeAtWork) (new : CoreValue)
-        (waits : Bool) (txn : TxnValue) (outcome : Outcome)
-        → IsOpening o → IsCoreOf o began.stage node.core → IsTaken waits node.core txn outcome new
-        → AllHolds o began node → AllHolds o began (once_served node new txn outcome) }
+        → KeepsInStage node (once_served node new txn outcome) }
 {}
 
 /// So it does where it resumes one that waited.
 pub fn a_resume_keeps_a_node()
     ensures step { (node : NodeAtWork) (new : CoreValue) (resumed : Resumed)
         → IsResumed node.core resumed new
-        → node_of (once_served node new resumed.txn resumed.outcome)
-        ≡ node_served (node_of node) resumed.txn resumed.outcome }
-    ensures keeps { (o : OpeningValue) (began : BeganWith) (node : NodeAtWork) (new : CoreValue)
-        (resumed : Resumed)
-        → IsOpening o → IsCoreOf o began.stage node.core → IsResumed node.core resumed new
-        → AllHolds o began node → AllHolds o began
-        (once_served node new resumed.txn resumed.outcome) }
+        → ServesAs node new resumed.txn resumed.outcome }
+    ensures keeps { (node : NodeAtWork) (new : CoreValue) (resumed : Resumed)
+        → IsResumed node.core resumed new
+        → KeepsInStage node (once_served node new resumed.txn resumed.outcome) }
 {}
 
 /// A chunk that came and belongs here can be loaded, unless it covers a root key that was loaded.
 pub fn what_belongs_here_can_be_loaded()
-    ensures { (o : OpeningValue) (began : BeganWith) (node : NodeAtWork) (src : ℕ)
-        → IsOpening o → IsCoreOf o began.stage node.core → AllHolds o began node
+    ensures { (node : NodeAtWork) (src : ℕ)
         → IfSome (inbox_at node.core src) IsChunk → may_load node.core src ≡ false
-        → HasNoneToLoad o began.stage (node_of node) src }
+        → HasNoneToLoadFrom src node }
 {}
 
 /// A tree that threads share is one that splits and claims lead to from a free one.
@@ -164,8 +143,8 @@ pub fn seats_grow_a_tree()
 
 /// What a seat began is begun, and no seat begins a tree node that it began before.
 pub fn a_seat_begins_once()
-    ensures begun { (statuses : List Status) (views : List View) (seat : ℕ) (v : View) (n pull : ℕ)
-        → IsTreeOf statuses views → get_elem? views seat ≡ some v
+    ensures begun { (statuses : List Status) (views : List View) (v : View) (at n pull : ℕ)
+        → IsTreeOf statuses views → get_elem? views at ≡ some v
         → Contains v.begun (n, pull) → is_begun (status_at statuses n) ≡ true }
     ensures once { (v w : View) (n pull other : ℕ) → Won v n (Partial pull) w
         → Contains v.begun (n, other) → ⊥ }

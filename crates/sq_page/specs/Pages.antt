@@ -15,7 +15,7 @@ use Rattle.sq_node_model.specs.declared.spot.Spot.TheVariants.{Chunk}
 use Rattle.sq_node_model.specs.Gathered.{GatheredValue}
 use Rattle.sq_node_model.specs.Spots.{StandsAt}
 use Rattle.sq_node_model.specs.Placed.{IsPlaced, AllStand, KeepBases}
-use Rattle.sq_node_model.specs.Next.{IsStageDone}
+use Rattle.sq_node_model.specs.Next.{IsStageDone, IsStageOver}
 use Rattle.sq_node_model.specs.Folded.{folded_opening, folded_gathered}
 use Rattle.sq_audit.specs.declared.job.Job.{Job}
 use Rattle.sq_audit.specs.declared.verdict.Defect.TheVariants.{ReceiptUnknown}
@@ -57,6 +57,11 @@ pub record IsPageOf (g page : GatheredValue) : Type 0 where
 pub record IsPlanAfter (o : OpeningValue) (g : GatheredValue) (plan : PlanValue) : Type 0 where
   pub parts : plan.parts ≡ o.old.parts
   pub owners : (root : ℕ) → owner plan root ≡ owner_in o (g.stage + 1) root
+
+-- the stage of the run is over, and led to this plan
+pub record HasLedTo (o : OpeningValue) (g : GatheredValue) (plan : PlanValue) : Type 0 where
+  pub over : IsStageOver o g
+  pub after : IsPlanAfter o g plan
 
 -- the opening of a page: this is its plan before and after, so that nothing moves, and its rows are the
 -- bases of the page's families

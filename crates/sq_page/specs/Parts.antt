@@ -1,5 +1,5 @@
 -- A run, or a page of one, in parts, each of which is audited on its own.
-use Rattle.std.specs.Prelude.{◌≡◌, ◌<◌, ◌≤◌, ℕ, Bool, true, List, filter}
+use Rattle.std.specs.Prelude.{◌≡◌, ◌<◌, ◌≤◌, ◌==◌, ℕ, Bool, true, List, length, filter}
 use Rattle.sq_schema.specs.Family.{FamilyValue}
 use Rattle.sq_ranges.specs.OpeningValue.{OpeningValue}
 use Rattle.sq_node_model.specs.declared.spot.Spot.{Spot}
@@ -11,7 +11,7 @@ use Rattle.sq_audit.specs.declared.verdict.Defect.{Defect}
 use Rattle.sq_audit.specs.declared.verdict.Verdict.{Verdict}
 use Rattle.sq_audit.specs.declared.verdict.Verdict.TheVariants.{Sound, Unsound}
 use Rattle.sq_audit.specs.Defects.{defect_number, IsVerdict}
-use Rattle.sq_page.specs.Pages.{StandIn, NamedStandIn}
+use Rattle.sq_page.specs.Pages.{IsStill, StandIn, NamedStandIn}
 
 -- the part has families of root keys that pass a test alone
 abbrev pub AreOurs : (ℕ → Bool) → GatheredValue → Type 0
@@ -24,6 +24,11 @@ pub record IsPartOf (ours : ℕ → Bool) (g part : GatheredValue) : Type 0 wher
   pub own : AreOurs ours part
   pub taken : StandIn part g
   pub named : NamedStandIn part.receipts g part
+
+-- so it is, and nothing moves on it
+pub record IsStillPartOf (ours : ℕ → Bool) (g part : GatheredValue) : Type 0 where
+  pub of : IsPartOf ours g part
+  pub still : IsStill (length g.stores) part
 
 -- the jobs of the root keys that pass a test
 abbrev pub jobs_of : (ℕ → Bool) → List Job → List Job
@@ -46,3 +51,15 @@ pub record IsLeastDefect (count : ℕ) (verdicts : ℕ → Verdict) (defect : De
 abbrev pub IsLeastVerdict : ℕ → (ℕ → Verdict) → Verdict → Type 0
 IsLeastVerdict count verdicts Sound = (n : ℕ) → n < count → verdicts n ≡ Sound
 IsLeastVerdict count verdicts (Unsound defect) = IsLeastDefect count verdicts defect
+
+-- the run is in so many parts, and each root key belongs to one of them; each part was judged on its own, with the jobs of its root
+-- keys; and this is the least of these verdicts
+pub record IsLeastOnParts (g : GatheredValue) (jobs : List Job) (verdict : Verdict) : Type 0 where
+  pub count : ℕ
+  pub part_of : ℕ → ℕ
+  pub part : ℕ → GatheredValue
+  pub verdicts : ℕ → Verdict
+  pub within : (root : ℕ) → part_of root < count
+  pub parts : (n : ℕ) → n < count → IsPartOf (λ root. part_of root == n) g (part n)
+  pub judged : (n : ℕ) → n < count → IsJudged (part n) (jobs_of (λ root. part_of root == n) jobs) (verdicts n)
+  pub least : IsLeastVerdict count verdicts verdict

@@ -3,7 +3,7 @@ ghost use Rattle.std.specs.Prelude.{◌≡◌, ℕ, ◌≤◌, [], IfOk, OnOk};
 ghost use Rattle.std.specs.FinMap.{get};
 ghost use Rattle.sq_schema.specs.declared.root.TheConstants.{ROOT_END};
 ghost use Rattle.sq_schema.specs.Prelude.{rows_in};
-ghost use Rattle.sq_ranges.specs.Prelude.{IsOpening};
+ghost use Rattle.sq_ranges.specs.Prelude.{IsSetUp};
 ghost use Rattle.sq_page.specs.Bases.{base_or, base_beside, bases_among, IsOpeningOfBases};
 
 use sq_plan::Plan;
@@ -25,7 +25,7 @@ pub(crate) fn opening_of_bases(
 {
     let opening = at_rest(alloc, schema, plan, config)?;
     match bases(alloc, stores) {
-        Ok(table) => Ok(with_bases(opening, table)),
+        Ok(table) => Ok(opening.with_table(table)),
         Err(_) => Err(OpeningFault::Memory),
     }
 }
@@ -39,6 +39,7 @@ fn at_rest(
 ) -> Result<Opening, OpeningFault>
     ensures old { IfOk result (λ rest. rest.old ≡ plan.now) }
     ensures new { IfOk result (λ rest. rest.new ≡ plan.now) }
+    ensures set_up { IfOk result IsSetUp }
 {
     let Ok(old) = plan.clone() else {
         return Err(OpeningFault::Memory);
@@ -50,17 +51,6 @@ fn at_rest(
         Ok(opening) => Ok(opening),
         Err(refused) => Err(refused.fault),
     }
-}
-
-fn with_bases(opening: Opening, table: Table) -> Opening
-    requires { (root : ℕ) → ROOT_END ≤ root → rows_in table root ≡ [] }
-    ensures opening { result ≡ record opening { table = table } }
-    ensures set_up { IsOpening result }
-{
-    let opening = opening.with_table(table);
-    // For the proof alone: the opening is set up.
-    let _recon = opening.recon();
-    opening
 }
 
 // The table of the bases of the families of stores.

@@ -22,6 +22,10 @@ each_longer [] more = []
 each_longer (list ∷ lists) [] = list ∷ lists
 each_longer (list ∷ lists) (rest ∷ more) = (list ++ rest) ∷ each_longer lists more
 
+-- the elements of these lists, one list after another
+abbrev pub each_in_turn : {X : Type 0} → List (List X) → List X
+each_in_turn lists = flat_map (λ list. list) lists
+
 -- what was received from each of some partitions grew by some receipts, and what a writer holds by the
 -- lines of all of these, one partition after another, those of each in their order
 pub record WritesAllThatCame (was_received now_received : List (List ReceiptValue))

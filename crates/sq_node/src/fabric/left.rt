@@ -27,7 +27,7 @@ pub(super) fn open_rooms(
     Ok(rooms)
 }
 
-// Posts the jobs that were left at each partition there. Those for which its queue has no place are its node's to post.
+// Posts the jobs that were left at each partition there. Its node posts those that its queue has no place for.
 pub(super) fn post_left(
     fabric: &mut Fabric,
     nodes: &mut Vec<Node>,

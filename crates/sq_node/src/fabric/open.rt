@@ -1,19 +1,18 @@
 // Opening a run, and a stage of it.
 ghost use Rattle.std.specs.Prelude.{◌≡◌, ◌↔◌, ◌+◌, ◌<◌, ◌==◌, ◌≤◌, [], length, map, filter, Ok, IfOk, IfErr, OnOk, IsTrue};
-ghost use Rattle.sq_ranges.specs.Prelude.{stage_on, stages};
+ghost use Rattle.sq_ranges.specs.Prelude.{IsSetUp, stage_on, stages};
 ghost use Rattle.sq_pull.specs.declared.numbers.TheConstants.{MAX_PUMPS};
-ghost use Rattle.sq_node.specs.FabricValue.{ends_of};
+ghost use Rattle.sq_node.specs.FabricValue.{IsFabric, ends_of};
 ghost use Rattle.sq_node.specs.Opened.{AreFirstSeats, HaveCapacity, HasAllEnds, IsFabricOf, IsReopened, IsOpened, IsOpenStore, opened_stores, HaveOwned};
 
 use super::workers::{LooseEnds, open_nodes, open_pumps};
 use super::{Fabric, JOB_PLACES, REQUEST_PLACES};
 use crate::ends::{LinkEnd, PartEnd};
-use crate::node::Node;
+use crate::run_parts::RunParts;
 use crossbeam_queue::ArrayQueue;
 use sq_exec::open_partition;
 use sq_link::SharedLink;
 use sq_plan::PartId;
-use sq_pull::Pump;
 use sq_ranges::{Link, Opening, Recon};
 use sq_runs::RunStore;
 use sq_status::{StatusTree, TreeSeat};
@@ -27,14 +26,12 @@ const FIRST_STAGE: u64 = 0;
 
 impl Fabric {
     /// What a run shares, its nodes, and this many pumps, in the first stage. The move has started.
-    pub fn open(
-        alloc: Global,
-        opening: &Opening,
-        pumps: u32,
-    ) -> Result<(Fabric, Vec<Node>, Vec<Pump>), AllocError>
+    pub fn open(alloc: Global, opening: &Opening, pumps: u32) -> Result<RunParts, AllocError>
         requires { pumps ≤ MAX_PUMPS }
-        ensures { IfOk result
-            (λ opened. IsOpened opening.now pumps opened.0 opened.1.items opened.2.items) }
+        ensures opened { IfOk result
+            (λ run. IsOpened opening.now pumps run.fabric run.nodes.items run.pumps.items) }
+        ensures set_up { OnOk result (IsSetUp opening.now) }
+        ensures fabric { IfOk result (λ run. IsFabric run.fabric) }
     {
         let stores = open_stores(alloc, opening)?;
         open_with(alloc, opening, stores, pumps)
@@ -46,10 +43,12 @@ impl Fabric {
         alloc: Global,
         opening: &Opening,
         pumps: u32,
-    ) -> Result<(Fabric, Vec<Node>, Vec<Pump>), AllocError>
+    ) -> Result<RunParts, AllocError>
         requires { pumps ≤ MAX_PUMPS }
-        ensures { IfOk result
-            (λ opened. IsOpened opening.now pumps opened.0 opened.1.items opened.2.items) }
+        ensures opened { IfOk result
+            (λ run. IsOpened opening.now pumps run.fabric run.nodes.items run.pumps.items) }
+        ensures set_up { OnOk result (IsSetUp opening.now) }
+        ensures fabric { IfOk result (λ run. IsFabric run.fabric) }
     {
         let stores = open_stores_in_threads(rt, alloc, opening)?;
         open_with(alloc, opening, stores, pumps)
@@ -120,15 +119,17 @@ fn open_with(
     opening: &Opening,
     stores: Vec<RunStore>,
     pumps: u32,
-) -> Result<(Fabric, Vec<Node>, Vec<Pump>), AllocError>
+) -> Result<RunParts, AllocError>
     requires stores { stores.items ≡ opened_stores opening.now }
     requires owned { HaveOwned opening.now }
     requires pumps { pumps ≤ MAX_PUMPS }
-    ensures { IfOk result
-        (λ opened. IsOpened opening.now pumps opened.0 opened.1.items opened.2.items) }
+    ensures opened { IfOk result
+        (λ run. IsOpened opening.now pumps run.fabric run.nodes.items run.pumps.items) }
+    ensures set_up { OnOk result (IsSetUp opening.now) }
+    ensures fabric { IfOk result (λ run. IsFabric run.fabric) }
 {
     match open_run(alloc, opening, FIRST_STAGE, stores, pumps) {
-        Ok((fabric, nodes, pumps)) => Ok((fabric, nodes, pumps)),
+        Ok(opened) => Ok(opened),
         Err(_) => Err(AllocError),
     }
 }
@@ -141,11 +142,13 @@ pub(super) fn open_run(
     stage: u64,
     mut stores: Vec<RunStore>,
     pumps: u32,
-) -> Result<(Fabric, Vec<Node>, Vec<Pump>), Vec<RunStore>>
+) -> Result<RunParts, Vec<RunStore>>
     requires stores { length stores.items ≡ opening.now.old.parts }
     requires pumps { pumps ≤ MAX_PUMPS }
-    ensures run { IfOk result
-        (λ run. IsReopened opening.now stage stores.items [] pumps run.0 run.1.items run.2.items) }
+    ensures run { IfOk result (λ run. IsReopened opening.now stage stores.items [] pumps
+        run.fabric run.nodes.items run.pumps.items) }
+    ensures set_up { OnOk result (IsSetUp opening.now) }
+    ensures fabric { IfOk result (λ run. IsFabric run.fabric) }
     ensures back { IfErr result (λ back. back.items ≡ stores.items) }
 {
     let Ok((mut fabric, mut ends)) = open_fabric(alloc, opening, stage) else {
@@ -155,7 +158,11 @@ pub(super) fn open_run(
         return Err(stores);
     };
     match open_nodes(alloc, opening, &mut fabric, &mut ends, &mut stores) {
-        Ok(nodes) => Ok((fabric, nodes, pumps)),
+        Ok(nodes) => Ok(RunParts {
+            fabric,
+            nodes,
+            pumps,
+        }),
         Err(_) => Err(stores),
     }
 }
@@ -166,7 +173,9 @@ fn open_fabric(
     opening: &Opening,
     stage: u64,
 ) -> Result<(Fabric, LooseEnds), AllocError>
-    ensures fabric { IfOk result (λ opened. IsFabricOf opening.now opened.0) }
+    ensures fabric { IfOk result (λ opened. IsFabric opened.0) }
+    ensures of { IfOk result (λ opened. IsFabricOf opening.now opened.0) }
+    ensures set_up { OnOk result (IsSetUp opening.now) }
     ensures stage { IfOk result (λ opened. opened.0.stage ≡ stage) }
     ensures receipts { IfOk result (λ opened. opened.0.receipts ≡ []) }
     ensures seats { IfOk result (λ opened. AreFirstSeats 0 opened.0.trees opened.0.seats) }
@@ -217,7 +226,7 @@ fn open_trees(alloc: Global, count: usize) -> Result<(Vec<StatusTree>, Vec<TreeS
     Ok((trees, seats))
 }
 
-// Those of these links along which keys go in a stage.
+// The links along which keys go in a stage.
 fn stage_links(
     alloc: Global,
     recon: &Recon,

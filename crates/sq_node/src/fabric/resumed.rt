@@ -1,16 +1,17 @@
-// Going on with a run in a stage.
+// A run continues in a stage.
 ghost use Rattle.std.specs.Prelude.{◌≡◌, ◌↔◌, ◌≤◌, length, IfOk, IfErr, OnOk, IsTrue};
 ghost use Rattle.sq_schema.specs.Prelude.{TableValue};
 ghost use Rattle.sq_pull.specs.declared.numbers.TheConstants.{MAX_PUMPS};
+ghost use Rattle.sq_ranges.specs.Prelude.{IsSetUp};
 ghost use Rattle.sq_node_model.specs.Prelude.{folded_opening};
+ghost use Rattle.sq_node.specs.FabricValue.{IsFabric};
 ghost use Rattle.sq_node.specs.Opened.{IsReopened, AllHoldAsBegun, HasStageFor};
 
 use super::Fabric;
 use super::left::{open_rooms, post_left};
 use super::open::open_run;
-use crate::node::Node;
 use crate::receipt::Receipt;
-use sq_pull::Pump;
+use crate::run_parts::RunParts;
 use sq_ranges::Opening;
 use sq_runs::RunStore;
 use sq_schema::Txn;
@@ -45,12 +46,15 @@ impl Fabric {
         left: Vec<Vec<Txn>>,
         receipts: Vec<Receipt>,
         pumps: u32,
-    ) -> Result<(Fabric, Vec<Node>, Vec<Pump>), Unresumed>
+    ) -> Result<RunParts, Unresumed>
         requires { pumps ≤ MAX_PUMPS }
         ensures run { IfOk result (λ run. IsReopened opening.now stage stores.items receipts.items
-            pumps run.0 run.1.items run.2.items) }
+            pumps run.fabric run.nodes.items run.pumps.items) }
+        ensures set_up { OnOk result (IsSetUp opening.now) }
+        ensures fabric { IfOk result (λ run. IsFabric run.fabric) }
         ensures holds { IfOk result (λ run. (table : TableValue)
-            → AllHoldAsBegun (folded_opening opening.now table) run.0 stores.items run.1.items) }
+            → AllHoldAsBegun (folded_opening opening.now table)
+            run.fabric stores.items run.nodes.items) }
         ensures fits { OnOk result (HasStageFor opening.now stage (length stores.items)
             (length left.items)) }
         ensures stores { IfErr result (λ back. back.stores.items ≡ stores.items) }
@@ -72,10 +76,19 @@ impl Fabric {
             });
         };
         match open_run(alloc, opening, stage, stores, pumps) {
-            Ok((mut fabric, mut nodes, pumps)) => {
+            Ok(opened) => {
+                let RunParts {
+                    mut fabric,
+                    mut nodes,
+                    pumps,
+                } = opened;
                 fabric.receipts = receipts;
                 post_left(&mut fabric, &mut nodes, left, rooms);
-                Ok((fabric, nodes, pumps))
+                Ok(RunParts {
+                    fabric,
+                    nodes,
+                    pumps,
+                })
             }
             Err(stores) => Err(Unresumed {
                 stores,

@@ -1,5 +1,5 @@
 // The nodes and the pumps that a stage of a run opens with, each with its seats and its ends of links.
-ghost use Rattle.std.specs.Prelude.{◌≡◌, ℕ, ◌<◌, ◌≤◌, false, length, replicate, slice_set, None, MatchOption, IfOk, IfErr, OnOk, OnErr, vec_capacity};
+ghost use Rattle.std.specs.Prelude.{◌≡◌, ℕ, ◌+◌, ◌<◌, ◌≤◌, ◌++◌, false, length, map, reverse, replicate, slice_set, None, MatchOption, IfOk, IfErr, OnOk, OnErr, vec_capacity};
 ghost use Rattle.sq_pull.specs.Seats.{AreSeatsOf};
 ghost use Rattle.sq_pull.specs.declared.numbers.TheConstants.{MAX_PUMPS};
 ghost use Rattle.sq_node.specs.Ends.{src_of, dst_of, link_between, end_at};
@@ -79,27 +79,31 @@ pub(super) fn open_nodes(
     ensures back { OnErr result (stores.new.items ≡ stores.old.items) }
     ensures capacity { vec_capacity stores.new ≡ vec_capacity stores.old }
 {
-    let parts = fabric.parts();
-    let Some(store) = stores.pop() else {
-        return Vec::with_capacity(alloc, usize::from(parts));
-    };
-    let part = PartId::new(stores.len() as u8);
-    let node = match open_node(alloc, opening, fabric, ends, part, store) {
-        Ok(node) => node,
-        Err(store) => {
-            stores.push_reserved(store);
-            return Err(AllocError);
+    let mut nodes = Vec::with_capacity(alloc, usize::from(fabric.parts()))?;
+    while let Some(store) = stores.pop() {
+        let part = PartId::new(stores.len() as u8);
+        match open_node(alloc, opening, fabric, ends, part, store) {
+            Ok(node) => nodes.push_reserved(node),
+            Err(store) => {
+                stores.push_reserved(store);
+                give_back(nodes, stores);
+                return Err(AllocError);
+            }
         }
-    };
-    match open_nodes(alloc, opening, fabric, ends, stores) {
-        Ok(mut nodes) => {
-            nodes.push_reserved(node);
-            Ok(nodes)
-        }
-        Err(_) => {
-            stores.push_reserved(node.into_parts().core.store);
-            Err(AllocError)
-        }
+    }
+    nodes.reverse();
+    Ok(nodes)
+}
+
+// Takes the families of these nodes back, the last node's first.
+fn give_back(mut nodes: Vec<Node>, stores: &mut Vec<RunStore>)
+    requires { length stores.old.items + length nodes.items ≤ vec_capacity stores.old }
+    ensures stores { stores.new.items
+        ≡ stores.old.items ++ map (λ node. node.core.store) (reverse nodes.items) }
+    ensures capacity { vec_capacity stores.new ≡ vec_capacity stores.old }
+{
+    while let Some(node) = nodes.pop() {
+        stores.push_reserved(node.into_parts().core.store);
     }
 }
 

@@ -113,11 +113,12 @@ fn begin(
     requires exists { at.seg < length core.old.core.recon.segments }
     requires seats { AreSeatsOf trees.now seats.old.items }
     requires segment { at.seg < length trees.now }
-    ensures { MatchBool result
-        (StepsAt at.seg (λ v w. Won v at.node (Partial pull) w) seats.old.items seats.new.items
-        × (core.new.core ≡ begun_core core.old.core at.seg at.node pull))
-        (StepsAt at.seg OnlyLooked seats.old.items seats.new.items
-        × (core.new.core ≡ core.old.core)) }
+    ensures step { MatchBool result
+        (StepsAt at.seg (λ v w. Won v at.node (Partial pull) w) seats.old.items seats.new.items)
+        (StepsAt at.seg OnlyLooked seats.old.items seats.new.items) }
+    ensures core { MatchBool result
+        (core.new.core ≡ begun_core core.old.core at.seg at.node pull)
+        (core.new.core ≡ core.old.core) }
 {
     if !begin_at(trees, seats, &at, pull) {
         return false;
@@ -132,8 +133,8 @@ fn begin_at(trees: &[StatusTree], seats: &mut Vec<TreeSeat>, at: &TreeNode, pull
     requires segment { at.now.seg < length trees.now }
     ensures seats { AreSeatsOf trees.now seats.new.items }
     ensures step { MatchBool result
-        (StepsAt at.now.seg (λ v w. Won v at.now.node
-        (Partial pull) w) seats.old.items seats.new.items)
+        (StepsAt at.now.seg (λ v w. Won v at.now.node (Partial pull) w) seats.old.items
+        seats.new.items)
         (StepsAt at.now.seg OnlyLooked seats.old.items seats.new.items) }
 {
     let index = at.seg.index();

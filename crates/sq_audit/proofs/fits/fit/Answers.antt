@@ -17,7 +17,7 @@ grown_is c =
 so_far : (c : Else-not-branch-2) → Decides c.have_grown.result (AllGrown c.args.g.now.statuses) → FitsSoFar c.args.opening.now c.args.g.now
 so_far c grown =
     record {
-      parts = shown c.has_parts.result c.has_parts.ensures c.if-not-has_parts.false;
+      parts = shown c.has_parts.result c.has_parts.ensures.parts c.if-not-has_parts.false;
       grown = shown c.have_grown.result grown c.if-not-have_grown.false;
       links = shown c.in_ok-links_fit.field-0 c.in_ok-links_fit.ensures c.if-not-branch.false;
       complete = shown c.in_ok-are_complete.field-0 c.in_ok-are_complete.ensures c.if-not-branch-2.false;
@@ -33,10 +33,10 @@ are_placed-requires-clause-links c = shown c.in_ok-links_fit.field-0 c.in_ok-lin
 pub are_placed-requires-clause-apart : goal.are_placed-requires-clause-apart
 are_placed-requires-clause-apart c =
     let at = goal.at.are_placed-requires-clause-apart c in
-    notes_apart c.args.opening.now c.recon.ensures.set_up.opening c.args.g.now (so_far at.Else-not-branch-2 (grown_is at.After-have_grown))
+    notes_apart c.args.opening.now c.has_parts.ensures.opening c.args.g.now (so_far at.Else-not-branch-2 (grown_is at.After-have_grown))
 
 pub returns : goal.returns
 returns c =
     let at = goal.at.returns c in
-    fit_if_placed c.args.opening.now c.recon.ensures.set_up.opening c.args.g.now (so_far at.Else-not-branch-2 (grown_is at.After-have_grown))
+    fit_if_placed c.args.opening.now c.has_parts.ensures.opening c.args.g.now (so_far at.Else-not-branch-2 (grown_is at.After-have_grown))
     c.are_placed.result c.requires.keyed c.are_placed.ensures

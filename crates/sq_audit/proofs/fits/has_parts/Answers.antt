@@ -21,20 +21,20 @@ known_are c =
     (c.deref.ensures.value ∙ ap (λ (g : GatheredValue). g.links) c.g.view_is)
     c.are_known_links.ensures
 
-pub returns-then-not-are_known_links : goal.returns-then-not-are_known_links
-returns-then-not-are_known_links c =
+pub returns-then-not-are_known_links-clause-parts : goal.returns-then-not-are_known_links-clause-parts
+returns-then-not-are_known_links-clause-parts c =
     let o = c.args.opening.now in
     let g = c.args.g.now in
     let are = subst (λ (r : ReconValue). AreLinks r.ranges c.links.result.now) c.recon-recon.ensures.recon c.links.ensures in
-    decides_not (λ parts. refuted c.are_known_links.result (known_are (goal.at.returns-then-not-are_known_links c).After-are_known_links) c.if-not-are_known_links.true (known_links o g.stage g.links c.links.result.now are parts.each_link))
+    decides_not (λ parts. refuted c.are_known_links.result (known_are (goal.at.returns-then-not-are_known_links-clause-parts c).After-are_known_links) c.if-not-are_known_links.true (known_links o g.stage g.links c.links.result.now are parts.each_link))
 
-pub returns : goal.returns
-returns c =
+pub returns-clause-parts : goal.returns-clause-parts
+returns-clause-parts c =
     let o = c.args.opening.now in
     let g = c.args.g.now in
     let are = subst (λ (r : ReconValue). AreLinks r.ranges c.links.result.now) c.recon-recon.ensures.recon c.links.ensures in
     let are_too = subst (λ (r : ReconValue). AreLinks r.ranges c.links-2.result.now) c.recon-recon.ensures.recon c.links-2.ensures in
-    let known = shown c.are_known_links.result (known_are (goal.at.returns c).After-are_known_links) c.if-not-are_known_links.false in
+    let known = shown c.are_known_links.result (known_are (goal.at.returns-clause-parts c).After-are_known_links) c.if-not-are_known_links.false in
     let known_too = known_again o g.stage g.links c.links.result.now c.links-2.result.now are are_too known in
     let stores : length g.stores ≡ o.old.parts = ap (λ (v : GatheredValue). length v.stores) (sym c.g.view_is) ∙ (let e : length c.g.inside.stores.items ≡ vec_len c.g.inside.stores = search rules in e) ∙ sym c.len.ensures ∙ c.if-len-from.false ∙ c.from.ensures ∙ c.parts.ensures.parts ∙ ap (λ (p : PlanValue). p.parts) c.old_plan.ensures.plan in
     let statuses : length g.statuses ≡ length o.recon.segments = ap (λ (v : GatheredValue). length v.statuses) (sym c.g.view_is) ∙ (let e : length c.g.inside.statuses.items ≡ vec_len c.g.inside.statuses = search rules in e) ∙ sym c.len-2.ensures ∙ c.if-len-segments.false ∙ ap (λ (r : List Range). length r) c.segments.ensures.segments ∙ ap (λ (r : ReconValue). length r.segments) c.recon-recon.ensures.recon in

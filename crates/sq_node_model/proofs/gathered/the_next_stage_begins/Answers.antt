@@ -7,8 +7,8 @@ use Rattle.sq_node_model.proofs.gathered.the_next_stage_begins.Goals as goal
 
 pub returns : goal.returns
 returns c = record {
-  can = λ o g is placed done. can_next o is g placed done;
-  holds = λ o g q store node is placed done there new.
+  can = λ o g over. can_next o over.opening g over.placed over.done;
+  holds = λ o g q store over there node new.
       fresh_holds o (next_began o g) (staged_core o (g.stage + 1) q store) node new
-      (holds_next o is g placed done q store node.views node.sent node.received there new.unused);
+      (holds_next o over.opening g over.placed over.done q store node.views node.sent node.received there new.unused);
 }

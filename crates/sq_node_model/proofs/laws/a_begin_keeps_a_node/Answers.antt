@@ -5,10 +5,10 @@ use Rattle.sq_node_model.proofs.laws.a_begin_keeps_a_node.Goals as goal
 
 pub returns : goal.returns
 returns c = record {
-  step = λ o i node word segment is known there won.
+  step = λ o i node word segment is wins.
       begun_node_is o i is node.core node.views (put word.seg word.view node.views) node.sent node.received node.receipts
-      word.seg word.node word.pull word.view segment known there won (λ k. refl);
-  keeps = λ o began node word segment is known moves is_one won h.
+      word.seg word.node word.pull word.view segment wins.core wins.there wins.won (λ k. refl);
+  keeps = λ o began node word is wins h.
       core_begun o began.stage is node.core node.views (put word.seg word.view node.views) node.sent node.received node.receipts
-      word.seg word.node word.pull word.view segment known moves.there won (λ k. refl) moves.source moves.runs is_one h;
+      word.seg word.node word.pull word.view wins.segment wins.core wins.moves.there wins.won (λ k. refl) wins.moves.source wins.moves.runs wins.one h;
 }

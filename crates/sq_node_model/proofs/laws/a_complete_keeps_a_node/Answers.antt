@@ -8,7 +8,7 @@ returns c = record {
   step = λ node word won.
       completed_node_is node.core node.views (put word.seg word.view node.views) node.sent node.received node.receipts
       word.seg word.node word.pull word.view won (λ k. refl);
-  keeps = λ o began node word whole won h.
+  keeps = λ node word whole won o began h.
       core_completed o node.core node.views (put word.seg word.view node.views) node.sent node.received node.receipts
       word.seg word.node word.pull word.view whole won (λ k. refl) h;
 }

@@ -8,7 +8,7 @@ returns c = record {
   step = λ node src chunk below.
       received_is node.core node.views node.sent node.received (put src (node.received src ++ chunk ∷ []) node.received) node.receipts
       src chunk below (λ k. refl);
-  keeps = λ o began node src chunk below empty h.
+  keeps = λ node src chunk below empty o began h.
       core_received o node.core node.views node.sent node.received (put src (node.received src ++ chunk ∷ []) node.received) node.receipts
       src chunk below empty (λ k. refl) h;
 }

@@ -8,7 +8,7 @@ returns c = record {
   step = λ node dst chunk full.
       sent_is node.core node.views node.sent (put dst (node.sent dst ++ chunk ∷ []) node.sent) node.received node.receipts
       dst chunk full (λ k. refl);
-  keeps = λ o began node dst chunk full h.
+  keeps = λ node dst chunk full o began h.
       core_sent o node.core node.views node.sent (put dst (node.sent dst ++ chunk ∷ []) node.sent) node.received node.receipts
       dst chunk full (λ k. refl) h;
 }

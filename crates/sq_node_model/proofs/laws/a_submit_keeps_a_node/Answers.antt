@@ -5,6 +5,6 @@ pub returns : goal.returns
 returns c = record {
   step = λ node new waits txn outcome taken.
       submitted_is node.views node.sent node.received node.receipts node.core new waits txn outcome taken;
-  keeps = λ o began node new waits txn outcome is known taken h.
+  keeps = λ node new waits txn outcome taken o began is known h.
       core_submitted node.views node.sent node.received node.receipts o is node.core new waits txn outcome known taken h;
 }

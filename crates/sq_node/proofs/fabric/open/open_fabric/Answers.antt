@@ -9,6 +9,7 @@ use Rattle.sq_status.specs.declared.view.View.{View}
 use Rattle.sq_node.specs.FabricValue.{AreStageLinks}
 use Rattle.sq_node.proofs.NewLinks.{stage_links_are}
 use Rattle.sq_node.proofs.fabric.open.open_fabric.Goals as goal
+use Rattle.sq_node.proofs.fabric.open.open_fabric.Goals.{After-new-3}
 
 pub invariant_of-fabric : goal.invariant_of-fabric
 invariant_of-fabric c =
@@ -24,10 +25,15 @@ invariant_of-fabric c =
       subst (λ (r : ReconValue). IsTrue c.is_last.result ↔ (stages r ≤ c.args.stage + 1)) (c.recon-recon.ensures.recon ∙ sym recon) c.is_last.ensures,
     )
 
-pub returns-clause-fabric : goal.returns-clause-fabric
-returns-clause-fabric c =
+pub returns-clause-of : goal.returns-clause-of
+returns-clause-of c =
     record {
       recon = c.in_ok-clone.ensures.cases ∙ c.recon-recon.ensures.recon;
       parts = c.parts-parts.ensures.parts ∙ ap (λ (p : PlanValue). p.parts) c.old_plan.ensures.plan;
       capacity = λ i link there. c.in_ok-links.ensures.capacities i link there ∙ ap (λ (f : Config). f.capacity) c.config.ensures.config;
     }
+
+pub returns-clause-fabric : goal.returns-clause-fabric
+returns-clause-fabric c =
+    let made : After-new-3 = (goal.at.returns-clause-fabric c).After-new-3 in
+    (invariant_of-fabric made).0

@@ -14,12 +14,12 @@ open_run-requires-clause-stores c =
     let o = c.args.opening.now in
     ap length c.requires.stores ∙ length-map-range_with_len (λ part. (opened_part o part).store) 0 o.old.parts
 
-pub returns-in-Ok : goal.returns-in-Ok
-returns-in-Ok c =
+pub returns-in-Ok-clause-opened : goal.returns-in-Ok-clause-opened
+returns-in-Ok-clause-opened c =
     let o = c.args.opening.now in
-    let fabric = c.in-Ok.fabric in
-    let nodes = c.in-Ok.nodes.items in
-    let run = subst (λ (stores : List StoreValue). IsReopened o 0 stores [] c.args.pumps fabric nodes c.in-Ok.pumps.items) c.requires.stores c.in-Ok.ensures.run in
+    let fabric = c.in-Ok.opened.fabric in
+    let nodes = c.in-Ok.opened.nodes.items in
+    let run = subst (λ (stores : List StoreValue). IsReopened o 0 stores [] c.args.pumps fabric nodes c.in-Ok.opened.pumps.items) c.requires.stores c.in-Ok.ensures.run in
     let begun : HasBegun (first_began o) fabric = record { stage = sym run.stage; receipts = sym run.receipts } in
     record {
       shared = run.shared;

@@ -23,11 +23,11 @@ invariant_of-self-then-begin g c =
     let old = inside.seats.items in
     let new = c.begin.new.seats.items in
     let steps = λ (v w : View). Won v named.node (Partial pull) w in
-    let begun = c.if-begin.ensures.1 ∙ ap (λ (core : CoreValue). begun_core core named.seg named.node pull) c.reserve_begin.ensures.same in (
+    let begun = c.if-begin.ensures.core ∙ ap (λ (core : CoreValue). begun_core core named.seg named.node pull) c.reserve_begin.ensures.same in (
       c.self.invariant.0 ∙ sym (ap (λ (core : CoreValue). core.part) begun ∙ begun_part inside.core.core named.seg named.node pull),
       after_begun inside.core.core c.begin.new.core.core named.seg named.node pull old new inside.to_complete.items inside.complete.items
           begun
-          (known_at named.seg steps old new (λ v w won. knows_begun v w named.node pull won) c.if-begin.ensures.0)
+          (known_at named.seg steps old new (λ v w won. knows_begun v w named.node pull won) c.if-begin.ensures.step)
           c.self.invariant.1,
     )
 
@@ -37,10 +37,10 @@ invariant_of-self-3 g c =
     let named = c.in-Some-named.named in
     let old = inside.seats.items in
     let new = c.begin.new.seats.items in
-    let same : c.begin.new.core.core ≡ inside.core.core = c.if-begin.ensures.1 ∙ c.reserve_begin.ensures.same in (
+    let same : c.begin.new.core.core ≡ inside.core.core = c.if-begin.ensures.core ∙ c.reserve_begin.ensures.same in (
       c.self.invariant.0 ∙ sym (ap (λ (core : CoreValue). core.part) same),
       other_seats c.begin.new.core.core old new inside.to_complete.items inside.complete.items
-          (known_at named.seg OnlyLooked old new (λ v w looked. knows_looked v w looked) c.if-begin.ensures.0)
+          (known_at named.seg OnlyLooked old new (λ v w looked. knows_looked v w looked) c.if-begin.ensures.step)
           (same_loads inside.core.core c.begin.new.core.core old inside.to_complete.items inside.complete.items (ap (λ (core : CoreValue). core.recon) same) (ap (λ (core : CoreValue). core.loaded) same) c.self.invariant.1),
     )
 
@@ -50,8 +50,8 @@ returns g c =
     let named = c.in-Some-named.named in
     let old = inside.seats.items in
     let new = c.begin.new.seats.items in
-    let same : c.begin.new.core.core ≡ inside.core.core = c.if-begin.ensures.1 ∙ c.reserve_begin.ensures.same in
-    let looked : SeatsLooked old new = seats_looked_at named.seg OnlyLooked old old new (λ v w looks. looks) (no_looks old) c.if-begin.ensures.0 in
+    let same : c.begin.new.core.core ≡ inside.core.core = c.if-begin.ensures.core ∙ c.reserve_begin.ensures.same in
+    let looked : SeatsLooked old new = seats_looked_at named.seg OnlyLooked old old new (λ v w looks. looks) (no_looks old) c.if-begin.ensures.step in
     request_told c.args.fabric.now c.args.self.now Nothing _ c.requires
     (record {
       seats = subst (λ (node : NodeState). SeatsLooked node.seats new) c.self.view_is looked;
@@ -65,14 +65,14 @@ returns-then-begin g c =
     let named = c.in-Some-named.named in
     let pull = c.in-Some.request.pull in
     let new = c.begin.new.seats.items in
-    let begun = c.if-begin.ensures.1 ∙ ap (λ (core : CoreValue). begun_core core named.seg named.node pull) c.reserve_begin.ensures.same in
+    let begun = c.if-begin.ensures.core ∙ ap (λ (core : CoreValue). begun_core core named.seg named.node pull) c.reserve_begin.ensures.same in
     request_told c.args.fabric.now c.args.self.now Did _ c.requires
     (record {
       seg = named.seg;
       node = named.node;
       pull = pull;
       outward = subst (λ (core : CoreValue). IsOutward core named.seg named.node) (c.reserve_begin.ensures.same ∙ ap (λ (node : NodeState). node.core) c.self.view_is) c.in-Some-named.ensures;
-      won = subst (λ (node : NodeState). StepsAt named.seg (λ v w. Won v named.node (Partial pull) w) node.seats new) c.self.view_is c.if-begin.ensures.0;
+      won = subst (λ (node : NodeState). StepsAt named.seg (λ v w. Won v named.node (Partial pull) w) node.seats new) c.self.view_is c.if-begin.ensures.step;
       after = (λ k. record { core = begun k; seats = new; sends = inside.sends.items; recvs = inside.recvs.items; receipts = inside.desk.receipts; claims = inside.puller.puller.wins.count })
           ∙ ap (λ (node : NodeState). record node { core = begun_core node.core named.seg named.node pull; seats = new }) c.self.view_is;
     })
