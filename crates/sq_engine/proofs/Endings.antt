@@ -17,7 +17,7 @@ use Rattle.sq_page.specs.Pages.{IsPageOf, SpeaksForRuns}
 use Rattle.sq_page.proofs.Last.{owner_last}
 use Rattle.sq_engine.specs.Values.{PauseValue}
 use Rattle.sq_engine.specs.History.{StartValue, Episode, EpochEnded, PageTaken, pause_after, IsLastStage, HasDoneStage, Follows, HasLeft, IsLeftByPage, HaveCome}
-use Rattle.sq_engine.specs.Ending.{paged, page_jobs, AllSound, EngineEndsAsPlanned}
+use Rattle.sq_engine.specs.Ending.{latest_pause, paged, page_jobs, AllSound, EndsItsMove, IsSoundEngine, SpeaksForPause, EngineEndsAsPlanned}
 use Rattle.sq_engine.proofs.Epochs.{placed_there}
 use Rattle.sq_engine.proofs.Logs.{IsDone, rows_with, rows_so_far, paged_done, commits_name, commits_all}
 
@@ -114,3 +114,33 @@ module _ (o : OpeningValue) where
         let here = pause_after episode in
         (speaks here.opening here.gathered is (placed_there o earlier episode come) done of
         (record { parts = is.parts; owners = λ root. sym (owner_last here.opening is (here.gathered.stage + 1) root last) })).0
+
+-- the latest of the episodes ended with this pause
+ended_with : (earlier : List Episode) (episode : Episode) (pause : PauseValue) → latest_pause (episode ∷ earlier) ≡ pause ∷ [] → pause_after episode ≡ pause
+ended_with earlier episode pause latest = cc
+
+-- so it is at a pause after the last stage of a move, whichever episode that was
+pub ends_at : (o : OpeningValue) (past : List Episode) (pause : PauseValue) → EndsItsMove o past pause → IsSoundEngine past pause → EngineEndsAsPlanned o past pause
+ends_at o [] pause ends sound = absurd (let latest = ends.latest in cc)
+ends_at o (episode ∷ earlier) pause ends sound =
+    let same = ended_with earlier episode pause ends.latest in
+    subst (EngineEndsAsPlanned o (episode ∷ earlier)) same
+    (ends_as_planned o earlier episode ends.come
+    (subst (λ (p : PauseValue). IsOpening p.opening) (sym same) ends.opening)
+    (subst HasDoneStage (sym same) ends.done)
+    (subst IsLastStage (sym same) ends.last)
+    sound.pages
+    (subst (λ (p : PauseValue). IsSoundRun p.opening p.gathered p.jobs) (sym same) sound.rest))
+
+pub page_speaks_at : (o : OpeningValue) (past : List Episode) (pause : PauseValue) (page : GatheredValue) → EndsItsMove o past pause → IsPageOf pause.gathered page → SpeaksForPause pause page
+page_speaks_at o [] pause page ends of = absurd (let latest = ends.latest in cc)
+page_speaks_at o (episode ∷ earlier) pause page ends of =
+    let same = ended_with earlier episode pause ends.latest in
+    subst (λ (p : PauseValue). SpeaksForPause p page) same
+    (λ jobs verdict speaks. page_speaks o earlier episode ends.come
+    (subst (λ (p : PauseValue). IsOpening p.opening) (sym same) ends.opening)
+    (subst HasDoneStage (sym same) ends.done)
+    (subst IsLastStage (sym same) ends.last)
+    page jobs verdict
+    (subst (λ (p : PauseValue). IsPageOf p.gathered page) (sym same) of)
+    speaks)

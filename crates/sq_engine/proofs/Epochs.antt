@@ -10,19 +10,19 @@ use Rattle.sq_ranges.specs.Opening.{IsOpening}
 use Rattle.sq_ranges.proofs.Stages.{some_stage}
 use Rattle.sq_pull.specs.Pump.{PumpValue}
 use Rattle.sq_node_model.specs.NodeValue.{ReceiptValue}
-use Rattle.sq_node_model.specs.BeganWith.{BeganWith, first_began, CanBegin}
+use Rattle.sq_node_model.specs.BeganWith.{BeganWith, first_began}
 use Rattle.sq_node_model.specs.Gathered.{GatheredValue}
 use Rattle.sq_node_model.specs.Placed.{IsPlaced, GoOn}
 use Rattle.sq_node_model.specs.Next.{IsStageDone, onward_began}
 use Rattle.sq_node_model.specs.Folded.{folded_opening}
-use Rattle.sq_node.specs.FabricValue.{FabricValue, HasBegun}
+use Rattle.sq_node.specs.FabricValue.{FabricValue}
 use Rattle.sq_node.specs.NodeState.{NodeState}
-use Rattle.sq_node.specs.Opened.{IsFabricOf}
 use Rattle.sq_driver.specs.Nodes.{AllDriven}
 use Rattle.sq_driver.specs.Pumps.{AllPumpsDriven}
-use Rattle.sq_gather.specs.Gathered.{AllHold, IsGathered}
+use Rattle.sq_gather.specs.Gathered.{HoldsInStage, IsGathered}
 use Rattle.sq_gather.specs.Reopened.{IsRunInStage, IsNextStageOf, IsFirstStageAfter}
-use Rattle.sq_gather.proofs.Running.{run_goes_on, all_hold, rowless_opening}
+use Rattle.sq_node_model.proofs.Folded.{rowless_opening}
+use Rattle.sq_gather.proofs.Running.{run_goes_on, holds_in_stage}
 use Rattle.sq_gather.proofs.Workers.{each_stays, each_pump_stays, written}
 use Rattle.sq_audit.specs.declared.job.Job.{Job}
 use Rattle.sq_audit.specs.Folding.{jobs_left}
@@ -203,15 +203,15 @@ module _ (o : OpeningValue) where
 
     -- what is gathered of it comes next
     pub gathered_comes : (epoch : EpochValue) (g : GatheredValue) → IsOpening epoch.opening → RunsAfter o past epoch → IsGathered epoch.fabric epoch.nodes epoch.pumps g
-        → ((o : OpeningValue) (began : BeganWith) → IsOpening o → IsFabricOf o epoch.fabric → HasBegun began epoch.fabric → CanBegin o began → AllHold o began epoch.nodes → IsPlaced o g)
-        → ((o : OpeningValue) (began : BeganWith) → IsOpening o → IsFabricOf o epoch.fabric → HasBegun began epoch.fabric → CanBegin o began → AllHold o began epoch.nodes → GoOn began g)
+        → ((o : OpeningValue) (began : BeganWith) → IsOpening o → HoldsInStage o began epoch.fabric epoch.nodes → IsPlaced o g)
+        → ((o : OpeningValue) (began : BeganWith) → IsOpening o → HoldsInStage o began epoch.fabric epoch.nodes → GoOn began g)
         → EndsEpochAfter o past (pause_value epoch.opening epoch.jobs g)
     gathered_comes epoch g is runs gathered placed grows =
         let start = runs.1 in
         let running = runs.3 in
         let run = running.run in
         let opening = force_is epoch.opening start.opening running.opening is in
-        let hold = all_hold start.opening start.began epoch.nodes run.hold in (
+        let holds = holds_in_stage start.opening start.began epoch.fabric epoch.nodes epoch.pumps run in (
           start.opening.table,
           (
             (
@@ -223,8 +223,8 @@ module _ (o : OpeningValue) where
                   opening = sym running.opening;
                   jobs = running.jobs;
                   stage = gathered.stage ∙ sym run.begun.stage;
-                  placed = placed start.opening start.began opening run.shared run.begun run.can hold;
-                  goes_on = grows start.opening start.began opening run.shared run.begun run.can hold;
+                  placed = placed start.opening start.began opening holds;
+                  goes_on = grows start.opening start.began opening holds;
                   written = flat_map (λ (node : NodeState). node.receipts) epoch.nodes;
                   receipts = gathered.receipts ∙ ap (λ (list : List ReceiptValue). list ++ flat_map (λ (node : NodeState). node.receipts) epoch.nodes) (sym run.begun.receipts);
                   all_left = gathered.left ∙ run.shared.parts;

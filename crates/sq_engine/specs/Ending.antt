@@ -5,20 +5,25 @@ use Rattle.sq_schema.specs.Effect.{replay_rows}
 use Rattle.sq_schema.specs.Family.{FamilyValue, rows_of}
 use Rattle.sq_store.specs.StoreValue.{absent}
 use Rattle.sq_ranges.specs.OpeningValue.{OpeningValue}
+use Rattle.sq_ranges.specs.Opening.{IsOpening}
 use Rattle.sq_model.specs.Place.{destination}
 use Rattle.sq_model.specs.Staged.{owner_in}
 use Rattle.sq_model.specs.Tables.{opening_rows}
 use Rattle.sq_node_model.specs.NodeValue.{ReceiptValue}
+use Rattle.sq_node_model.specs.Gathered.{GatheredValue}
 use Rattle.sq_node_model.specs.declared.spot.Spot.{Spot}
 use Rattle.sq_node_model.specs.declared.spot.Spot.TheVariants.{Store}
 use Rattle.sq_node_model.specs.Spots.{family_at_spot, StandsAt}
 use Rattle.sq_node_model.specs.Receipts.{is_commit, times_named}
 use Rattle.sq_audit.specs.declared.job.Job.{Job}
+use Rattle.sq_audit.specs.declared.verdict.Verdict.{Verdict}
 use Rattle.sq_audit.specs.Answers.{AreKnown, is_of}
 use Rattle.sq_audit.specs.Folding.{answered_jobs}
 use Rattle.sq_audit.specs.Sound.{IsSoundRun}
+use Rattle.sq_audit.specs.Defects.{IsVerdict}
+use Rattle.sq_page.specs.Pages.{SpeaksForRuns}
 use Rattle.sq_engine.specs.Values.{PauseValue}
-use Rattle.sq_engine.specs.History.{Episode, EpochEnded, PageTaken, pause_after}
+use Rattle.sq_engine.specs.History.{Episode, EpochEnded, PageTaken, pause_after, HaveCome, HasDoneStage, IsLastStage}
 
 -- the pause after the latest of these episodes, if there is one
 abbrev pub latest_pause : List Episode → List PauseValue
@@ -70,6 +75,26 @@ commits_on root receipt = is_commit receipt.reply && (receipt.root == root)
 -- how many commits on a root key these pauses have receipts of
 abbrev pub commits_over : List PauseValue → ℕ → ℕ
 commits_over pauses root = sum_by (λ pause. count_by (commits_on root) pause.gathered.receipts) pauses
+
+-- an engine that opened with this has come by these episodes, the latest of which is a pause after the last stage of a move, whose
+-- segments are complete
+pub record EndsItsMove (o : OpeningValue) (past : List Episode) (pause : PauseValue) : Type 0 where
+  pub come : HaveCome o past
+  pub latest : latest_pause past ≡ pause ∷ []
+  pub opening : IsOpening pause.opening
+  pub done : HasDoneStage pause
+  pub last : IsLastStage pause
+
+-- each page was found sound, and so is what was left after the latest of these episodes, for all jobs that are on no page
+pub record IsSoundEngine (past : List Episode) (pause : PauseValue) : Type 0 where
+  pub pages : AllSound (paged past)
+  pub rest : IsSoundRun pause.opening pause.gathered pause.jobs
+
+-- what the audit of a page says is the verdict on what was there at a pause
+abbrev pub SpeaksForPause : PauseValue → GatheredValue → Type 0
+SpeaksForPause pause page =
+    (jobs : List Job) (verdict : Verdict) → SpeaksForRuns pause.opening.new page jobs verdict
+    → IsVerdict pause.opening pause.gathered jobs verdict
 
 -- an engine that opened with this, and came by these episodes, ends as planned at this pause, after the latest of them
 pub record EngineEndsAsPlanned (o : OpeningValue) (past : List Episode) (last : PauseValue) : Type 0 where

@@ -12,7 +12,7 @@ use Rattle.sq_engine.specs.declared.engine.NotMoved.TheVariants.{Moving, Plans, 
 use Rattle.sq_node_model.specs.NodeValue.{ReceiptValue}
 use Rattle.sq_epoch.specs.declared.stage_progress.StageProgress.{StageProgress}
 use Rattle.sq_epoch.specs.Progress.{stage_segments}
-use Rattle.sq_engine.specs.Values.{PauseValue, receipts_since_page, whole_segments}
+use Rattle.sq_engine.specs.Values.{PauseValue, receipts_since_page, complete_segments}
 use Rattle.sq_engine.specs.History.{Episode, EpochEnded, RunsAfter, PausesAfter, IsDueAfter}
 
 -- the opening in force, which may have other rows than this one has
@@ -45,7 +45,7 @@ abbrev pub HasProgress : Standing → StageProgress → Type 0
 HasProgress (Running epoch) progress =
     (progress.segments ≡ stage_segments epoch.opening.recon epoch.fabric.stage) × (progress.complete ≤ progress.segments)
 HasProgress (Paused pause) progress =
-    (progress.segments ≡ stage_segments pause.opening.recon pause.gathered.stage) × (progress.complete ≡ whole_segments pause) × (progress.moved ≡ 0)
+    (progress.segments ≡ stage_segments pause.opening.recon pause.gathered.stage) × (progress.complete ≡ complete_segments pause) × (progress.moved ≡ 0)
 HasProgress (Due due) progress =
     (progress.segments ≡ stage_segments due.opening.recon 0) × (progress.complete ≡ 0) × (progress.moved ≡ 0)
 

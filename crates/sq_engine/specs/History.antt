@@ -7,6 +7,7 @@ use Rattle.sq_ranges.specs.ReconValue.{stages}
 use Rattle.sq_ranges.specs.Between.{recon_of}
 use Rattle.sq_ranges.specs.OpeningValue.{OpeningValue}
 use Rattle.sq_ranges.specs.Opening.{IsOpening}
+use Rattle.sq_ranges.specs.SetUp.{IsSetUp}
 use Rattle.sq_node_model.specs.NodeValue.{ReceiptValue}
 use Rattle.sq_node_model.specs.BeganWith.{BeganWith, first_began}
 use Rattle.sq_node_model.specs.Placed.{IsPlaced, GoOn}
@@ -190,12 +191,15 @@ IsDueAfter o [] due = ⊥
 IsDueAfter o (episode ∷ earlier) due =
     HaveCome o (episode ∷ earlier) × IsDueFrom (pause_after episode) due
 
--- some episodes lead here
+-- some episodes lead here, and the opening is set up
 abbrev pub IsReachedEpoch : EpochValue → Type 0
-IsReachedEpoch epoch = (o : OpeningValue) × (past : List Episode) × RunsAfter o past epoch
+IsReachedEpoch epoch =
+    (o : OpeningValue) × (past : List Episode) × RunsAfter o past epoch × IsSetUp epoch.opening
 
 abbrev pub IsReachedPause : PauseValue → Type 0
-IsReachedPause pause = (o : OpeningValue) × (past : List Episode) × PausesAfter o past pause
+IsReachedPause pause =
+    (o : OpeningValue) × (past : List Episode) × PausesAfter o past pause × IsSetUp pause.opening
 
 abbrev pub IsReachedMove : PauseValue → Type 0
-IsReachedMove due = (o : OpeningValue) × (past : List Episode) × IsDueAfter o past due
+IsReachedMove due =
+    (o : OpeningValue) × (past : List Episode) × IsDueAfter o past due × IsSetUp due.opening

@@ -8,7 +8,7 @@ use Rattle.sq_node_model.specs.Gathered.{GatheredValue}
 use Rattle.sq_node.specs.FabricValue.{FabricValue}
 use Rattle.sq_node.specs.NodeState.{NodeState}
 use Rattle.sq_audit.specs.declared.job.Job.{Job}
-use Rattle.sq_epoch.specs.Progress.{whole_segments_in}
+use Rattle.sq_epoch.specs.Progress.{complete_segments_in}
 
 -- in an epoch: the opening in force, the jobs that were posted and are on no page, what the workers share, the nodes and the pumps
 pub record EpochValue : Type 0 where
@@ -36,5 +36,5 @@ abbrev pub receipts_since_page : EpochValue → List ReceiptValue
 receipts_since_page epoch = epoch.fabric.receipts ++ flat_map (λ (node : NodeState). node.receipts) epoch.nodes
 
 -- how many segments of the stage that was gathered are complete by their trees
-abbrev pub whole_segments : PauseValue → ℕ
-whole_segments pause = whole_segments_in pause.opening.recon pause.gathered
+abbrev pub complete_segments : PauseValue → ℕ
+complete_segments pause = complete_segments_in pause.opening.recon pause.gathered

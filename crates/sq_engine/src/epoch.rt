@@ -1,12 +1,9 @@
 // An epoch of an engine.
-ghost use Rattle.std.specs.Prelude.{◌≡◌, ◌≤◌, ◌∷◌, [], ◌++◌, List, length, IfOk, IfErr, OnOk};
+ghost use Rattle.std.specs.Prelude.{◌≡◌, ◌≤◌, ◌∷◌, [], ◌++◌, List, IfOk, IfErr, OnOk};
 ghost use Rattle.std.specs.Prelude.{OnErr, IsErrOf, IsTrue};
 ghost use Rattle.std.specs.List.{list_any};
 ghost use Rattle.sq_pull.specs.declared.numbers.TheConstants.{MAX_PUMPS};
 ghost use Rattle.sq_ranges.specs.Prelude.{OpeningValue, IsSetUp};
-ghost use Rattle.sq_node.specs.Prelude.{IsNodeOf};
-ghost use Rattle.sq_driver.specs.Nodes.{AllDriven};
-ghost use Rattle.sq_driver.specs.Pumps.{AllPumpsDriven};
 ghost use Rattle.sq_audit.specs.Answers.{IdsDiffer};
 ghost use Rattle.sq_engine.specs.Values.{receipts_since_page};
 ghost use Rattle.sq_epoch.specs.Progress.{stage_segments};
@@ -21,10 +18,9 @@ use sq_epoch::{
     CountingGate, PostFault, PostedJobs, StageProgress, any_node_shows_long_log,
     any_shows_long_log, post_job, progress_at_start, stage_segments,
 };
-use sq_gather::{Ungathered, gather};
-use sq_node::{Fabric, Node};
+use sq_gather::gather;
+use sq_node::{Fabric, RunParts};
 use sq_plan::PartId;
-use sq_pull::Pump;
 use sq_ranges::Opening;
 use sq_schema::Txn;
 use std::alloc::Global;
@@ -38,9 +34,7 @@ use std::thread::Threads;
 pub struct Epoch {
     pub(crate) opening: Opening,
     pub(crate) jobs: PostedJobs,
-    pub(crate) fabric: Fabric,
-    pub(crate) nodes: Vec<Node>,
-    pub(crate) pumps: Vec<Pump>,
+    pub(crate) run: RunParts,
     pub(crate) progress: StageProgress,
 }
 
@@ -54,10 +48,11 @@ impl Model for Epoch {
 
     ghost coded = { Prim.hlevel (codes, store_coded) };
 
-    ghost view = { λ e. epoch_value e.opening e.jobs e.fabric e.nodes.items e.pumps.items };
+    ghost view = { λ e.
+        epoch_value e.opening e.jobs e.run.fabric e.run.nodes.items e.run.pumps.items };
 
     ghost invariant = { λ e. IsReachedEpoch
-        (epoch_value e.opening e.jobs e.fabric e.nodes.items e.pumps.items) };
+        (epoch_value e.opening e.jobs e.run.fabric e.run.nodes.items e.run.pumps.items) };
 }
 
 impl Epoch {
@@ -76,19 +71,14 @@ impl Epoch {
         ensures none_written { IfOk result (λ epoch. receipts_since_page epoch ≡ []) }
         ensures returned { IfErr result (λ back. back ≡ opening) }
     {
-        let Ok((fabric, nodes, pumps)) = Fabric::open_in_threads(rt, alloc, &opening, pumps) else {
+        let Ok(opened) = Fabric::open_in_threads(rt, alloc, &opening, pumps) else {
             return Err(opening);
         };
-        // For the proof alone: what was handed in is an opening, and this is a fabric.
-        let _recon = opening.recon();
-        let _trees = fabric.trees();
-        let progress = progress_at_start(&opening, &fabric);
+        let progress = progress_at_start(&opening, &opened.fabric);
         Ok(Epoch {
             opening,
             jobs: PostedJobs::new(alloc),
-            fabric,
-            nodes,
-            pumps,
+            run: opened,
             progress,
         })
     }
@@ -98,8 +88,6 @@ impl Epoch {
         ensures opening { result.now ≡ self.now.opening }
         ensures set_up { IsSetUp result.now }
     {
-        // For the proof alone: it is an opening.
-        let _recon = self.opening.recon();
         &self.opening
     }
 
@@ -115,7 +103,7 @@ impl Epoch {
     pub fn segments(&self) -> u64
         ensures { result ≡ stage_segments self.now.opening.recon self.now.fabric.stage }
     {
-        stage_segments(self.opening.recon(), self.fabric.stage())
+        stage_segments(self.opening.recon(), self.run.fabric.stage())
     }
 
     /// How many segments move in the stage, and how many of them are complete by the reports of the workers.
@@ -147,7 +135,7 @@ impl Epoch {
         ensures history { (o : OpeningValue) (past : List Episode)
             → RunsAfter o past self.old → RunsAfter o past self.new }
     {
-        post_job(rt, &self.fabric, &mut self.jobs, part, txn)
+        post_job(rt, &self.run.fabric, &mut self.jobs, part, txn)
     }
 
     /// Runs the workers: each partition and each pump in a thread of its own, for this many turns at most. All of them
@@ -168,23 +156,24 @@ impl Epoch {
         let Epoch {
             opening,
             jobs,
-            fabric,
-            mut nodes,
-            mut pumps,
+            mut run,
             progress,
         } = self;
-        // For the proof alone: what was handed in is an opening.
-        let _recon = opening.recon();
-        let counting = CountingGate::new(gate, fabric.parts(), progress);
-        run_workers(rt, &fabric, &mut nodes, &mut pumps, turns, &counting);
-        fabric.open_jobs(rt);
+        let counting = CountingGate::new(gate, run.fabric.parts(), progress);
+        run_workers(
+            rt,
+            &run.fabric,
+            &mut run.nodes,
+            &mut run.pumps,
+            turns,
+            &counting,
+        );
+        run.fabric.open_jobs(rt);
         let progress = counting.progress();
         Epoch {
             opening,
             jobs,
-            fabric,
-            nodes,
-            pumps,
+            run,
             progress,
         }
     }
@@ -204,31 +193,19 @@ impl Epoch {
         let Epoch {
             opening,
             jobs,
-            fabric,
-            nodes,
-            pumps,
+            run,
             progress,
         } = self;
-        // For the proof alone: what was handed in is an opening.
-        let _recon = opening.recon();
-        match gather(rt, alloc, fabric, nodes, pumps) {
+        match gather(rt, alloc, run) {
             Ok(gathered) => Ok(Pause {
                 opening,
                 jobs,
                 gathered,
             }),
-            Err(
-                Ungathered {
-                    fabric,
-                    nodes,
-                    pumps,
-                },
-            ) => Err(Epoch {
+            Err(run) => Err(Epoch {
                 opening,
                 jobs,
-                fabric,
-                nodes,
-                pumps,
+                run,
                 progress,
             }),
         }
@@ -238,7 +215,7 @@ impl Epoch {
     pub(crate) fn wants_page(&self) -> bool
         ensures { result ≡ list_any shows_long_log (receipts_since_page self.now) }
     {
-        any_shows_long_log(self.fabric.receipts()) || any_node_shows_long_log(&self.nodes)
+        any_shows_long_log(self.run.fabric.receipts()) || any_node_shows_long_log(&self.run.nodes)
     }
 
     // Whether segments move in the stage, and all of them are complete by the reports of the workers.

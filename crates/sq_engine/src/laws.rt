@@ -1,26 +1,19 @@
 //! What holds of engines. The functions do nothing: each states a law, which the checker proves.
 ghost use Rattle.std.specs.Prelude.{◌≡◌, ◌∷◌, List, []};
-ghost use Rattle.std.specs.List.{flat_map};
-ghost use Rattle.std.specs.List.Sorted.{IsPermutation};
-ghost use Rattle.sq_ranges.specs.Prelude.{OpeningValue, IsOpening};
+ghost use Rattle.sq_ranges.specs.Prelude.{OpeningValue};
 ghost use Rattle.sq_node_model.specs.Prelude.{GatheredValue, IsPlaced};
-ghost use Rattle.sq_audit.specs.declared.job.Job.{Job};
-ghost use Rattle.sq_audit.specs.declared.verdict.Verdict.{Verdict};
-ghost use Rattle.sq_audit.specs.Sound.{IsSoundRun};
-ghost use Rattle.sq_audit.specs.Defects.{IsVerdict};
 ghost use Rattle.sq_page.specs.declared.page.Page.{Page};
-ghost use Rattle.sq_page.specs.Pages.{IsPageOf, SpeaksForRuns};
+ghost use Rattle.sq_page.specs.Pages.{IsPageOf};
 ghost use Rattle.sq_epoch.specs.Exchanges.{Exchange};
 ghost use Rattle.sq_epoch.specs.declared.long_log.TheConstants.{LONG_LOG};
-ghost use Rattle.sq_engine.specs.History.{Episode, pause_after, HaveCome, IsLastStage};
-ghost use Rattle.sq_engine.specs.History.{HasDoneStage};
-ghost use Rattle.sq_engine.specs.Ending.{paged, AllSound, EngineEndsAsPlanned};
+ghost use Rattle.sq_engine.specs.Values.{PauseValue};
+ghost use Rattle.sq_engine.specs.History.{Episode, pause_after, HaveCome};
+ghost use Rattle.sq_engine.specs.Ending.{EndsItsMove, IsSoundEngine, SpeaksForPause, EngineEndsAsPlanned};
 ghost use Rattle.sq_engine.specs.declared.closed.Closed.{Closed};
 ghost use Rattle.sq_engine.specs.declared.standing.Standing.{Standing};
 ghost use Rattle.sq_engine.specs.Engine.{receipts_in};
 ghost use Rattle.sq_engine.specs.Taken.{TakesItsPage, HasClosedAfter};
-ghost use Rattle.sq_engine.specs.Served.{told_answers};
-ghost use Rattle.sq_engine.specs.Told.{TellsInTurn};
+ghost use Rattle.sq_engine.specs.Told.{AreAnswersGiven, TellsInTurn};
 
 /// The limit of engines, in digits.
 pub fn the_limits()
@@ -37,13 +30,8 @@ pub fn what_an_engine_comes_by_is_placed()
 
 /// The audit of a page that was taken after the last stage of a move speaks for what the engine had then.
 pub fn a_page_speaks_for_an_engine()
-    ensures { (o : OpeningValue) (past : List Episode) (episode : Episode)
-        (page : GatheredValue) (jobs : List Job) (verdict : Verdict)
-        → HaveCome o (episode ∷ past) → IsOpening (pause_after episode).opening
-        → HasDoneStage (pause_after episode) → IsLastStage (pause_after episode)
-        → IsPageOf (pause_after episode).gathered page
-        → SpeaksForRuns (pause_after episode).opening.new page jobs verdict
-        → IsVerdict (pause_after episode).opening (pause_after episode).gathered jobs verdict }
+    ensures { (o : OpeningValue) (past : List Episode) (pause : PauseValue) (page : GatheredValue)
+        → EndsItsMove o past pause → IsPageOf pause.gathered page → SpeaksForPause pause page }
 {}
 
 /// A sound engine ends where it was planned: where each page was found sound, and what is left after the last stage of a move
@@ -51,13 +39,8 @@ pub fn a_page_speaks_for_an_engine()
 /// engine opened with, with all that committed since on its root key replayed in the order of its logs, page by page; each
 /// receipt is the answer to a job, and each job that was posted has one receipt.
 pub fn a_sound_engine_ends_where_planned()
-    ensures { (o : OpeningValue) (past : List Episode) (episode : Episode)
-        → HaveCome o (episode ∷ past) → IsOpening (pause_after episode).opening
-        → HasDoneStage (pause_after episode) → IsLastStage (pause_after episode)
-        → AllSound (paged (episode ∷ past))
-        → IsSoundRun (pause_after episode).opening (pause_after episode).gathered
-        (pause_after episode).jobs
-        → EngineEndsAsPlanned o (episode ∷ past) (pause_after episode) }
+    ensures { (o : OpeningValue) (past : List Episode) (pause : PauseValue)
+        → EndsItsMove o past pause → IsSoundEngine past pause → EngineEndsAsPlanned o past pause }
 {}
 
 /// The answers that an engine gave are on its pages: where it gave, since it was opened or since its last page, each
@@ -66,8 +49,8 @@ pub fn a_sound_engine_ends_where_planned()
 pub fn what_was_told_is_on_the_page()
     ensures page { (first last next : Standing) (told : List (List Exchange)) (page : Page)
         → receipts_in first ≡ [] → TellsInTurn told first last → TakesItsPage last page next
-        → IsPermutation (flat_map told_answers told) page.run.receipts }
-    ensures closed { (first last : Standing) (told : List (List Exchange)) (closed : Closed)
-        → receipts_in first ≡ [] → TellsInTurn told first last → HasClosedAfter last closed
-        → IsPermutation (flat_map told_answers told) closed.page.run.receipts }
+        → AreAnswersGiven told page.run.receipts }
+    ensures closed { (first last : Standing) (told : List (List Exchange)) (end : Closed)
+        → receipts_in first ≡ [] → TellsInTurn told first last → HasClosedAfter last end
+        → AreAnswersGiven told end.page.run.receipts }
 {}

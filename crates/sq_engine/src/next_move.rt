@@ -46,8 +46,6 @@ impl NextMove {
         ensures opening { result.now ≡ self.now.opening }
         ensures set_up { IsSetUp result.now }
     {
-        // For the proof alone: it is an opening.
-        let _recon = self.opening.recon();
         &self.opening
     }
 
@@ -87,14 +85,12 @@ impl NextMove {
             gathered,
         } = self;
         match move_on(alloc, &opening, gathered, pumps) {
-            Ok((fabric, nodes, pumps)) => {
-                let progress = progress_at_start(&opening, &fabric);
+            Ok(opened) => {
+                let progress = progress_at_start(&opening, &opened.fabric);
                 Ok(Epoch {
                     opening,
                     jobs,
-                    fabric,
-                    nodes,
-                    pumps,
+                    run: opened,
                     progress,
                 })
             }

@@ -8,7 +8,7 @@ ghost use Rattle.sq_ranges.specs.Refused.{config_fault, MayRefuse};
 ghost use Rattle.sq_node_model.specs.Prelude.{IsPlaced, folded_opening};
 ghost use Rattle.sq_audit.specs.Answers.{IdsDiffer};
 ghost use Rattle.sq_audit.specs.ById.{ListsIds, is_listed};
-ghost use Rattle.sq_engine.specs.Values.{receipts_since_page, whole_segments};
+ghost use Rattle.sq_engine.specs.Values.{receipts_since_page, complete_segments};
 ghost use Rattle.sq_epoch.specs.Progress.{stage_segments};
 ghost use Rattle.sq_engine.specs.History.{Episode, HasMoreStages, IsLastStage, HasDoneStage};
 ghost use Rattle.sq_engine.specs.History.{RunsAfter, PausesAfter, GoesOnAfterPage, IsDueAfter};
@@ -19,7 +19,7 @@ use crate::closed::Closed;
 use crate::epoch::Epoch;
 use crate::next_move::NextMove;
 use sq_audit::{Job, copy_answered, list_ids};
-use sq_epoch::{PostedJobs, StageProgress, progress_at_start, stage_segments, whole_segments};
+use sq_epoch::{PostedJobs, StageProgress, complete_segments, progress_at_start, stage_segments};
 use sq_gather::{Gathered, reopen};
 use sq_page::{Page, take_page};
 use sq_plan::Plan;
@@ -79,8 +79,6 @@ impl Pause {
         ensures opening { result.now ≡ self.now.opening }
         ensures set_up { IsSetUp result.now }
     {
-        // For the proof alone: it is an opening.
-        let _recon = self.opening.recon();
         &self.opening
     }
 
@@ -105,14 +103,14 @@ impl Pause {
     pub fn progress(&self) -> StageProgress
         ensures segments { result.segments
             ≡ stage_segments self.now.opening.recon self.now.gathered.stage }
-        ensures complete { result.complete ≡ whole_segments self.now }
+        ensures complete { result.complete ≡ complete_segments self.now }
         ensures moved { result.moved ≡ 0 }
         ensures moved_bytes { result.moved_bytes ≡ 0 }
     {
         let recon = self.opening.recon();
         StageProgress {
             segments: stage_segments(recon, self.gathered.stage),
-            complete: whole_segments(recon, &self.gathered),
+            complete: complete_segments(recon, &self.gathered),
             moved: 0,
             moved_bytes: 0,
         }
@@ -152,14 +150,12 @@ impl Pause {
             gathered,
         } = self;
         match reopen(alloc, &opening, gathered, pumps) {
-            Ok((fabric, nodes, pumps)) => {
-                let progress = progress_at_start(&opening, &fabric);
+            Ok(opened) => {
+                let progress = progress_at_start(&opening, &opened.fabric);
                 Ok(Epoch {
                     opening,
                     jobs,
-                    fabric,
-                    nodes,
-                    pumps,
+                    run: opened,
                     progress,
                 })
             }
@@ -190,8 +186,6 @@ impl Pause {
             jobs,
             gathered,
         } = self;
-        // For the proof alone: what was handed in is an opening.
-        let _recon = opening.recon();
         match opening.onward(alloc, plan) {
             Ok(opening) => Ok(NextMove {
                 opening,
@@ -275,8 +269,6 @@ impl Pause {
             jobs,
             gathered,
         } = self;
-        // For the proof alone: what was handed in is an opening.
-        let _recon = opening.recon();
         let Ok((ids, answered)) = answered_of(alloc, &gathered, jobs.as_slice()) else {
             return Err(Pause {
                 opening,
@@ -316,8 +308,6 @@ impl Pause {
             jobs,
             gathered,
         } = self;
-        // For the proof alone: what was handed in is an opening.
-        let _recon = opening.recon();
         let (jobs, ids) = jobs.into_parts();
         match take_page(rt, alloc, gathered, jobs) {
             Ok(paged) => Ok(Closed {

@@ -6,6 +6,7 @@ ghost use Rattle.sq_engine.specs.Served.{EpochIsServed};
 
 use crate::epoch::Epoch;
 use sq_epoch::{Client, make_ready, serve_with};
+use sq_node::RunParts;
 use std::alloc::Global;
 use std::sync::Wait;
 use std::thread::Threads;
@@ -51,13 +52,14 @@ impl Epoch {
         let Epoch {
             opening,
             jobs,
+            run,
+            progress,
+        } = self;
+        let RunParts {
             fabric,
             nodes,
             pumps,
-            progress,
-        } = self;
-        // For the proof alone: what was handed in is an opening.
-        let _recon = opening.recon();
+        } = run;
         match make_ready(alloc, fabric.parts(), progress, nodes) {
             Ok(ready) => {
                 let parts = serve_with(rt, &fabric, ready, jobs, pumps, turns, client);
@@ -66,9 +68,11 @@ impl Epoch {
                     epoch: Epoch {
                         opening,
                         jobs: parts.jobs,
-                        fabric,
-                        nodes: parts.nodes,
-                        pumps: parts.pumps,
+                        run: RunParts {
+                            fabric,
+                            nodes: parts.nodes,
+                            pumps: parts.pumps,
+                        },
                         progress: parts.progress,
                     },
                     is_whole: parts.is_whole,
@@ -78,9 +82,11 @@ impl Epoch {
             Err(nodes) => Err(Epoch {
                 opening,
                 jobs,
-                fabric,
-                nodes,
-                pumps,
+                run: RunParts {
+                    fabric,
+                    nodes,
+                    pumps,
+                },
                 progress,
             }),
         }

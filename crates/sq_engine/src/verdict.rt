@@ -1,5 +1,6 @@
 // The verdict on a closed engine.
 ghost use Rattle.std.specs.Prelude.{IfOk};
+ghost use Rattle.sq_ranges.specs.Prelude.{IsSetUp};
 ghost use Rattle.sq_page.specs.Pages.{SpeaksForRuns};
 ghost use Rattle.sq_engine.specs.Verdicts.{SpeaksForEngines};
 
@@ -20,6 +21,7 @@ impl Closed {
         ensures page { IfOk result
             (SpeaksForRuns self.now.opening.new self.now.page.run self.now.page.jobs.items) }
         ensures engine { IfOk result (SpeaksForEngines self.now) }
+        ensures set_up { IsSetUp self.now.opening }
     {
         let opening = &self.opening;
         let plan = opening.new_plan();

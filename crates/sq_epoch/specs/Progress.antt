@@ -11,9 +11,9 @@ abbrev pub stage_segments : ReconValue → ℕ → ℕ
 stage_segments recon stage = count_by (λ segment. stage_in recon segment == stage) recon.segments
 
 -- the segment, which has this number, moves in the stage that was gathered, and is complete by its tree
-abbrev pub is_complete_in : ReconValue → GatheredValue → ℕ × Range → Bool
-is_complete_in recon g at = (stage_in recon at.1 == g.stage) && is_whole_in g at.0
+abbrev pub is_complete_in_stage : ReconValue → GatheredValue → ℕ × Range → Bool
+is_complete_in_stage recon g at = (stage_in recon at.1 == g.stage) && is_whole_in g at.0
 
 -- how many segments are
-abbrev pub whole_segments_in : ReconValue → GatheredValue → ℕ
-whole_segments_in recon g = count_by (is_complete_in recon g) (enumerate_from 0 recon.segments)
+abbrev pub complete_segments_in : ReconValue → GatheredValue → ℕ
+complete_segments_in recon g = count_by (is_complete_in_stage recon g) (enumerate_from 0 recon.segments)

@@ -23,4 +23,4 @@ pub use long_log::{LONG_LOG, any_node_shows_long_log, any_shows_long_log};
 pub use posted::{PostFault, PostedJobs};
 pub use posting::post_job;
 pub use serving::{ReadyToServe, ServedParts, make_ready, serve_with};
-pub use stage_progress::{StageProgress, progress_at_start, stage_segments, whole_segments};
+pub use stage_progress::{StageProgress, complete_segments, progress_at_start, stage_segments};

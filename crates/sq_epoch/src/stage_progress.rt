@@ -1,7 +1,7 @@
 // How far the segments of a stage are.
 ghost use Rattle.std.specs.Prelude.{◌≡◌};
 ghost use Rattle.sq_node_model.specs.Prelude.{is_whole_in, AllGrown};
-ghost use Rattle.sq_epoch.specs.Progress.{stage_segments, is_complete_in, whole_segments_in};
+ghost use Rattle.sq_epoch.specs.Progress.{stage_segments, is_complete_in_stage, complete_segments_in};
 
 use sq_gather::{Gathered, reads_complete};
 use sq_node::Fabric;
@@ -65,9 +65,9 @@ pub fn stage_segments(recon: &Recon, stage: u64) -> u64
 }
 
 /// How many segments of the stage that was gathered are complete by their trees.
-pub fn whole_segments(recon: &Recon, g: &Gathered) -> u64
+pub fn complete_segments(recon: &Recon, g: &Gathered) -> u64
     requires { AllGrown g.now.statuses }
-    ensures { result ≡ whole_segments_in recon.now g.now }
+    ensures { result ≡ complete_segments_in recon.now g.now }
 {
     let mut count: usize = 0;
     for (seg, segment) in recon.segments().iter().enumerate() {
@@ -81,13 +81,13 @@ pub fn whole_segments(recon: &Recon, g: &Gathered) -> u64
 // Whether the segment at this place moves in the stage that was gathered, and is complete by its tree.
 fn is_complete(recon: &Recon, g: &Gathered, place: usize, segment: &Range) -> bool
     requires { AllGrown g.now.statuses }
-    ensures { result ≡ is_complete_in recon.now g.now (place, segment.now) }
+    ensures { result ≡ is_complete_in_stage recon.now g.now (place, segment.now) }
 {
-    recon.stage_on(segment.src, segment.dst) == g.stage && is_whole(g, place)
+    recon.stage_on(segment.src, segment.dst) == g.stage && is_segment_complete(g, place)
 }
 
 // Whether the segment at this place is complete by its tree.
-fn is_whole(g: &Gathered, place: usize) -> bool
+fn is_segment_complete(g: &Gathered, place: usize) -> bool
     requires { AllGrown g.now.statuses }
     ensures { result ≡ is_whole_in g.now place }
 {

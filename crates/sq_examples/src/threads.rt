@@ -45,8 +45,6 @@ pub fn run_jobs<R: Threads + Wait + Sync>(
 {
     // What the threads share, a node for each partition, and the pumps.
     let mut run = StageRun::open(alloc, opening, PUMPS)?;
-    // For the proof alone: what was handed in is an opening.
-    let _recon = opening.recon();
     post_all(rt, run.fabric(), jobs)?;
     run.drive(rt, TURNS, &OpenGate);
     match run.gather(rt, alloc) {

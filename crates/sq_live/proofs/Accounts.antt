@@ -1,8 +1,10 @@
 -- The account once logs were folded.
-use Rattle.std.proofs.Common.{◌≡◌, ℕ, ◌+◌, ◌-◌, ◌≤◌, List, length, refl, ap, ◌∙◌, arith}
+use Rattle.std.proofs.Common.{◌≡◌, ℕ, ◌+◌, ◌-◌, ◌≤◌, List, length, refl, sym, ap, ◌∙◌, subst, arith}
 use Rattle.std.specs.Prelude.{not}
 use Rattle.std.proofs.lemmas.List.Filters.{length-filter_both}
+use Rattle.sq_ranges.specs.Opening.{IsOpening}
 use Rattle.sq_node_model.specs.Gathered.{GatheredValue}
+use Rattle.sq_node_model.proofs.Folded.{rowless_opening}
 use Rattle.sq_audit.specs.declared.job.Job.{Job}
 use Rattle.sq_audit.specs.declared.folded.Folded.{Folded}
 use Rattle.sq_audit.specs.Folding.{has_receipt, answered_jobs, IsFold}
@@ -31,6 +33,7 @@ module _ (old : AccountValue) (g : GatheredValue) (folded : Folded) (fold : IsFo
         let before = is.commits in
         let most = few_commits g (answered_jobs g.receipts old.jobs) fold.sound.known fold.sound.answered in
         record {
+          is_opening = subst IsOpening (sym fold.opening) (rowless_opening old.opening folded.opening.table is.is_opening);
           differ = fold.differ;
           few = omega (arith, parted, posted_is, left_is, few);
           commits = omega (arith, parted, posted_is, left_is, commits_are, before, most);

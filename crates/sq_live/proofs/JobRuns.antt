@@ -6,8 +6,9 @@ use Rattle.sq_audit.specs.declared.job.Job.{Job}
 use Rattle.sq_lines.specs.declared.buffer.TheConstants.{MAX_UNENDED}
 use Rattle.sq_lines.specs.declared.reader.TheConstants.{MAX_LINES}
 use Rattle.sq_text.specs.declared.located.InputLine.TheVariants.{Later}
-use Rattle.sq_lines.specs.Pieces.{next_line_number, PieceValue, Line, Failed, Endless, TooMany as TooManyLines}
-use Rattle.sq_lines.specs.Coming.{LinesValue, CanCome, CameBefore, IsLong, Leaves}
+use Rattle.sq_lines.specs.Pieces.{next_line_number, PieceValue, Line, Rest, Failed, Endless, TooMany as TooManyLines}
+use Rattle.sq_lines.specs.Coming.{LinesValue, CanCome, CameBefore, IsLong, ReadsOn, Leaves}
+use Rattle.sq_lines.proofs.Comings.{some_pieces}
 use Rattle.sq_lines.proofs.Lengths.{is_endless}
 use Rattle.sq_text.specs.declared.input_fault.InputFault.TheVariants as input
 use Rattle.sq_text.specs.Located.{located}
@@ -18,7 +19,7 @@ use Rattle.sq_live.specs.declared.fault.LiveFault.TheVariants.{Input}
 use Rattle.sq_live.specs.declared.job_list.TheConstants.{MAX_JOBS}
 use Rattle.sq_live.specs.Faults.{fault_at, out_of_memory}
 use Rattle.sq_live.specs.Jobs.{has_id, HavePartitions}
-use Rattle.sq_live.specs.JobLines.{job_by, job_of, jobs_then, jobs_in, AddsJob, IsFirstFault}
+use Rattle.sq_live.specs.JobLines.{job_by, job_of, jobs_then, jobs_in, AddsJob, AreJobs, IsFirstFault}
 use Rattle.sq_model.specs.declared.step.Step.{Step}
 use Rattle.sq_model.specs.declared.step.Step.TheVariants.{Submit}
 use Rattle.sq_text.specs.declared.fault.LineFault.{LineFault}
@@ -58,8 +59,8 @@ module _ (tables parts : ℕ) where
   module _ (first now : LinesValue) (jobs : List Job) (so_far : JobsSoFar first now jobs) where
     -- a line with a job
     pub job_more : (new : LinesValue) (number : ℕ) (bytes : List ℕ) (more : List Job) → CameBefore now (Line number bytes) new → (job : Job) × (job_of tables parts jobs bytes ≡ Ok job) × (more ≡ jobs ++ job ∷ []) → JobsSoFar first new more
-    job_more new number bytes more came adds = λ left can.
-        let all = so_far (Line number bytes ∷ left) (came left can) in
+    job_more new number bytes more came adds = λ end left can.
+        let all = so_far end (Line number bytes ∷ left) (came end left can) in
         (all.0, all.1, all.2 ∙ ap (λ told. jobs_then number jobs told (λ others. jobs_in tables parts others left)) adds.1 ∙ ap (λ (others : List Job). jobs_in tables parts others left) (sym adds.2))
 
     -- the job is of a partition, as those before it
@@ -71,7 +72,7 @@ module _ (tables parts : ℕ) where
 
     -- what can come has this fault
     ends_by : (fault : LiveFault) (left : List PieceValue) → CanCome now left → (fault ≢ out_of_memory → jobs_in tables parts jobs left ≡ Err fault) → IsFirstFault tables parts first fault
-    ends_by fault left can is = let all = so_far left can in (all.0, all.1, λ told. all.2 ∙ is told)
+    ends_by fault left can is = let all = so_far can.0 left can.1 in (all.0, (can.0, all.1), λ told. all.2 ∙ is told)
 
     -- a line that spells no job
     bad_line : (fault : JobFault) (number : ℕ) (bytes : List ℕ) (left : List PieceValue) (told : LiveFault) → job_of tables parts jobs bytes ≡ Err fault → told ≡ fault_at number fault → jobs_in tables parts jobs (Line number bytes ∷ left) ≡ Err told
@@ -86,13 +87,24 @@ module _ (tables parts : ℕ) where
     at_line faults.NoSuchPartition told number bytes more left can adds says = ends_by told (Line number bytes ∷ left) can (λ apart. bad_line faults.NoSuchPartition number bytes left told adds.0 says)
     at_line faults.LineTooLong told number bytes more left can adds says = ends_by told (Line number bytes ∷ left) can (λ apart. bad_line faults.LineTooLong number bytes left told adds.0 says)
 
+    -- the end of the input, or bytes without a line end before it
+    pub at_end : CanCome now [] → AreJobs tables parts first jobs
+    at_end can = let all = so_far can.0 [] can.1 in (all.0, (can.0, all.1), all.2)
+
+    pub at_rest : (told : LiveFault) (number : ℕ) (bytes : List ℕ) → CanCome now (Rest number bytes ∷ []) → told ≡ fault_at number faults.NotAJob → IsFirstFault tables parts first told
+    at_rest told number bytes can says = ends_by told (Rest number bytes ∷ []) can (λ apart. ap Err (sym says))
+
     pub at_failed : (told : LiveFault) (number : ℕ) (bytes : List ℕ) → CanCome now (Failed number bytes ∷ []) → told ≡ Input (located input.ReadFailed (Some (Later number))) → IsFirstFault tables parts first told
     at_failed told number bytes can says = ends_by told (Failed number bytes ∷ []) can (λ apart. ap Err (sym says))
 
-    pub at_long : (told : LiveFault) → IsLong MAX_UNENDED now → told ≡ Input (located input.TooLong (Some (Later (next_line_number now.lines_left)))) → IsFirstFault tables parts first told
-    at_long told long says =
-        let endless = is_endless now long in
-        ends_by told (Endless (next_line_number now.lines_left) endless.bytes ∷ endless.others) endless.can_come (λ apart. ap Err (sym says))
+    pub at_long : (new : LinesValue) (told : LiveFault) → ReadsOn now new → IsLong MAX_UNENDED new → told ≡ Input (located input.TooLong (Some (Later (next_line_number now.lines_left)))) → IsFirstFault tables parts first told
+    at_long new told on long says =
+        let some = some_pieces new in
+        let endless = is_endless new long some.pieces some.can_come in
+        let number = next_line_number new.lines_left in
+        let came : CanCome now (Endless number endless.bytes ∷ endless.others) = subst (CanCome now) endless.are (some.can_come.0, on.0 some.can_come.0 some.pieces some.can_come.1) in
+        let told_at : told ≡ Input (located input.TooLong (Some (Later number))) = says ∙ ap (λ (n : ℕ). Input (located input.TooLong (Some (Later (next_line_number n))))) (sym on.1) in
+        ends_by told (Endless number endless.bytes ∷ endless.others) came (λ apart. ap Err (sym told_at))
 
     pub at_too_many : (told : LiveFault) → CanCome now (TooManyLines ∷ []) → told ≡ Input (located input.TooLong (Some (Later (MAX_LINES + 1)))) → IsFirstFault tables parts first told
     at_too_many told can says = ends_by told (TooManyLines ∷ []) can (λ apart. ap Err (sym says))

@@ -24,9 +24,9 @@ module _ (tables parts : ℕ) (begin lines : LinesValue) (o : OpeningValue) wher
   pub read_both : (jobs : List Job) → tables ≡ MAX_TABLES → parts ≡ o.old.parts → Leaves begin lines (λ all left. Opens tables (Ok o) left (header_of tables all)) → AreJobs tables parts lines jobs
       → ComesToSpell MAX_TABLES begin o jobs
   read_both jobs eight are opens spelled =
-      let all = opens spelled.0 spelled.1 in (
+      let all = opens spelled.1.0 spelled.0 spelled.1.1 in (
         all.0,
-        all.1,
+        (spelled.1.0, all.1),
         record {
           left = spelled.0;
           opens = subst (λ n. Opens n (Ok o) spelled.0 (header_of n all.0)) eight all.2;
@@ -38,9 +38,9 @@ module _ (tables parts : ℕ) (begin lines : LinesValue) (o : OpeningValue) wher
   pub read_no_jobs : (fault : LiveFault) → tables ≡ MAX_TABLES → parts ≡ o.old.parts → Leaves begin lines (λ all left. Opens tables (Ok o) left (header_of tables all)) → IsFirstFault tables parts lines fault
       → ComesToFail MAX_TABLES begin fault
   read_no_jobs fault eight are opens first =
-      let all = opens first.0 first.1 in (
+      let all = opens first.1.0 first.0 first.1.1 in (
         all.0,
-        all.1,
+        (first.1.0, all.1),
         inr (record {
           opening = o;
           left = first.0;
@@ -53,8 +53,8 @@ module _ (tables parts : ℕ) (begin lines : LinesValue) (o : OpeningValue) wher
 pub read_no_header : (tables : ℕ) (begin lines : LinesValue) (located : LocatedFault) → tables ≡ MAX_TABLES → Leaves begin lines (λ all left. Opens tables (Err located) left (header_of tables all)) → ComesToFail MAX_TABLES begin (Input located)
 read_no_header tables begin lines located eight opens =
     let some = some_pieces lines in
-    let all = opens some.pieces some.can_come in
-    (all.0, all.1, inl (record { located = located; is = refl; left = some.pieces; opens = subst (λ n. Opens n (Err located) some.pieces (header_of n all.0)) eight all.2 }))
+    let all = opens some.can_come.0 some.pieces some.can_come.1 in
+    (all.0, (some.can_come.0, all.1), inl (record { located = located; is = refl; left = some.pieces; opens = subst (λ n. Opens n (Err located) some.pieces (header_of n all.0)) eight all.2 }))
 
 -- there was no memory, whatever the reader gives
 pub none_read : (tables : ℕ) (known : Option (List ℕ)) → (given : List PieceValue) × IsGiven known given × HaveFault tables given out_of_memory

@@ -1,13 +1,16 @@
 -- A run that comes from stage to stage.
-use Rattle.std.proofs.Common.{◌≡◌, inl, ℕ, ◌+◌, ◌-◌, ◌<◌, Bool, true, false, List, [], ◌∷◌, length, refl, sym, ap, ◌∙◌, subst, arith}
+use Rattle.std.proofs.Common.{◌≡◌, inl, ℕ, ◌+◌, ◌-◌, ◌<◌, Bool, true, false, List, [], ◌∷◌, length, Ok, refl, sym, ap, ◌∙◌, subst, arith}
+use Rattle.std.proofs.lemmas.Bool.{eqb-false}
 use Rattle.std.specs.declared.ops.ControlFlow.{ControlFlow}
 use Rattle.std.specs.declared.ops.ControlFlow.TheVariants.{Continue, Break}
 use Rattle.sq_ranges.specs.ReconValue.{stages}
 use Rattle.sq_ranges.specs.OpeningValue.{OpeningValue}
 use Rattle.sq_ranges.specs.Opening.{IsOpening}
+use Rattle.sq_ranges.proofs.Stages.{some_stage}
 use Rattle.sq_leader.specs.LeaderValue.{StageValue}
 use Rattle.sq_leader.specs.Marks.{none_marked}
 use Rattle.sq_leader.specs.Segments.{is_told_whole}
+use Rattle.sq_leader.specs.Leader.{is_last, answer_to_next}
 use Rattle.sq_node_model.specs.BeganWith.{BeganWith, first_began}
 use Rattle.sq_node_model.specs.Gathered.{GatheredValue}
 use Rattle.sq_node_model.specs.Placed.{IsPlaced}
@@ -133,6 +136,14 @@ module _ (folds : Bool) (old : AccountValue) (began : BeganWith) (g : GatheredVa
 
 -- ---- stage by stage
 
+-- the leader moved on after a stage, so that wasn't the last one
+not_the_last : (at next : StageValue) → answer_to_next at ≡ Ok next → at.stage < stages at.recon → at.stage + 1 < stages at.recon
+not_the_last at next answers within = by (is_last at) refl
+  where
+    by : (last : Bool) → is_last at ≡ last → at.stage + 1 < stages at.recon
+    by true last = let clash = rw last at answers in cc
+    by false last = omega (arith, eqb-false (at.stage + 1) (stages at.recon) last, within)
+
 -- stages passed, and the next one is ready
 pub record IsAt (folds : Bool) (o : OpeningValue) (jobs : List Job) (ready : Ready) : Type 0 where
   pub set_up : IsOpening o
@@ -141,6 +152,7 @@ pub record IsAt (folds : Bool) (o : OpeningValue) (jobs : List Job) (ready : Rea
   pub began : BeganWith
   pub passed : HavePassed folds o jobs earlier ready.account began
   pub is_ready : IsReady began ready
+  pub within : ready.moving.stage < stages ready.moving.recon
 
 -- how many stages are left, with the one that is ready
 abbrev pub stages_left : Ready → ℕ
@@ -155,34 +167,57 @@ module _ (folds : Bool) (o : OpeningValue) (jobs : List Job) where
     began = first_began o;
     passed = (account, refl);
     is_ready = is;
+    within = subst (λ (at : StageValue). at.stage < stages at.recon) (sym is.led) (some_stage ready.account.opening.recon);
   }
 
   module _ (ready : Ready) (at : IsAt folds o jobs ready) where
-    pub at_next : (next : Ready) → ComesAfterStage folds ready.account at.began (Continue next) → IsAt folds o jobs next
-    at_next next comes =
-        let (g, later, passed, is) = comes in
-        record {
-          set_up = at.set_up;
-          differ = at.differ;
-          earlier = g ∷ at.earlier;
-          began = later;
-          passed = (ready.account, at.began, at.passed, passed);
-          is_ready = is;
-        }
+    module _ (next : Ready) (comes : ComesAfterStage folds ready.account at.began (Continue next)) where
+      led : ready.moving.stage ≡ at.began.stage
+      led = ap (λ (s : StageValue). s.stage) at.is_ready.led
+
+      next_stage_is : next.moving.stage ≡ ready.moving.stage + 1
+      next_stage_is =
+          let (g, later, passed, is) = comes in
+          let gone = stays_in_stage ready.account g next.account passed.next folds passed.continues in
+          ap (λ (s : StageValue). s.stage) is.led ∙ ap (λ (b : BeganWith). b.stage) passed.later_is ∙ ap (λ (n : ℕ). n + 1) (gone ∙ passed.ran.stage ∙ sym led)
+
+      as_many_stages : stages next.moving.recon ≡ stages ready.moving.recon
+      as_many_stages =
+          let (g, later, passed, is) = comes in
+          ap (λ (s : StageValue). stages s.recon) is.led ∙ ap stages (moves_alike ready.account g next.account passed.next folds passed.continues) ∙ sym (ap (λ (s : StageValue). stages s.recon) at.is_ready.led)
+
+      -- the leader moved on, so there is a stage for it
+      next_within : next.moving.stage < stages next.moving.recon
+      next_within =
+          let (g, later, passed, is) = comes in
+          let leads = passed.led.hears.leads in
+          let here : passed.leader.stage ≡ ready.moving.stage = leads.stage_is ∙ passed.ran.stage ∙ sym led in
+          let many : stages passed.leader.recon ≡ stages ready.moving.recon =
+          ap stages leads.recon_is ∙ sym (ap (λ (s : StageValue). stages s.recon) at.is_ready.led) in
+          let now = at.within in
+          let further = not_the_last passed.leader _ passed.led.next (omega (arith, here, many, now)) in
+          let e : next.moving.stage < stages next.moving.recon = omega (arith, here, many, further, next_stage_is, as_many_stages) in
+          e
+
+      pub at_next : IsAt folds o jobs next
+      at_next =
+          let (g, later, passed, is) = comes in
+          record {
+            set_up = at.set_up;
+            differ = at.differ;
+            earlier = g ∷ at.earlier;
+            began = later;
+            passed = (ready.account, at.began, at.passed, passed);
+            is_ready = is;
+            within = next_within;
+          }
+
+      pub fewer_left : stages_left next < stages_left ready
+      fewer_left =
+          let within = at.within in
+          let e : stages next.moving.recon - next.moving.stage < stages ready.moving.recon - ready.moving.stage = omega (arith, next_stage_is, as_many_stages, within) in
+          e
 
     pub were_run : (ending : LiveOutcome) → ComesAfterStage folds ready.account at.began (Break ending) → WereRun folds o jobs ending
     were_run ending comes =
         record { set_up = at.set_up; differ = at.differ; earlier = at.earlier; account = ready.account; began = at.began; passed = at.passed; gathered = comes.0; ran = comes.1; came = comes.2 }
-
-    pub fewer_left : (next : Ready) → ComesAfterStage folds ready.account at.began (Continue next) → ready.moving.stage < stages ready.moving.recon → stages_left next < stages_left ready
-    fewer_left next comes within =
-        let (g, later, passed, is) = comes in
-        let led : ready.moving.stage ≡ at.began.stage = ap (λ (s : StageValue). s.stage) at.is_ready.led in
-        let gone = stays_in_stage ready.account g next.account passed.next folds passed.continues in
-        let stage : next.moving.stage ≡ ready.moving.stage + 1 =
-        ap (λ (s : StageValue). s.stage) is.led ∙ ap (λ (b : BeganWith). b.stage) passed.later_is ∙ ap (λ (n : ℕ). n + 1) (gone ∙ passed.ran.stage ∙ sym led) in
-        let moves : next.moving.recon ≡ ready.moving.recon =
-        ap (λ (s : StageValue). s.recon) is.led ∙ moves_alike ready.account g next.account passed.next folds passed.continues ∙ sym (ap (λ (s : StageValue). s.recon) at.is_ready.led) in
-        let as_many : stages next.moving.recon ≡ stages ready.moving.recon = ap stages moves in
-        let e : stages next.moving.recon - next.moving.stage < stages ready.moving.recon - ready.moving.stage = omega (arith, stage, as_many, within) in
-        e

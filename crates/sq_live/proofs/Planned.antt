@@ -32,7 +32,8 @@ use Rattle.sq_live.specs.Outcome.{moved_count, commit_count, IsFoundSound}
 use Rattle.sq_live.specs.Live.{WereRun}
 use Rattle.sq_live.specs.WholeRun.{telling_stages, receipts_over, stored_family, log_over, IsCommitted, EndsAsPlanned}
 use Rattle.sq_live.proofs.Moved.{one_unmoved}
-use Rattle.sq_live.proofs.StageAdds.{stored_then, still_opening}
+use Rattle.sq_node_model.proofs.Folded.{rowless_opening}
+use Rattle.sq_live.proofs.StageAdds.{stored_then}
 use Rattle.sq_live.proofs.WholeRun.{HaveTold, HaveToldTo, all_part, told_more, same_job, told_by_folds, told_at_once}
 
 -- ---- the last stage
@@ -83,7 +84,7 @@ module _ (o : OpeningValue) (is : IsOpening o) (jobs : List Job) (differ : IdsDi
   sound_then = subst (λ (p : OpeningValue). IsSoundRun p g account.jobs) at.opening found.sound
 
   done_then : IsStageDone opening_then g
-  done_then = all_done opening_then g (still_opening o is account.opening.table)
+  done_then = all_done opening_then g (rowless_opening o account.opening.table is)
       (subst (λ (p : OpeningValue). moved_count p g ≡ length p.recon.segments) at.opening found.is_done.moved)
 
   last : g.stage + 1 ≡ stages o.recon
@@ -111,7 +112,7 @@ module _ (o : OpeningValue) (is : IsOpening o) (jobs : List Job) (differ : IdsDi
   pub ends_as_planned : EndsAsPlanned o jobs (g ∷ earlier) g families committed
   ends_as_planned = record {
     owned = λ spot root family stands.
-        stands_next opening_then (still_opening o is account.opening.table) g sound_then.placed done_then spot root family stands ∙ ap Store (owner_then root);
+        stands_next opening_then (rowless_opening o account.opening.table is) g sound_then.placed done_then spot root family stands ∙ ap Store (owner_then root);
     rows = λ root. ap (λ (part : ℕ). rows_of (stored_family g part root)) (sym (owner_then root)) ∙ all_told.rows_are root;
     logs = λ root. record { each = all_told.each root; all = stands_in_log root; once = all_told.once root };
     answers = λ receipt has. let (job, position, among, gone, answer) = all_told.answers receipt has in (job, position, among, answer);

@@ -22,6 +22,7 @@ use Rattle.sq_node_model.specs.Gathered.{GatheredValue}
 use Rattle.sq_node_model.specs.Spots.{family_at_spot, StandsAt}
 use Rattle.sq_node_model.specs.Next.{IsStageDone}
 use Rattle.sq_node_model.specs.Folded.{folded_opening, IsFolded}
+use Rattle.sq_node_model.proofs.Folded.{rowless_opening}
 use Rattle.sq_node_model.proofs.Next.{stands_next}
 use Rattle.sq_audit.specs.declared.job.Job.{Job}
 use Rattle.sq_audit.specs.Answers.{IsAnswerTo, IsFamilyOf, is_of}
@@ -49,22 +50,6 @@ no_rows : (rows : RowList) → not (length rows == 0) ≡ false → rows ≡ []
 no_rows rows none = nil_from_length rows (eqb-true (length rows) 0 (not-false (length rows == 0) none))
 
 module _ (o : OpeningValue) (is : IsOpening o) (table : TableValue) where
-  -- an opening is one with whatever rows
-  pub still_opening : IsOpening (folded_opening o table)
-  still_opening = record {
-    old_plan = is.old_plan;
-    new_plan = is.new_plan;
-    parts = is.parts;
-    moves = is.moves;
-    segments = is.segments;
-    few_segments = is.few_segments;
-    some_width = is.some_width;
-    small_width = is.small_width;
-    some_limit = is.some_limit;
-    some_capacity = is.some_capacity;
-    small_capacity = is.small_capacity;
-  }
-
   module _ (g : GatheredValue) (taken : List Job) (sound : IsSoundRun (folded_opening o table) g taken) (done : IsStageDone (folded_opening o table) g) where
     -- the family of a root key at its owner after the stage
     abbrev owner_then : ℕ → ℕ
@@ -75,7 +60,7 @@ module _ (o : OpeningValue) (is : IsOpening o) (table : TableValue) where
 
     at_owner : (spot : Spot) (root : ℕ) (family : FamilyValue) → StandsAt g spot root family → StandsAt g (Store (owner_then root)) root family
     at_owner spot root family stands =
-        subst (λ (s : Spot). StandsAt g s root family) (stands_next (folded_opening o table) still_opening g sound.placed done spot root family stands) stands
+        subst (λ (s : Spot). StandsAt g s root family) (stands_next (folded_opening o table) (rowless_opening o table is) g sound.placed done spot root family stands) stands
 
     -- a family that stands anywhere is that one
     stored_is : (spot : Spot) (root : ℕ) (family : FamilyValue) → StandsAt g spot root family → stored_then root ≡ family

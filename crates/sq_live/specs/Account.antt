@@ -1,6 +1,7 @@
 -- What is counted over the stages of a live run.
 use Rattle.std.specs.Prelude.{ℕ, ◌+◌, ◌≤◌, List, length}
 use Rattle.sq_ranges.specs.OpeningValue.{OpeningValue}
+use Rattle.sq_ranges.specs.Opening.{IsOpening}
 use Rattle.sq_audit.specs.declared.job.Job.{Job}
 use Rattle.sq_audit.specs.Answers.{IdsDiffer}
 use Rattle.sq_live.specs.declared.job_list.TheConstants.{MAX_JOBS}
@@ -17,8 +18,10 @@ pub record AccountValue : Type 0 where
 abbrev pub first_account : OpeningValue → List Job → AccountValue
 first_account o jobs = record { opening = o; jobs = jobs; answered = 0; committed = 0 }
 
--- no two jobs have the same id, there are not too many with those that were answered, and no more commits than those
+-- the opening is one, no two jobs have the same id, there are not too many with those that were answered, and no more commits
+-- than those
 pub record IsAccount (account : AccountValue) : Type 0 where
+  pub is_opening : IsOpening account.opening
   pub differ : IdsDiffer account.jobs
   pub few : account.answered + length account.jobs ≤ MAX_JOBS
   pub commits : account.committed ≤ account.answered

@@ -16,7 +16,7 @@ use Rattle.sq_run.specs.StageRunValue.{BeganFrom, RanFrom}
 use Rattle.sq_live.specs.declared.outcome.LiveOutcome.{LiveOutcome}
 use Rattle.sq_live.specs.declared.outcome.LiveOutcome.TheVariants as outcome
 use Rattle.sq_live.specs.declared.stages.Ready.{Ready}
-use Rattle.sq_live.specs.Account.{AccountValue, first_account}
+use Rattle.sq_live.specs.Account.{AccountValue, IsAccount, first_account}
 use Rattle.sq_stages.specs.Leading.{leading, HasGoneOn}
 use Rattle.sq_live.specs.Outcome.{commit_count, CameTo}
 
@@ -37,9 +37,9 @@ ContinuesWith true old g new next = HasFolded old g new next
 ContinuesWith false old g new next = (new ≡ old) × (next ≡ g)
 
 -- a run continues so, or the fold's audit found a defect
-abbrev pub Continues : Bool → AccountValue → GatheredValue → ControlFlow Defect (AccountValue × GatheredValue) → Type 0
-Continues folds old g (Continue now) = ContinuesWith folds old g now.0 now.1
-Continues folds old g (Break defect) = (folds ≡ true) × IsFirstDefect old.opening g (answered_jobs g.receipts old.jobs) defect
+abbrev pub ContinuesIfSound : Bool → AccountValue → GatheredValue → ControlFlow Defect (AccountValue × GatheredValue) → Type 0
+ContinuesIfSound folds old g (Continue now) = ContinuesWith folds old g now.0 now.1
+ContinuesIfSound folds old g (Break defect) = (folds ≡ true) × IsFirstDefect old.opening g (answered_jobs g.receipts old.jobs) defect
 
 -- a stage that began so left this, with all of its segments complete, the leader moved on, and the next stage began
 -- with what the run continues with
@@ -63,6 +63,7 @@ HavePassed folds o jobs (g ∷ earlier) account began =
 pub record IsReady (began : BeganWith) (ready : Ready) : Type 0 where
   pub run : BeganFrom ready.account.opening began ready.run
   pub led : ready.moving ≡ leading ready.account.opening began.stage
+  pub is_account : IsAccount ready.account
 
 -- what comes after a stage that began so: the run ends, or the next stage is ready
 abbrev pub ComesAfterStage : Bool → AccountValue → BeganWith → ControlFlow LiveOutcome Ready → Type 0
@@ -74,6 +75,6 @@ ComesAfterStage folds account began (Continue ready) =
 -- the next stage is ready, where the leader moved on, or the fold's audit ended the run at a defect
 abbrev pub GoesOnTo : Bool → AccountValue → GatheredValue → ControlFlow LiveOutcome Ready → Type 0
 GoesOnTo folds old g (Break ended) =
-    (defect : Defect) × (ended ≡ outcome.Unsound defect) × Continues folds old g (Break defect)
+    (defect : Defect) × (ended ≡ outcome.Unsound defect) × ContinuesIfSound folds old g (Break defect)
 GoesOnTo folds old g (Continue ready) =
     (next : GatheredValue) × ContinuesWith folds old g ready.account next × IsReady (next_began ready.account.opening next) ready

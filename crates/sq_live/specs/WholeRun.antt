@@ -16,6 +16,10 @@ use Rattle.sq_node_model.specs.Gathered.{GatheredValue}
 use Rattle.sq_node_model.specs.Spots.{family_at_spot, StandsAt}
 use Rattle.sq_audit.specs.declared.job.Job.{Job}
 use Rattle.sq_audit.specs.Answers.{IsAnswerTo, is_of, AreAnsweredBy}
+use Rattle.sq_live.specs.declared.outcome.LiveOutcome.{LiveOutcome}
+use Rattle.sq_live.specs.declared.outcome.LiveOutcome.TheVariants.{Sound, Stopped, Unsound}
+use Rattle.sq_live.specs.declared.ending.LiveEnding.{LiveEnding}
+use Rattle.sq_live.specs.declared.ending.LiveEnding.TheVariants.{Done}
 use Rattle.sq_live.specs.Outcome.{commit_count, stored_count}
 use Rattle.sq_live.specs.Live.{SpellJobs}
 
@@ -88,6 +92,19 @@ pub record EndsAsPlanned (o : OpeningValue) (jobs : List Job) (stages : List Gat
   pub answered : AreAnsweredBy (receipts_over stages) jobs
   pub committed_are : committed ≡ commit_count (receipts_over stages)
   pub families_are : stored_count g < 2 ^ 64 → families ≡ stored_count g
+
+-- a run of these jobs with this outcome ended as the opening plans it, where the outcome is sound: these are what its earlier
+-- stages left, and its last one
+abbrev pub MeetsPlan : Bool → OpeningValue → List Job → List GatheredValue → GatheredValue
+    → LiveOutcome → Type 0
+MeetsPlan folds o jobs earlier g (Sound families committed) =
+    EndsAsPlanned o jobs (telling_stages folds earlier g) g families committed
+MeetsPlan folds o jobs earlier g (Stopped answered all complete segments) = Unit {0}
+MeetsPlan folds o jobs earlier g (Unsound defect) = Unit {0}
+
+-- jobs were run with a sound outcome
+abbrev pub sound_ending : ℕ → ℕ → LiveEnding
+sound_ending families committed = Done (Sound families committed)
 
 -- the pieces spell an opening and jobs, and a run of these ended as the opening plans it
 abbrev pub AreRunAsPlanned : Bool → ℕ → List PieceValue → ℕ → ℕ → Type 0

@@ -1,5 +1,6 @@
 // What is counted over the stages of a run.
 ghost use Rattle.std.specs.Prelude.{◌≡◌};
+ghost use Rattle.sq_ranges.specs.Prelude.{IsOpening};
 ghost use Rattle.sq_live.specs.Account.{first_account};
 
 use crate::job_list::JobList;
@@ -42,6 +43,7 @@ impl Model for Account {
 impl Account {
     /// The account of a run before its first stage.
     pub(crate) fn new(opening: Opening, jobs: JobList) -> Account
+        requires { IsOpening opening }
         ensures { result ≡ first_account opening jobs }
     {
         Account {

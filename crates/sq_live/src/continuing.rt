@@ -1,7 +1,7 @@
 // What a run continues with after a stage.
 ghost use Rattle.std.specs.Prelude.{IfOk, true};
 ghost use Rattle.sq_node_model.specs.Prelude.{IsStageDone};
-ghost use Rattle.sq_live.specs.Stages.{Continues};
+ghost use Rattle.sq_live.specs.Stages.{ContinuesIfSound};
 
 use crate::account::Account;
 use crate::judging::count_commits;
@@ -21,7 +21,7 @@ pub(crate) fn continue_with<R: Threads + Sync>(
     gathered: Gathered,
 ) -> Result<ControlFlow<Defect, (Account, Gathered)>, AllocError>
     requires { IsStageDone account.opening gathered }
-    ensures { IfOk result (Continues folds account gathered) }
+    ensures { IfOk result (ContinuesIfSound folds account gathered) }
 {
     if folds {
         fold_logs(rt, alloc, account, gathered)
@@ -38,7 +38,7 @@ fn fold_logs<R: Threads + Sync>(
     gathered: Gathered,
 ) -> Result<ControlFlow<Defect, (Account, Gathered)>, AllocError>
     requires { IsStageDone account.opening gathered }
-    ensures { IfOk result (Continues true account gathered) }
+    ensures { IfOk result (ContinuesIfSound true account gathered) }
 {
     let Account {
         opening,

@@ -41,8 +41,6 @@ pub(crate) fn judge_end<R: Threads + Sync>(
         × HasEnded account.now.opening g.now.stage (is_whole_in g.now) at }
     ensures { IfOk result (λ outcome. (folds : Bool) → CameTo folds account.now g.now outcome) }
 {
-    // For the proof alone: what the account has is an opening.
-    let _recon = account.opening.recon();
     let answered = count_answered(alloc, &g.receipts, &account.jobs)?;
     if answered < account.jobs.len() {
         return Ok(stopped(account, g, moved, answered));

@@ -8,9 +8,8 @@ ghost use Rattle.sq_node.specs.declared.fabric.TheConstants.{REQUEST_PLACES, JOB
 ghost use Rattle.sq_audit.specs.declared.job.Job.{Job};
 ghost use Rattle.sq_live.specs.declared.job_list.TheConstants.{MAX_JOBS};
 ghost use Rattle.sq_live.specs.declared.outcome.LiveOutcome.{LiveOutcome};
-ghost use Rattle.sq_live.specs.declared.ending.LiveEnding.{LiveEnding};
 ghost use Rattle.sq_live.specs.Live.{WereRun, EndsLive};
-ghost use Rattle.sq_live.specs.WholeRun.{telling_stages, EndsAsPlanned, AreRunAsPlanned};
+ghost use Rattle.sq_live.specs.WholeRun.{MeetsPlan, AreRunAsPlanned, sound_ending};
 
 /// The limits of live runs, in digits, beside those that the laws of this name of `sq_schema`, `sq_ranges` and `sq_text` have.
 pub fn the_limits()
@@ -25,11 +24,10 @@ pub fn the_limits()
 /// root key are those of the input, with the jobs on it that committed replayed in the order of its whole log; and each
 /// job has one receipt, with what that log gave it. With folds the receipts and logs of all stages count.
 pub fn a_sound_run_ends_where_planned()
-    ensures run { (folds : Bool) (o : OpeningValue) (jobs : List Job) (families committed : ℕ)
-        → (run : WereRun folds o jobs (LiveOutcome.Sound families committed))
-        → EndsAsPlanned o jobs (telling_stages folds run.earlier run.gathered) run.gathered
-        families committed }
+    ensures run { (folds : Bool) (o : OpeningValue) (jobs : List Job) (outcome : LiveOutcome)
+        (run : WereRun folds o jobs outcome)
+        → MeetsPlan folds o jobs run.earlier run.gathered outcome }
     ensures input { (folds : Bool) (tables : ℕ) (given : List PieceValue) (families committed : ℕ)
-        → EndsLive folds tables given (LiveEnding.Done (LiveOutcome.Sound families committed))
+        → EndsLive folds tables given (sound_ending families committed)
         → AreRunAsPlanned folds tables given families committed }
 {}

@@ -62,12 +62,8 @@ pub(crate) fn run_stages<R: Threads + Wait + Sync, G: Watch>(
     requires led { moving ≡ leading account.opening 0 }
     ensures { IfOk result (WereRun manner.folds account.opening account.jobs) }
 {
-    // For the proof alone: what the account has is an opening.
-    let _recon = account.opening.recon();
     let mut ready = first_ready(rt, alloc, account, moving, manner.pumps)?;
     loop {
-        // For the proof alone: the leader is in one of the stages.
-        let _stage = ready.moving.stage();
         match run_stage(rt, alloc, ready, manner, watch)? {
             ControlFlow::Break(outcome) => return Ok(outcome),
             ControlFlow::Continue(next) => ready = next,
@@ -123,8 +119,6 @@ fn run_stage<R: Threads + Wait + Sync, G: Watch>(
         moving,
         run,
     } = ready;
-    // For the proof alone: what the account has is an opening.
-    let _recon = account.opening.recon();
     let gathered = drive_all(rt, alloc, run, manner.turns, watch)?;
     let moved = moved_segments(&gathered.statuses);
     match lead_on(moving, &account.opening, &moved) {

@@ -4,7 +4,7 @@ ghost use Rattle.sq_gather.specs.Gathered.{AreAllOf};
 
 use sq_driver::{Gate, NodeStep, WorkerEvent, WorkerId, run_workers};
 use sq_gather::{Gathered, gather};
-use sq_node::{Fabric, Node};
+use sq_node::{Fabric, Node, RunParts};
 use sq_pull::Pump;
 use sq_ranges::Opening;
 use sq_trial::{JobSource, PARTS, PlanChoice, ROOTS, Workload, opening_at};
@@ -68,10 +68,12 @@ impl Workers {
 fn opened(alloc: Global, opening: &Opening) -> Result<(Fabric, Workers), Fail>
     ensures { IfOk result (λ run. AreAllOf run.0 run.1.nodes.items run.1.pumps.items) }
 {
-    let (fabric, nodes, pumps) = Fabric::open(alloc, opening, 0)?;
-    // For the proof alone: what was handed in is an opening, and this is a fabric.
-    let _recon = opening.recon();
-    let _links = fabric.links();
+    let parts = Fabric::open(alloc, opening, 0)?;
+    let RunParts {
+        fabric,
+        nodes,
+        pumps,
+    } = parts;
     Ok((fabric, Workers { nodes, pumps }))
 }
 
@@ -152,7 +154,12 @@ fn end_beside<R: Threads + Wait + Sync>(
     let (fabric, mut workers) = opened(alloc, opening)?;
     let taken = run_beside(rt, alloc, &fabric, &mut workers, &mut source);
     let Workers { nodes, pumps } = workers;
-    let Ok(gathered) = gather(rt, alloc, fabric, nodes, pumps) else {
+    let run = RunParts {
+        fabric,
+        nodes,
+        pumps,
+    };
+    let Ok(gathered) = gather(rt, alloc, run) else {
         return Err("no memory")?;
     };
     if (gathered.receipts.len() as u64) < ENOUGH {

@@ -6,9 +6,8 @@ ghost use Rattle.sq_driver.specs.Pumps.{HasAllSeats};
 
 use super::driver::APART;
 use super::run::{job, read_opening};
-use sq_driver::laws::opened_workers_can_be_driven;
 use sq_driver::{OpenGate, run_workers};
-use sq_node::{Fabric, Node};
+use sq_node::{Fabric, Node, RunParts};
 use sq_plan::PartId;
 use sq_pull::Pump;
 use sq_ranges::Opening;
@@ -28,14 +27,12 @@ const JOBS: usize = 40;
 const TURNS: u64 = 1_000_000_000_000;
 
 // A run of two partitions: what its nodes share, the nodes, and no pumps.
-fn opened(alloc: Global, opening: &Opening) -> Result<(Fabric, Vec<Node>, Vec<Pump>), Fail>
-    ensures nodes { IfOk result (λ run. All (IsNodeOf run.0) run.1.items) }
-    ensures pumps { IfOk result (λ run. All (HasAllSeats run.0) run.2.items) }
+fn opened(alloc: Global, opening: &Opening) -> Result<RunParts, Fail>
+    ensures nodes { IfOk result (λ run. All (IsNodeOf run.fabric) run.nodes.items) }
+    ensures pumps { IfOk result (λ run. All (HasAllSeats run.fabric) run.pumps.items) }
 {
-    let (fabric, nodes, pumps) = Fabric::open(alloc, opening, 0)?;
-    // For the proof: the workers of a run that opens can be driven.
-    opened_workers_can_be_driven();
-    Ok((fabric, nodes, pumps))
+    let parts = Fabric::open(alloc, opening, 0)?;
+    Ok(parts)
 }
 
 // Jobs of root keys of both partitions.
@@ -110,13 +107,13 @@ fn run_beside<R: Threads + Wait + Sync>(
     alloc: Global,
     opening: &Opening,
 ) -> Result<(), Fail> {
-    let (fabric, mut nodes, mut pumps) = opened(alloc, opening)?;
+    let mut run = opened(alloc, opening)?;
     let mut jobs = jobs(alloc)?;
-    let taken = work_beside(rt, &fabric, &mut nodes, &mut pumps, &mut jobs);
-    if receipts(&nodes) != taken {
+    let taken = work_beside(rt, &run.fabric, &mut run.nodes, &mut run.pumps, &mut jobs);
+    if receipts(&run.nodes) != taken {
         return Err("not each job that was taken is answered")?;
     }
-    if takes_another(rt, alloc, &fabric)? {
+    if takes_another(rt, alloc, &run.fabric)? {
         return Err("it takes a job after its end")?;
     }
     Ok(())

@@ -8,10 +8,10 @@ ghost use Rattle.sq_audit.specs.Answers.{IdsDiffer};
 use super::text::{receipts_text, text_of};
 use sq_audit::Job;
 use sq_driver::{Gate, drive, drive_pump, run_workers};
-use sq_gather::{Gathered, Ungathered, gather};
+use sq_gather::{Gathered, gather};
 use sq_lines::LineReader;
 use sq_model::Step;
-use sq_node::{Fabric, Node, Stepped};
+use sq_node::{Fabric, Node, RunParts, Stepped};
 use sq_plan::PartId;
 use sq_pull::{Pump, PumpTurn, Request};
 use sq_ranges::Opening;
@@ -81,17 +81,19 @@ impl TestRun {
     pub fn of(alloc: Global, opening: &Opening, pumps: u32) -> Result<TestRun, AllocError>
         requires { pumps ≤ MAX_PUMPS }
     {
-        let (fabric, nodes, pumps) = Fabric::open(alloc, opening, pumps)?;
-        // For the proof: what holds of each opening and each fabric, which these say.
-        let _recon = opening.recon();
-        let _links = fabric.links();
-        Ok(TestRun::new(fabric, nodes, pumps))
+        let parts = Fabric::open(alloc, opening, pumps)?;
+        Ok(TestRun::new(parts))
     }
 
-    /// The run of these, which are all.
-    pub fn new(fabric: Fabric, nodes: Vec<Node>, pumps: Vec<Pump>) -> TestRun
-        requires { AreAllOf fabric nodes.items pumps.items }
+    /// The run of these parts, which are all.
+    pub fn new(run: RunParts) -> TestRun
+        requires { AreAllOf run.fabric run.nodes.items run.pumps.items }
     {
+        let RunParts {
+            fabric,
+            nodes,
+            pumps,
+        } = run;
         TestRun {
             fabric,
             nodes,
@@ -237,19 +239,14 @@ impl TestRun {
             nodes,
             pumps,
         } = self;
-        match gather(rt, alloc, fabric, nodes, pumps) {
+        let run = RunParts {
+            fabric,
+            nodes,
+            pumps,
+        };
+        match gather(rt, alloc, run) {
             Ok(gathered) => Ok(gathered),
-            Err(
-                Ungathered {
-                    fabric,
-                    nodes,
-                    pumps,
-                },
-            ) => Err(TestRun {
-                fabric,
-                nodes,
-                pumps,
-            }),
+            Err(run) => Err(TestRun::new(run)),
         }
     }
 

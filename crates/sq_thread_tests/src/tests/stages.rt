@@ -6,10 +6,8 @@ ghost use Rattle.sq_driver.specs.Pumps.{HasAllSeats};
 
 use super::node::PAIR;
 use super::run::{TestRun, job, read_opening};
-use sq_driver::laws::resumed_workers_can_be_driven;
 use sq_driver::{OpenGate, run_workers};
-use sq_node::{Fabric, Node};
-use sq_pull::Pump;
+use sq_node::{Fabric, RunParts};
 use sq_runs::RunStore;
 use sq_schema::Txn;
 use std::alloc::Global;
@@ -30,35 +28,33 @@ fn no_families(alloc: Global) -> Result<Vec<RunStore>, Fail> {
 }
 
 // A stage that continues with these, with this many pumps.
-fn resumed(alloc: Global, pumps: u32) -> Result<(Fabric, Vec<Node>, Vec<Pump>), Fail>
+fn resumed(alloc: Global, pumps: u32) -> Result<RunParts, Fail>
     requires { pumps ≤ MAX_PUMPS }
-    ensures nodes { IfOk result (λ stage. All (IsNodeOf stage.0) stage.1.items) }
-    ensures pumps { IfOk result (λ stage. All (HasAllSeats stage.0) stage.2.items) }
+    ensures nodes { IfOk result (λ stage. All (IsNodeOf stage.fabric) stage.nodes.items) }
+    ensures pumps { IfOk result (λ stage. All (HasAllSeats stage.fabric) stage.pumps.items) }
 {
     let opening = read_opening(alloc, PAIR)?;
     let (stores, left) = (no_families(alloc)?, many_left(alloc)?);
     let Ok(stage) = Fabric::resumed(alloc, &opening, 0, stores, left, Vec::new(alloc), pumps) else {
         return Err("the stage doesn't begin")?;
     };
-    // For the proof: the workers of a stage can be driven.
-    resumed_workers_can_be_driven();
     Ok(stage)
 }
 
 // Each of the jobs that were left is answered, once, and the workers end then.
 #[test]
 fn jobs_that_were_left_are_answered(rt: HostRuntime) -> Result<(), Fail> {
-    let (fabric, mut nodes, mut pumps) = resumed(rt.alloc(), 1)?;
+    let mut stage = resumed(rt.alloc(), 1)?;
     run_workers(
         &rt,
-        &fabric,
-        &mut nodes,
-        &mut pumps,
+        &stage.fabric,
+        &mut stage.nodes,
+        &mut stage.pumps,
         1_000_000_000_000,
         &OpenGate,
     );
     let mut receipts: usize = 0;
-    for node in &nodes {
+    for node in &stage.nodes {
         receipts = receipts.saturating_add(node.receipts().len());
     }
     assert_eq!(rt; receipts, 5000);

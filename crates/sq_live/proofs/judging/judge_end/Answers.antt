@@ -8,7 +8,7 @@ use Rattle.sq_node_model.specs.Gathered.{GatheredValue}
 use Rattle.sq_audit.specs.declared.job.Job.{Job}
 use Rattle.sq_audit.specs.declared.verdict.Verdict.TheVariants.{Sound, Unsound}
 use Rattle.sq_audit.specs.Defects.{IsVerdict}
-use Rattle.sq_live.specs.Account.{AccountValue}
+use Rattle.sq_live.specs.Account.{AccountValue, IsAccount}
 use Rattle.sq_live.specs.Outcome.{IsDone, answered_count, commit_count}
 use Rattle.sq_live.proofs.Moved.{all_moved}
 use Rattle.sq_live.proofs.judging.judge_end.Goals as goal
@@ -20,7 +20,7 @@ is_done g c =
     let account = c.args.account.now in
     let g = c.args.g.now in
     let o = account.opening in
-    let is : IsOpening o = subst (λ (a : AccountValue). IsOpening a.opening) c.account.view_is c.recon-recon.ensures.set_up.opening in
+    let is : IsOpening o = (subst IsAccount c.account.view_is c.account.invariant).is_opening in
     let receipts = c.deref.ensures.value ∙ ap (λ (g : GatheredValue). g.receipts) c.g.view_is in
     let jobs = c.deref-2.ensures.value ∙ ap (λ (a : AccountValue). a.jobs) c.account.view_is in
     let counted = c.in_ok-answered.ensures.answered ∙ (λ i. answered_count (receipts i) (jobs i)) in

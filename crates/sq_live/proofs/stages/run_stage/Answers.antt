@@ -20,7 +20,7 @@ use Rattle.sq_live.proofs.stages.run_stage.Given.{Over}
 
 -- what the account has is an opening
 opening : (g : Over) (c : After-deref g) → IsOpening c.args.ready.account.opening
-opening g c = subst (λ (a : AccountValue). IsOpening a.opening) c.account.view_is c.recon-recon.ensures.set_up.opening
+opening g c = c.requires.ready.1.is_account.is_opening
 
 -- the stage ran
 ran : (g : Over) (c : After-deref g) → (began : BeganWith) → IsReady began c.args.ready → RanFrom c.args.ready.account.opening began c.in_ok-gathered.gathered

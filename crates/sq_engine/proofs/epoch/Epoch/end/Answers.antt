@@ -11,18 +11,18 @@ pub invariant_of-result : goal.invariant_of-result
 invariant_of-result g c =
     let inside = c.self.inside in
     let was = c.self.invariant in
-    let epoch = epoch_value inside.opening inside.jobs inside.fabric inside.nodes.items inside.pumps.items in
+    let epoch = epoch_value inside.opening inside.jobs inside.run.fabric inside.run.nodes.items inside.run.pumps.items in
     let left = c.in-Ok.ensures in
-    let came = gathered_comes was.0 was.1 epoch c.in-Ok.gathered c.recon-recon.ensures.set_up.opening was.2 left.gathered left.placed left.grows in
+    let came = gathered_comes was.0 was.1 epoch c.in-Ok.gathered c.self.invariant.3.opening was.2 left.gathered left.placed left.grows in
     let pause = pause_value inside.opening inside.jobs c.in-Ok.gathered in
-    (was.0, EpochEnded (with_other_rows pause came.0) ∷ was.1, came.1)
+    (was.0, EpochEnded (with_other_rows pause came.0) ∷ was.1, came.1, was.3)
 
 pub returns-in-Ok-clause-ended : goal.returns-in-Ok-clause-ended
 returns-in-Ok-clause-ended g c = λ o past runs.
     let inside = c.self.inside in
-    let epoch = epoch_value inside.opening inside.jobs inside.fabric inside.nodes.items inside.pumps.items in
+    let epoch = epoch_value inside.opening inside.jobs inside.run.fabric inside.run.nodes.items inside.run.pumps.items in
     let left = c.in-Ok.ensures in
-    gathered_comes o past epoch c.in-Ok.gathered c.recon-recon.ensures.set_up.opening
+    gathered_comes o past epoch c.in-Ok.gathered c.self.invariant.3.opening
     (subst (λ (e : EpochValue). RunsAfter o past e) (sym c.self.view_is) runs) left.gathered left.placed left.grows
 
 pub returns-in-Ok-clause-receipts : goal.returns-in-Ok-clause-receipts

@@ -15,26 +15,26 @@ pub run_workers-requires-clause-nodes : goal.run_workers-requires-clause-nodes
 run_workers-requires-clause-nodes g c = λ κs within.
     let inside = c.self.inside in
     let run = c.self.invariant.2.3.run in
-    subst (All (IsNodeOf inside.fabric)) (sym c.deref_mut.ensures.value) (nodes_of inside.fabric inside.nodes.items inside.pumps.items run.all)
+    subst (All (IsNodeOf inside.run.fabric)) (sym c.deref_mut.ensures.value) (nodes_of inside.run.fabric inside.run.nodes.items inside.run.pumps.items run.all)
 
 pub run_workers-requires-clause-pumps : goal.run_workers-requires-clause-pumps
 run_workers-requires-clause-pumps g c = λ κs within.
     let inside = c.self.inside in
     let run = c.self.invariant.2.3.run in
-    subst (All (HasAllSeats inside.fabric)) (sym c.deref_mut-2.ensures.value) (pumps_of inside.fabric inside.nodes.items inside.pumps.items run.all)
+    subst (All (HasAllSeats inside.run.fabric)) (sym c.deref_mut-2.ensures.value) (pumps_of inside.run.fabric inside.run.nodes.items inside.run.pumps.items run.all)
 
 -- the nodes and the pumps were driven, and nothing else changed
 driven : (g : Over) (c : After-run_workers g) → let inside = c.self.inside in
-    let old = epoch_value inside.opening inside.jobs inside.fabric inside.nodes.items inside.pumps.items in
-    let nodes = put_back inside.nodes.len c.run_workers.new.nodes inside.nodes.items in
-    let pumps = put_back inside.pumps.len c.run_workers.new.pumps inside.pumps.items in
+    let old = epoch_value inside.opening inside.jobs inside.run.fabric inside.run.nodes.items inside.run.pumps.items in
+    let nodes = put_back inside.run.nodes.len c.run_workers.new.nodes inside.run.nodes.items in
+    let pumps = put_back inside.run.pumps.len c.run_workers.new.pumps inside.run.pumps.items in
     OnlyDriven old (record old { nodes = nodes; pumps = pumps })
 driven g c =
     let inside = c.self.inside in
-    let old = epoch_value inside.opening inside.jobs inside.fabric inside.nodes.items inside.pumps.items in
+    let old = epoch_value inside.opening inside.jobs inside.run.fabric inside.run.nodes.items inside.run.pumps.items in
     let node_count = c.run_workers.ensures.nodes.count in
     let pump_count = c.run_workers.ensures.pumps.count in
-    driven_back old inside.nodes.len inside.pumps.len c.deref_mut.result.now c.run_workers.new.nodes c.deref_mut-2.result.now c.run_workers.new.pumps
+    driven_back old inside.run.nodes.len inside.run.pumps.len c.deref_mut.result.now c.run_workers.new.nodes c.deref_mut-2.result.now c.run_workers.new.pumps
     (omega (arith, node_count, c.deref_mut.ensures.len)) c.deref_mut.ensures.value c.run_workers.ensures.nodes
     (omega (arith, pump_count, c.deref_mut-2.ensures.len)) c.deref_mut-2.ensures.value c.run_workers.ensures.pumps
 
@@ -42,16 +42,16 @@ pub returns-clause-driven : goal.returns-clause-driven
 returns-clause-driven g c =
     let at = (goal.at.returns-clause-driven g c).After-run_workers in
     let inside = c.self.inside in
-    let old = epoch_value inside.opening inside.jobs inside.fabric inside.nodes.items inside.pumps.items in
-    let nodes = put_back inside.nodes.len c.run_workers.new.nodes inside.nodes.items in
-    let pumps = put_back inside.pumps.len c.run_workers.new.pumps inside.pumps.items in
+    let old = epoch_value inside.opening inside.jobs inside.run.fabric inside.run.nodes.items inside.run.pumps.items in
+    let nodes = put_back inside.run.nodes.len c.run_workers.new.nodes inside.run.nodes.items in
+    let pumps = put_back inside.run.pumps.len c.run_workers.new.pumps inside.run.pumps.items in
     subst (λ (e : EpochValue). OnlyDriven e (record old { nodes = nodes; pumps = pumps })) c.self.view_is (driven g at)
 
 pub returns-clause-history : goal.returns-clause-history
 returns-clause-history g c = λ o past runs.
-    driven_runs o past c.args.self _ (subst (λ (e : EpochValue). IsOpening e.opening) c.self.view_is c.recon-recon.ensures.set_up.opening) (returns-clause-driven g c) runs
+    driven_runs o past c.args.self _ (subst (λ (e : EpochValue). IsOpening e.opening) c.self.view_is c.self.invariant.3.opening) (returns-clause-driven g c) runs
 
 pub invariant_of-result : goal.invariant_of-result
 invariant_of-result g c =
     let was = c.self.invariant in
-    (was.0, was.1, driven_runs was.0 was.1 _ _ c.recon-recon.ensures.set_up.opening (driven g (goal.at.invariant_of-result g c).After-run_workers) was.2)
+    (was.0, was.1, driven_runs was.0 was.1 _ _ c.self.invariant.3.opening (driven g (goal.at.invariant_of-result g c).After-run_workers) was.2, was.3)

@@ -14,23 +14,23 @@ pub serve_with-parts-requires-clause-nodes : goal.serve_with-parts-requires-clau
 serve_with-parts-requires-clause-nodes g c κs within =
     let inside = c.self.inside in
     let run = c.self.invariant.2.3.run in
-    subst (All (IsNodeOf inside.fabric)) (sym c.in-Ok.ensures.nodes) (nodes_of inside.fabric inside.nodes.items inside.pumps.items run.all)
+    subst (All (IsNodeOf inside.run.fabric)) (sym c.in-Ok.ensures.nodes) (nodes_of inside.run.fabric inside.run.nodes.items inside.run.pumps.items run.all)
 
 pub serve_with-parts-requires-clause-pumps : goal.serve_with-parts-requires-clause-pumps
 serve_with-parts-requires-clause-pumps g c κs within =
     let inside = c.self.inside in
     let run = c.self.invariant.2.3.run in
-    pumps_of inside.fabric inside.nodes.items inside.pumps.items run.all
+    pumps_of inside.run.fabric inside.run.nodes.items inside.run.pumps.items run.all
 
 -- what happened to the parts of the epoch happened to it
 served : (g : Over) (c : After-serve_with-parts g) → let inside = c.self.inside in
-    let old = epoch_value inside.opening inside.jobs inside.fabric inside.nodes.items inside.pumps.items in
+    let old = epoch_value inside.opening inside.jobs inside.run.fabric inside.run.nodes.items inside.run.pumps.items in
     let parts = c.serve_with-parts.result in
     EpochIsServed g.C.Client.Becomes old c.args.client.now (record old { jobs = parts.jobs; nodes = parts.nodes.items; pumps = parts.pumps.items })
     c.serve_with-parts.new.client parts.is_whole parts.lacks_threads
 served g c =
     let inside = c.self.inside in
-    epoch_served g.C.Client.Becomes (epoch_value inside.opening inside.jobs inside.fabric inside.nodes.items inside.pumps.items) _
+    epoch_served g.C.Client.Becomes (epoch_value inside.opening inside.jobs inside.run.fabric inside.run.nodes.items inside.run.pumps.items) _
     c.args.client.now c.serve_with-parts.result c.serve_with-parts.new.client c.in-Ok.ensures.nodes c.serve_with-parts.ensures
 
 pub invariant_of-result : goal.invariant_of-result
@@ -40,21 +40,22 @@ invariant_of-result g c =
       was.0,
       was.1,
       served_runs g.C.Client.Becomes was.0 was.1 _ c.args.client.now _ c.serve_with-parts.new.client parts.is_whole parts.lacks_threads
-          c.recon-recon.ensures.set_up.opening (served g (goal.at.invariant_of-result g c).After-serve_with-parts) was.2,
+          c.self.invariant.3.opening (served g (goal.at.invariant_of-result g c).After-serve_with-parts) was.2,
+      was.3,
     )
 
 pub returns-in-Ok-clause-history : goal.returns-in-Ok-clause-history
 returns-in-Ok-clause-history g c = λ o past runs.
     let parts = c.serve_with-parts.result in
     served_runs g.C.Client.Becomes o past _ c.args.client.now _ c.serve_with-parts.new.client parts.is_whole parts.lacks_threads
-    c.recon-recon.ensures.set_up.opening (served g (goal.at.returns-in-Ok-clause-history g c).After-serve_with-parts)
+    c.self.invariant.3.opening (served g (goal.at.returns-in-Ok-clause-history g c).After-serve_with-parts)
     (subst (λ (e : EpochValue). RunsAfter o past e) (sym c.self.view_is) runs)
 
 -- where a node had no thread the workers ran at most
 pub returns-in-Ok-clause-not_asked : goal.returns-in-Ok-clause-not_asked
 returns-in-Ok-clause-not_asked g c = λ lacks.
     let inside = c.self.inside in
-    let old = epoch_value inside.opening inside.jobs inside.fabric inside.nodes.items inside.pumps.items in
+    let old = epoch_value inside.opening inside.jobs inside.run.fabric inside.run.nodes.items inside.run.pumps.items in
     let parts = c.serve_with-parts.result in
     subst (λ (e : EpochValue). OnlyDriven e (record old { jobs = parts.jobs; nodes = parts.nodes.items; pumps = parts.pumps.items })) c.self.view_is
     (not_asked g.C.Client.Becomes _ c.args.client.now _ c.serve_with-parts.new.client parts.is_whole parts.lacks_threads

@@ -10,16 +10,16 @@ invariant_of-result c =
     let inside = c.self.inside in
     let was = c.self.invariant in
     let due = pause_value inside.opening inside.jobs inside.gathered in
-    (was.0, was.1, move_runs was.0 was.1 due c.in-Ok.fabric c.in-Ok.nodes.items c.in-Ok.pumps.items was.2 c.in-Ok.ensures.run)
+    (was.0, was.1, move_runs was.0 was.1 due c.in-Ok.opened.fabric c.in-Ok.opened.nodes.items c.in-Ok.opened.pumps.items was.2 c.in-Ok.ensures.run, was.3)
 
 pub returns-in-Ok-clause-begun : goal.returns-in-Ok-clause-begun
 returns-in-Ok-clause-begun c = λ o past follows.
     let inside = c.self.inside in
     let due = pause_value inside.opening inside.jobs inside.gathered in
-    move_runs o past due c.in-Ok.fabric c.in-Ok.nodes.items c.in-Ok.pumps.items
+    move_runs o past due c.in-Ok.opened.fabric c.in-Ok.opened.nodes.items c.in-Ok.opened.pumps.items
     (subst (λ (d : PauseValue). IsDueAfter o past d) (sym c.self.view_is) follows) c.in-Ok.ensures.run
 
 pub returns-in-Ok-clause-receipts : goal.returns-in-Ok-clause-receipts
 returns-in-Ok-clause-receipts c =
-    reopened_keeps _ _ _ _ _ c.in-Ok.fabric c.in-Ok.nodes.items c.in-Ok.pumps.items c.in-Ok.ensures.reopened
+    reopened_keeps _ _ _ _ _ c.in-Ok.opened.fabric c.in-Ok.opened.nodes.items c.in-Ok.opened.pumps.items c.in-Ok.ensures.reopened
     ∙ ap (λ (p : PauseValue). p.gathered.receipts) c.self.view_is

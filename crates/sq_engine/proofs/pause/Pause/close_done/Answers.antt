@@ -12,7 +12,7 @@ take_page-requires g c =
     let inside = c.self.inside in
     let here = pause_value inside.opening inside.jobs inside.gathered in (
       c.type_bounds.sync-R,
-      reached_stored here c.self.invariant c.recon-recon.ensures.set_up.opening (subst HasDoneStage (sym c.self.view_is) c.requires),
+      reached_stored here c.self.invariant c.self.invariant.3.opening (subst HasDoneStage (sym c.self.view_is) c.requires),
     )
 
 pub invariant_of-result : goal.invariant_of-result

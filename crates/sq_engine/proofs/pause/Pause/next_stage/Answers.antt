@@ -12,21 +12,22 @@ invariant_of-result c =
     let here = pause_value inside.opening inside.jobs inside.gathered in (
       was.0,
       was.1,
-      stage_runs was.0 was.1 here c.in-Ok.fabric c.in-Ok.nodes.items c.in-Ok.pumps.items was.2
+      stage_runs was.0 was.1 here c.in-Ok.opened.fabric c.in-Ok.opened.nodes.items c.in-Ok.opened.pumps.items was.2
           (subst HasDoneStage (sym c.self.view_is) c.requires.done)
           (subst HasMoreStages (sym c.self.view_is) c.requires.more) c.in-Ok.ensures.run,
+      was.3,
     )
 
 pub returns-in-Ok-clause-begun : goal.returns-in-Ok-clause-begun
 returns-in-Ok-clause-begun c = λ o past at.
     let inside = c.self.inside in
     let here = pause_value inside.opening inside.jobs inside.gathered in
-    stage_runs o past here c.in-Ok.fabric c.in-Ok.nodes.items c.in-Ok.pumps.items
+    stage_runs o past here c.in-Ok.opened.fabric c.in-Ok.opened.nodes.items c.in-Ok.opened.pumps.items
     (subst (λ (p : PauseValue). PausesAfter o past p) (sym c.self.view_is) at)
     (subst HasDoneStage (sym c.self.view_is) c.requires.done)
     (subst HasMoreStages (sym c.self.view_is) c.requires.more) c.in-Ok.ensures.run
 
 pub returns-in-Ok-clause-receipts : goal.returns-in-Ok-clause-receipts
 returns-in-Ok-clause-receipts c =
-    reopened_keeps _ _ _ _ _ c.in-Ok.fabric c.in-Ok.nodes.items c.in-Ok.pumps.items c.in-Ok.ensures.reopened
+    reopened_keeps _ _ _ _ _ c.in-Ok.opened.fabric c.in-Ok.opened.nodes.items c.in-Ok.opened.pumps.items c.in-Ok.ensures.reopened
     ∙ ap (λ (p : PauseValue). p.gathered.receipts) c.self.view_is

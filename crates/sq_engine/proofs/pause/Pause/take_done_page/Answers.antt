@@ -16,7 +16,7 @@ take_page-requires g c =
     let inside = c.self.inside in
     let here = pause_value inside.opening inside.jobs inside.gathered in (
       c.type_bounds.sync-R,
-      reached_stored here c.self.invariant c.recon-recon.ensures.set_up.opening (subst HasDoneStage (sym c.self.view_is) c.requires),
+      reached_stored here c.self.invariant c.self.invariant.3.opening (subst HasDoneStage (sym c.self.view_is) c.requires),
     )
 
 pub invariant_of-result-in-Ok-take_page : goal.invariant_of-result-in-Ok-take_page
@@ -28,9 +28,9 @@ invariant_of-result-in-Ok-take_page g c =
     let few =
     c.without_answered-jobs.ensures ∙ ap (λ (ids : List (ℕ × ℕ)). filter (λ job. not (is_listed ids job)) inside.jobs) c.deref.ensures.value
     ∙ left_by inside.gathered.receipts c.in-Ok.ids.items c.in-Ok.ensures.ids inside.jobs in
-    let follows = page_follows was.0 was.1 here left c.recon-recon.ensures.set_up.opening (subst HasDoneStage (sym c.self.view_is) c.requires)
+    let follows = page_follows was.0 was.1 here left c.self.invariant.3.opening (subst HasDoneStage (sym c.self.view_is) c.requires)
     refl few c.in-Ok-take_page.ensures.left was.2 in
-    (was.0, PageTaken (with_other_rows left follows.0) ∷ was.1, follows.1)
+    (was.0, PageTaken (with_other_rows left follows.0) ∷ was.1, follows.1, was.3)
 
 pub returns-in-Ok-take_page-clause-page : goal.returns-in-Ok-take_page-clause-page
 returns-in-Ok-take_page-clause-page g c =
@@ -55,7 +55,7 @@ returns-in-Ok-take_page-clause-history g c = λ o past at.
     let few =
     c.without_answered-jobs.ensures ∙ ap (λ (ids : List (ℕ × ℕ)). filter (λ job. not (is_listed ids job)) inside.jobs) c.deref.ensures.value
     ∙ left_by inside.gathered.receipts c.in-Ok.ids.items c.in-Ok.ensures.ids inside.jobs in
-    page_follows o past here left c.recon-recon.ensures.set_up.opening (subst HasDoneStage (sym c.self.view_is) c.requires)
+    page_follows o past here left c.self.invariant.3.opening (subst HasDoneStage (sym c.self.view_is) c.requires)
     refl few c.in-Ok-take_page.ensures.left (subst (λ (p : PauseValue). PausesAfter o past p) (sym c.self.view_is) at)
 
 pub without_answered-jobs-requires-clause-by_id : goal.without_answered-jobs-requires-clause-by_id

@@ -1,9 +1,12 @@
+use Rattle.sq_node.specs.Opened.{opened_stores}
+use Rattle.sq_driver.proofs.Opening.{new_nodes, new_pumps}
 use Rattle.sq_thread_tests.proofs.tests.closing.opened.Goals as goal
 
 pub returns-clause-nodes : goal.returns-clause-nodes
 returns-clause-nodes c =
-    c.opened_workers_can_be_driven.ensures.nodes c.args.opening.now 0 c.in_ok-fabric.fabric c.in_ok-fabric.nodes.items c.in_ok-fabric.pumps.items c.in_ok-fabric.ensures
+    let o = c.args.opening.now in
+    new_nodes o c.in_ok-parts.parts.fabric (opened_stores o) c.in_ok-parts.parts.nodes.items c.in_ok-parts.ensures.opened.each_node
 
 pub returns-clause-pumps : goal.returns-clause-pumps
 returns-clause-pumps c =
-    c.opened_workers_can_be_driven.ensures.pumps c.args.opening.now 0 c.in_ok-fabric.fabric c.in_ok-fabric.nodes.items c.in_ok-fabric.pumps.items c.in_ok-fabric.ensures
+    new_pumps c.in_ok-parts.parts.fabric 0 c.in_ok-parts.parts.pumps.items c.in_ok-parts.ensures.opened.each_pump

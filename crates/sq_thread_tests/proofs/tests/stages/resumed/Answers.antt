@@ -1,9 +1,10 @@
+use Rattle.sq_driver.proofs.Opening.{new_nodes, new_pumps}
 use Rattle.sq_thread_tests.proofs.tests.stages.resumed.Goals as goal
 
 pub returns-clause-nodes : goal.returns-clause-nodes
 returns-clause-nodes c =
-    c.resumed_workers_can_be_driven.ensures.nodes c.in_ok-opening.opening 0 _ _ _ c.in-Ok.stage.0 c.in-Ok.stage.1.items c.in-Ok.stage.2.items c.in-Ok.ensures.run
+    new_nodes c.in_ok-opening.opening c.in-Ok.stage.fabric _ c.in-Ok.stage.nodes.items c.in-Ok.ensures.run.each_node
 
 pub returns-clause-pumps : goal.returns-clause-pumps
 returns-clause-pumps c =
-    c.resumed_workers_can_be_driven.ensures.pumps c.in_ok-opening.opening 0 _ _ _ c.in-Ok.stage.0 c.in-Ok.stage.1.items c.in-Ok.stage.2.items c.in-Ok.ensures.run
+    new_pumps c.in-Ok.stage.fabric c.args.pumps c.in-Ok.stage.pumps.items c.in-Ok.ensures.run.each_pump

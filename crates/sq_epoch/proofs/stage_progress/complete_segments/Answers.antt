@@ -5,9 +5,9 @@ use Rattle.std.proofs.lemmas.List.{take_all}
 use Rattle.std.proofs.lemmas.List.FromFn.{length-enumerate_from, get_or-enumerate_from}
 use Rattle.std.proofs.lemmas.List.Sums.{count_by_more_yes, count_by_more_no}
 use Rattle.sq_ranges.specs.declared.recon.Range.{Range}
-use Rattle.sq_epoch.specs.Progress.{is_complete_in}
-use Rattle.sq_epoch.proofs.stage_progress.whole_segments.Goals as goal
-use Rattle.sq_epoch.proofs.stage_progress.whole_segments.Goals.{then-is_complete, else-is_complete}
+use Rattle.sq_epoch.specs.Progress.{is_complete_in_stage}
+use Rattle.sq_epoch.proofs.stage_progress.complete_segments.Goals as goal
+use Rattle.sq_epoch.proofs.stage_progress.complete_segments.Goals.{then-is_complete, else-is_complete}
 
 -- one more of numbered things passes a test, or doesn't
 module _ {X : Type 0} (p : ℕ × X → Bool) (xs : List X) (i : ℕ) (x : X) (within : i < length xs) (is : x ≡ get_or xs i x) where
@@ -29,7 +29,7 @@ loop-seg-preserved c =
     let recon = c.args.recon.now in
     let within = subst (λ (xs : List Range). c.loop-seg.seg < length xs) all c.loop-seg-test.true in
     let is = subst (λ (xs : List Range). c.segment-item.result ≡ get_or xs c.loop-seg.seg c.segment-item.result) all c.segment-item.is in
-    let test = is_complete_in recon c.args.g.now in
+    let test = is_complete_in_stage recon c.args.g.now in
     elim c.if-is_complete.branch [
       | then-is_complete w ↦ w.count-is ∙ ap (λ n. n + 1) c.loop-seg.invariant
           ∙ sym (passes test recon.segments c.loop-seg.seg c.segment-item.result within is (sym c.is_complete.ensures ∙ w.if-is_complete.true))
@@ -41,5 +41,5 @@ pub returns : goal.returns
 returns c =
     let all = c.segments-segment-items.ensures.segments in
     let end : length c.args.recon.now.segments ≤ c.loop-seg.seg = subst (λ (xs : List Range). length xs ≤ c.loop-seg.seg) all c.loop-seg-test.false in
-    c.loop-seg.invariant ∙ ap (count_by (is_complete_in c.args.recon.now c.args.g.now))
+    c.loop-seg.invariant ∙ ap (count_by (is_complete_in_stage c.args.recon.now c.args.g.now))
     (take_all _ _ (subst (λ n. n ≤ c.loop-seg.seg) (sym (length-enumerate_from 0 c.args.recon.now.segments)) end))

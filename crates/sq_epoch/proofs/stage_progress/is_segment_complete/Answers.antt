@@ -4,7 +4,7 @@ use Rattle.sq_tree.specs.declared.status.Status.{Status}
 use Rattle.sq_tree.specs.Status.{reading_within}
 use Rattle.sq_tree.specs.Reading.{is_complete_reading}
 use Rattle.sq_tree.specs.Tree.{status_at, IsGrown}
-use Rattle.sq_epoch.proofs.stage_progress.is_whole.Goals as goal
+use Rattle.sq_epoch.proofs.stage_progress.is_segment_complete.Goals as goal
 
 pub reads_complete-requires : goal.reads_complete-requires
 reads_complete-requires c =
