@@ -31,6 +31,5 @@ tick_mark micros at = tick_rule (LEFT + share_of at micros WIDTH) ++ (label_text
 unfoldable pub tick_text : ℕ → ℕ → ℕ → List ℕ
 tick_text micros step tick = if nat_le (step * tick) micros then tick_mark micros (step * tick) else []
 
--- all ticks
 abbrev pub ticks_text : ℕ → List ℕ
 ticks_text micros = flat_map (tick_text micros (tick_step micros)) TICKS

@@ -20,9 +20,7 @@ pub struct TimedAnswer {
 /// What happened in a run.
 #[derive(Clone, Copy, Debug, PartialEq, Eq)]
 pub enum Happened {
-    /// A job was answered.
     JobAnswered(TimedAnswer),
-    /// A segment was complete.
     SegmentComplete,
 }
 

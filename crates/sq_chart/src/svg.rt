@@ -157,7 +157,6 @@ fn write_top<W: Write>(writer: &mut W, all: Moment) -> io::Result<()>
     writer.write_all(AXIS)
 }
 
-// Writes the title.
 fn write_title<W: Write>(writer: &mut W, all: Moment) -> io::Result<()>
     ensures { OnOk result (Appends (W.contents writer.old) (W.contents writer.new)
         (title_text all)) }

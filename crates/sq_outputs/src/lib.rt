@@ -12,4 +12,7 @@ pub use conflict::{Conflict, Output, conflict_among};
 pub use folder::Folder;
 pub use pipe::PipeEnd;
 pub use saving::{part_name, save};
-pub use system::{SystemFolder, find_folder_of, place_of, place_of_standard_input};
+pub use system::{
+    SystemFolder, find_folder_of, is_other_than_file, place_of, place_of_standard_input,
+    place_of_standard_output,
+};

@@ -8,8 +8,10 @@ use std::path::Path;
 use std::rt::Files;
 use std::{fs, io};
 
-// The name that leads to standard input.
+// The names that lead to the standard streams.
 const STANDARD_INPUT: &str = "/dev/stdin";
+
+const STANDARD_OUTPUT: &str = "/dev/stdout";
 
 /// The files of the system. Nothing is known of what they hold. No file takes the place of a folder, a device or a pipe.
 #[derive(Drop)]
@@ -57,9 +59,27 @@ pub fn place_of<T: Files + AllocGlobal>(rt: &T, name: &str) -> io::Result<String
 
 /// The place of standard input, if it is a file.
 pub fn place_of_standard_input<T: Files + AllocGlobal>(rt: &T) -> io::Result<Option<String>> {
-    match fs::metadata(rt, STANDARD_INPUT) {
-        Ok(there) if there.is_file() => Ok(Some(place_of(rt, STANDARD_INPUT)?)),
+    place_of_stream(rt, STANDARD_INPUT)
+}
+
+/// The place of standard output, if it is a file.
+pub fn place_of_standard_output<T: Files + AllocGlobal>(rt: &T) -> io::Result<Option<String>> {
+    place_of_stream(rt, STANDARD_OUTPUT)
+}
+
+// The place of the file that a standard stream is, if it is one.
+fn place_of_stream<T: Files + AllocGlobal>(rt: &T, stream: &str) -> io::Result<Option<String>> {
+    match fs::metadata(rt, stream) {
+        Ok(there) if there.is_file() => Ok(Some(place_of(rt, stream)?)),
         _ => Ok(None),
+    }
+}
+
+/// Whether something has this name that is no file: a folder, a device or a pipe.
+pub fn is_other_than_file<T: Files>(rt: &T, name: &str) -> bool {
+    match fs::metadata(rt, name) {
+        Ok(there) => !there.is_file(),
+        Err(_) => false,
     }
 }
 

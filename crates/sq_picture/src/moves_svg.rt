@@ -2,7 +2,13 @@
 ghost use Rattle.std.specs.Prelude.{◌≡◌, ◌-◌, ◌<◌, length, OnOk};
 ghost use Rattle.std.specs.List.{flat_map, range_with_len, enumerate_from};
 ghost use Rattle.std.specs.Io.KnownBytes.{Appends};
-ghost use Rattle.sq_picture.specs.MovesSvg.{hue_of, light_of, width_of, height_of, heading_of, names_of, origin_text, place_text, keys_text, box_text, name_text, owner_text, owners_text, begun_below, shade_of, open_segment, segment_end, segment_text, axis_text, segments_text, last_text, numbers_text, marks_text, column_head, column_end, column_text, frame_text, heading_text, top_text, moves_svg};
+ghost use Rattle.sq_picture.specs.MovesSvg.{hue_of, light_of, width_of, height_of, heading_of};
+ghost use Rattle.sq_picture.specs.MovesSvg.{names_of, origin_text, place_text, keys_text, box_text};
+ghost use Rattle.sq_picture.specs.MovesSvg.{name_text, owner_text, owners_text, begun_below};
+ghost use Rattle.sq_picture.specs.MovesSvg.{shade_of, open_segment, segment_end, segment_text};
+ghost use Rattle.sq_picture.specs.MovesSvg.{axis_text, segments_text, last_text, numbers_text};
+ghost use Rattle.sq_picture.specs.MovesSvg.{marks_text, column_head, column_end, column_text};
+ghost use Rattle.sq_picture.specs.MovesSvg.{frame_text, heading_text, top_text, moves_svg};
 
 use crate::svg::{write_end, write_number, write_start, write_words};
 use sq_plan::PartId;

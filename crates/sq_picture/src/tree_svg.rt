@@ -4,7 +4,9 @@ ghost use Rattle.std.specs.List.{flat_map, range_with_len};
 ghost use Rattle.std.specs.Io.KnownBytes.{Appends};
 ghost use Rattle.sq_tree.specs.Prelude.{span, is_live, status_at};
 ghost use Rattle.sq_picture.specs.Svg.{number_text};
-ghost use Rattle.sq_picture.specs.TreeSvg.{level_of, left_of, top_of, class_of, placed_text, box_text, status_label, words_at, said_text, node_text, tree_heading_text, tree_top_text, tree_svg};
+ghost use Rattle.sq_picture.specs.TreeSvg.{level_of, left_of, top_of, class_of, placed_text};
+ghost use Rattle.sq_picture.specs.TreeSvg.{box_text, status_label, words_at, said_text, node_text};
+ghost use Rattle.sq_picture.specs.TreeSvg.{tree_heading_text, tree_top_text, tree_svg};
 
 use crate::svg::{write_end, write_number, write_start, write_words};
 use sq_tree::{NODES, NodeId, PlainTree, Status};

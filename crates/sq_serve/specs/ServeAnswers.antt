@@ -11,7 +11,8 @@ serve_answer_line (Moving segments) = line (codes "moving" ∷ decimal segments 
 serve_answer_line (Moved segments) = line (codes "moved" ∷ decimal segments ∷ [])
 serve_answer_line (Folded families committed) = line (codes "folded" ∷ decimal families ∷ decimal committed ∷ [])
 serve_answer_line (Rows count) = line (codes "rows" ∷ decimal count ∷ [])
-serve_answer_line AtRest = line (codes "at" ∷ codes "rest" ∷ [])
+serve_answer_line (AtRest unanswered) =
+    line (codes "at" ∷ codes "rest," ∷ decimal unanswered ∷ codes "jobs" ∷ codes "open" ∷ [])
 serve_answer_line (Progress complete segments unanswered) =
     line (codes "moving" ∷ decimal complete ∷ codes "of" ∷ decimal segments ∷ codes "segments," ∷ decimal unanswered
     ∷ codes "jobs" ∷ codes "open" ∷ [])

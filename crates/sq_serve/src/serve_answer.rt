@@ -1,7 +1,7 @@
 // What an engine answers to lines other than jobs.
 ghost use Rattle.std.specs.Prelude.{OnOk};
 ghost use Rattle.std.specs.Io.KnownBytes.{Appends};
-ghost use Rattle.sq_serve.specs.declared.serve_answer.ServeAnswer.TheVariants.{Progress};
+ghost use Rattle.sq_serve.specs.declared.serve_answer.ServeAnswer.TheVariants.{AtRest, Progress};
 ghost use Rattle.sq_serve.specs.ServeAnswers.{serve_answer_line, plan_line};
 
 use sq_text::WriteFault;
@@ -33,8 +33,10 @@ pub enum ServeAnswer {
     Rows {
         count: u64,
     },
-    /// Nothing moves.
-    AtRest,
+    /// Nothing moves, and so many jobs have no answer.
+    AtRest {
+        unanswered: u64,
+    },
     /// So many of the segments that move are complete, and so many jobs have no answer.
     Progress {
         complete: u64,
@@ -57,7 +59,7 @@ pub fn write_serve_answer<W: Write>(writer: &mut W, answer: ServeAnswer) -> Resu
             committed,
         } => writeln!(writer, "folded {families} {committed}")?,
         ServeAnswer::Rows { count } => writeln!(writer, "rows {count}")?,
-        ServeAnswer::AtRest => writeln!(writer, "at rest")?,
+        ServeAnswer::AtRest { unanswered } => write_rest(writer, unanswered)?,
         ServeAnswer::Progress {
             complete,
             segments,
@@ -65,6 +67,14 @@ pub fn write_serve_answer<W: Write>(writer: &mut W, answer: ServeAnswer) -> Resu
         } => write_progress(writer, complete, segments, unanswered)?,
     }
     Ok(())
+}
+
+// Writes how many jobs have no answer where nothing moves.
+fn write_rest<W: Write>(writer: &mut W, unanswered: u64) -> io::Result<()>
+    ensures { OnOk result (Appends (W.contents writer.old) (W.contents writer.new)
+        (serve_answer_line (AtRest unanswered))) }
+{
+    writeln!(writer, "at rest, {unanswered} jobs open")
 }
 
 // Writes how far a move is.

@@ -2,7 +2,10 @@
 ghost use Rattle.std.specs.Prelude.{OnOk};
 ghost use Rattle.std.specs.List.{flat_map};
 ghost use Rattle.std.specs.Io.KnownBytes.{Appends};
-ghost use Rattle.sq_serve_report.specs.Account.{account_text, epochs_line, interval_front, interval_line, interval_lines, jobs_line, jobs_text, move_front, move_report_line, progress_text, spread_fields, whole_line};
+ghost use Rattle.sq_serve_report.specs.Account.{account_text, epochs_line, interval_front};
+ghost use Rattle.sq_serve_report.specs.Account.{interval_line, interval_lines, jobs_line};
+ghost use Rattle.sq_serve_report.specs.Account.{jobs_text, move_front, move_report_line};
+ghost use Rattle.sq_serve_report.specs.Account.{progress_text, spread_fields, whole_line};
 
 use crate::intervals::IntervalFigures;
 use crate::moves::MoveTally;

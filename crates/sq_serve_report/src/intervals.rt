@@ -1,6 +1,7 @@
 // Short intervals of a time in which an engine was served.
 ghost use Rattle.std.specs.Prelude.{◌≡◌, ◌+◌, OnOk};
-ghost use Rattle.sq_serve_report.specs.Intervals.{answers_in, answers_recorded, IsIntervalOf, EndsInterval};
+ghost use Rattle.sq_serve_report.specs.Intervals.{answers_in, answers_recorded, IsIntervalOf};
+ghost use Rattle.sq_serve_report.specs.Intervals.{EndsInterval};
 
 use crate::tallies::MovedTally;
 use sq_serve::ServeMark;
@@ -57,7 +58,8 @@ impl Intervals {
         micros: u64,
         wait: u64,
     ) -> Result<(), AllocError>
-        ensures { OnOk result (answers_recorded self.new ≡ answers_recorded self.old + answers_in mark.now) }
+        ensures { OnOk result
+            (answers_recorded self.new ≡ answers_recorded self.old + answers_in mark.now) }
     {
         self.reach(micros / MICROS_IN_INTERVAL)?;
         self.enter(mark, wait)
@@ -92,7 +94,8 @@ impl Intervals {
 
     // Takes note of a mark in the running interval.
     fn enter(&mut self, mark: &ServeMark, wait: u64) -> Result<(), AllocError>
-        ensures { OnOk result (answers_recorded self.new ≡ answers_recorded self.old + answers_in mark.now) }
+        ensures { OnOk result
+            (answers_recorded self.new ≡ answers_recorded self.old + answers_in mark.now) }
     {
         self.moved = self.moved.noted(mark);
         match *mark {

@@ -1,6 +1,7 @@
 // The moves of an engine while it was served.
 ghost use Rattle.std.specs.Prelude.{◌≡◌, OnOk, option_map};
-ghost use Rattle.sq_serve_report.specs.Moves.{move_begun, move_noted, EndsMove, BeginsMove, NotesMove};
+ghost use Rattle.sq_serve_report.specs.Moves.{move_begun, move_noted, EndsMove, BeginsMove};
+ghost use Rattle.sq_serve_report.specs.Moves.{NotesMove};
 
 use crate::tallies::{AnswerTally, MovedTally};
 use sq_serve::ServeMark;

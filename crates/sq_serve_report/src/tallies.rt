@@ -1,6 +1,7 @@
 // What is counted of an engine while it is served.
 ghost use Rattle.std.specs.Prelude.{◌≡◌};
-ghost use Rattle.sq_serve_report.specs.Tallies.{answer_counted, answers_noted, moved_noted, epoch_begun, epoch_ended, epochs_noted};
+ghost use Rattle.sq_serve_report.specs.Tallies.{answer_counted, answers_noted, moved_noted};
+ghost use Rattle.sq_serve_report.specs.Tallies.{epoch_begun, epoch_ended, epochs_noted};
 
 use sq_serve::ServeMark;
 

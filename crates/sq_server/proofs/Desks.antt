@@ -110,6 +110,11 @@ silent a b same =
       waiting = refl;
     })
 
+-- no bytes were written
+pub writes_nothing : (a b : ServeDeskValue) → WritesBytes [] a b → Speaks a b
+writes_nothing a b writes =
+    record { goes_on = writes.goes_on; others = []; written = writes.written; heard = writes.heard; waiting = writes.waiting }
+
 -- nothing was written
 pub quiet : (more : List Fed) (back offered : List Job) (a b : ServeDeskValue) → b.written ≡ a.written → b.has_stopped ≡ a.has_stopped
     → length b.waiting ≡ length a.waiting
@@ -182,20 +187,6 @@ module _ {W : Type 0} (contents : W → Option (List ℕ)) where
         written = λ still.
             subst (Appends (contents old.writer) (contents new.writer)) (sym (append-nil (other_line line)))
             (says.written (or_parts lacks_memory new.has_failed still).1);
-        heard = refl;
-        waiting = refl;
-      }
-
-  -- one that wrote nothing
-  pub flushes : (lacks_memory : Bool) (heard : List Fed) (waiting : List (List AskedTxn)) (old new : Outlet W)
-      → Says contents old [] new → Speaks (over lacks_memory heard waiting old) (over lacks_memory heard waiting new)
-  flushes lacks_memory heard waiting old new says =
-      record {
-        goes_on = λ still.
-            let parts = or_parts lacks_memory new.has_failed still in
-            ap (λ (b : Bool). b || old.has_failed) parts.0 ∙ says.goes_on parts.1;
-        others = [];
-        written = λ still. says.written (or_parts lacks_memory new.has_failed still).1;
         heard = refl;
         waiting = refl;
       }

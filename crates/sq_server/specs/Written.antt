@@ -3,6 +3,7 @@ use Rattle.std.specs.Prelude.{◌≡◌, ℕ, ◌<◌, ◌==◌, Bool, false, if
 use Rattle.std.specs.List.{flat_map, range_with_len}
 use Rattle.std.specs.Io.KnownBytes.{Appends}
 use Rattle.sq_node_model.specs.NodeValue.{ReceiptValue}
+use Rattle.sq_node.specs.NodeState.{NodeState}
 use Rattle.sq_audit.specs.declared.job.Job.{Job}
 use Rattle.sq_epoch.specs.declared.posted.PostFault.TheVariants as fault
 use Rattle.sq_engine.specs.declared.standing.Standing.{Standing}
@@ -13,6 +14,7 @@ use Rattle.sq_engine.specs.Engine.{KeepsHistory, KeepsHistoryAndJobs}
 use Rattle.sq_epoch.specs.Serving.{AllAreGiven}
 use Rattle.sq_epoch.specs.Exchanges.{Exchange, Answers, Posts, Refuses, Rests, Ends, given_from, posted_in}
 use Rattle.sq_told.specs.Lines.{receipt_line}
+use Rattle.sq_told.specs.Interleaving.{Interleaves}
 use Rattle.sq_server.specs.declared.feed.Fed.{Fed}
 use Rattle.sq_server.specs.Saying.{OtherLine, other_line}
 use Rattle.sq_server.specs.Becoming.{ServeDeskValue, asked_by, jobs_waiting, jobs_for}
@@ -74,6 +76,17 @@ pub record WritesEach (exchanges : List Exchange) (old new : ServeDeskValue) : T
   pub jobs : new.has_stopped ≡ false → (part : ℕ) → part < length old.waiting
       → jobs_waiting old.waiting part ++ flat_map (asked_by part) more
       ≡ jobs_for part (settled_in exchanges) ++ jobs_waiting new.waiting part
+
+-- over an epoch that began with these nodes a desk wrote what it was given of them
+pub record ServesEpoch (exchanges : List Exchange) (nodes : List NodeState) (before after : ServeDeskValue) : Type 0 where
+  pub writes : WritesEach exchanges before after
+  pub is_whole : Bool
+  pub driven : List NodeState
+  pub given : AllAreGiven is_whole exchanges nodes driven
+
+-- the receipts whose lines were written are an interleaving of those that were given of each of so many partitions
+abbrev pub WritesInterleaved : ℕ → List Exchange → List SaidLine → Type 0
+WritesInterleaved parts exchanges said = Interleaves (given_by_parts parts exchanges) (receipts_said said)
 
 -- an engine reached an epoch, and continued from it: in the epoch a desk was given the answers that the nodes wrote,
 -- and wrote each of them

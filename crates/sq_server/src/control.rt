@@ -39,6 +39,7 @@ impl<W: Write + Drop, V: ServeWatch> Client for Control<'_, W, V> {
         self.desk.note_stage(progress);
         self.desk.begin_call(self.audit.goes_on());
         if self.ends() {
+            self.desk.flush();
             self.marks.end();
             return Command::End;
         }

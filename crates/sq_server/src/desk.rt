@@ -195,6 +195,13 @@ impl<W: Write + Drop> ServeDesk<W> {
         wish
     }
 
+    /// Sees that what was written goes out.
+    pub fn flush(&mut self)
+        ensures { WritesBytes [] (desk_value W.contents self.old) (desk_value W.contents self.new) }
+    {
+        self.outlet.flush();
+    }
+
     /// Begins a call. Where no audit runs, a page may be due.
     pub fn begin_call(&mut self, audit_goes_on: bool)
         ensures { desk_value W.contents self.new ≡ desk_value W.contents self.old }
@@ -518,7 +525,7 @@ impl<W: Write + Drop> ServeDesk<W> {
         self.outlet.say_plan(self.plan.as_str());
     }
 
-    // Writes how far a move is.
+    // Writes how far a move is, and how many jobs have no answer.
     fn say_status(&mut self)
         ensures { Speaks (desk_value W.contents self.old) (desk_value W.contents self.new) }
     {
@@ -526,14 +533,15 @@ impl<W: Write + Drop> ServeDesk<W> {
         self.say(status);
     }
 
-    // How far the running stage of a move is.
+    // How far the running stage of a move is, and how many jobs have no answer.
     fn status(&self) -> ServeAnswer {
+        let unanswered = self.unanswered();
         match self.moving {
-            None => ServeAnswer::AtRest,
+            None => ServeAnswer::AtRest { unanswered },
             Some(MoveProgress { stage, .. }) => ServeAnswer::Progress {
                 complete: stage.complete,
                 segments: stage.segments,
-                unanswered: self.unanswered(),
+                unanswered,
             },
         }
     }

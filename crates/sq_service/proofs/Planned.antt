@@ -6,7 +6,7 @@ use Rattle.sq_plan.specs.PlanValue.{PlanValue}
 use Rattle.sq_ranges.specs.OpeningValue.{OpeningValue}
 use Rattle.sq_ranges.specs.Opening.{IsOpening}
 use Rattle.sq_model.proofs.Lists.{Contains-cases, Contains-nothing}
-use Rattle.sq_gather.proofs.Running.{rowless_opening}
+use Rattle.sq_node_model.proofs.Folded.{rowless_opening}
 use Rattle.sq_audit.specs.declared.job.Job.{Job}
 use Rattle.sq_audit.specs.declared.verdict.Verdict.TheVariants.{Sound}
 use Rattle.sq_audit.specs.Sound.{IsSoundRun}

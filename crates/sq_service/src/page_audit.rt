@@ -67,8 +67,6 @@ pub(crate) fn audit_closed<T: Threads + Sync>(
     ensures judged { JudgesClosed closed.now result }
     ensures set_up { IsSetUp closed.now.opening }
 {
-    // For the proof alone: the opening is set up.
-    let _recon = closed.opening.recon();
     match closed.audit(rt, alloc) {
         Ok(verdict) => judge(verdict, &closed.page.run),
         Err(_) => Err(ServeEnding::Memory),

@@ -45,7 +45,7 @@ pub(crate) fn serve_engine<T: Threads + Wait + Sync, W: Write + Drop, V: ServeWa
     unreachable!()
 }
 
-// Serves an epoch, and does what it ended for.
+// Serves an epoch, and does what it ended for. What was said before it begins goes out.
 fn serve_step<T: Threads + Wait + Sync, W: Write + Drop, V: ServeWatch>(
     rt: &T,
     alloc: Global,
@@ -57,6 +57,8 @@ fn serve_step<T: Threads + Wait + Sync, W: Write + Drop, V: ServeWatch>(
     ensures { StepGives book.old engine (desk_value W.contents desk)
         book.new result.engine (desk_value W.contents result.desk) }
 {
+    let mut desk = desk;
+    desk.flush();
     let ServiceStep { mut desk, engine } = go_through_epoch(rt, alloc, engine, desk, beside, book);
     match engine {
         Ok(engine) => {

@@ -16,7 +16,8 @@ use std::io::Write;
 use std::sync::Wait;
 use std::thread::Threads;
 
-/// Continues after an epoch: says where a move is done, and does what the epoch ended for.
+/// Continues after an epoch: says where a move is done, and does what the epoch ended for. That may take long, so all that was
+/// written goes out before.
 pub(crate) fn go_on<T: Threads + Wait + Sync, W: Write + Drop, V: ServeWatch>(
     rt: &T,
     alloc: Global,
@@ -34,7 +35,10 @@ pub(crate) fn go_on<T: Threads + Wait + Sync, W: Write + Drop, V: ServeWatch>(
         return Err(ending);
     }
     match note_rest(&engine, desk, watch) {
-        Ok(()) => page_or_wish(rt, alloc, engine, desk, watch, book),
+        Ok(()) => {
+            desk.flush();
+            page_or_wish(rt, alloc, engine, desk, watch, book)
+        }
         Err(ending) => {
             drop(engine);
             Err(ending)

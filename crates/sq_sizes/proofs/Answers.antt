@@ -28,9 +28,9 @@ pub answered : {E : Type 0} (tells : OpeningValue → List ℕ → Type 0) (r : 
 answered tells (Err e) tables o begin lines before now eight opens wrote = tt
 answered tells (Ok ending) tables o begin lines before now eight opens wrote =
     let some = some_pieces lines in
-    let all = opens some.pieces some.can_come in (
+    let all = opens some.can_come.0 some.pieces some.can_come.1 in (
       all.0,
-      all.1,
+      (some.can_come.0, all.1),
       wrote.0,
       wrote.1,
       elim wrote.2 as (λ _. IsAnswerOf tells MAX_TABLES all.0 wrote.0 ending) [
@@ -46,5 +46,5 @@ pub not_answered : {E : Type 0} (tells : OpeningValue → List ℕ → Type 0) (
 not_answered tells (Err e) tables fault begin lines before now eight opens wrote = tt
 not_answered tells (Ok ending) tables fault begin lines before now eight opens wrote =
     let some = some_pieces lines in
-    let all = opens some.pieces some.can_come in
-    (all.0, all.1, wrote.0, wrote.1, inr (record { fault = fault; left = some.pieces; header = subst (λ n. Opens n (Err fault) some.pieces (header_of n all.0)) eight all.2; wrote = wrote.2 }))
+    let all = opens some.can_come.0 some.pieces some.can_come.1 in
+    (all.0, (some.can_come.0, all.1), wrote.0, wrote.1, inr (record { fault = fault; left = some.pieces; header = subst (λ n. Opens n (Err fault) some.pieces (header_of n all.0)) eight all.2; wrote = wrote.2 }))

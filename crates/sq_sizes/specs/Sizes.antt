@@ -1,5 +1,5 @@
 -- How large a move is: the opening rows that move, and the chunks that this takes.
-use Rattle.std.specs.Prelude.{ℕ, Bool, ◌==◌, ◌^◌, ◌-◌, nat_lt, nat_le, min, List, length, map, filter, sum_by, take_while}
+use Rattle.std.specs.Prelude.{ℕ, Bool, ◌==◌, ◌^◌, ◌+◌, ◌-◌, nat_lt, nat_le, min, List, length, map, filter, sum_by, take_while}
 use Rattle.sq_schema.specs.Table.{TableValue}
 use Rattle.sq_schema.specs.Family.{rows_size}
 use Rattle.sq_ranges.specs.declared.recon.Range.{Range}
@@ -61,4 +61,14 @@ size_in_64_bits size =
       rows = in_64_bits size.rows;
       bytes = in_64_bits size.bytes;
       chunks = in_64_bits size.chunks;
+    }
+
+-- two sizes in sum, of such numbers
+abbrev pub sum_in_64_bits : Size → Size → Size
+sum_in_64_bits size other =
+    record {
+      families = in_64_bits (size.families + other.families);
+      rows = in_64_bits (size.rows + other.rows);
+      bytes = in_64_bits (size.bytes + other.bytes);
+      chunks = in_64_bits (size.chunks + other.chunks);
     }

@@ -2,7 +2,8 @@
 ghost use Rattle.std.specs.Prelude.{ℕ, List, IfOk};
 ghost use Rattle.sq_ranges.specs.Prelude.{OpeningValue};
 ghost use Rattle.sq_world.specs.Run.{EndsAtFault};
-ghost use Rattle.sq_sizes.specs.Asked.{IsToldOf, TellsOpening, TellsOpeningOfLines, TellsOrRefusesOf};
+ghost use Rattle.sq_sizes.specs.Asked.{IsToldOf, TellsOpening, TellsOpeningOfLines};
+ghost use Rattle.sq_sizes.specs.Asked.{TellsOrRefusesOf};
 
 use sq_lines::LineReader;
 use sq_ranges::Opening;

@@ -2,7 +2,8 @@
 ghost use Rattle.std.specs.Prelude.{◌≡◌, OnOk};
 ghost use Rattle.std.specs.Io.KnownBytes.{Appends};
 ghost use Rattle.std.specs.List.{flat_map};
-ghost use Rattle.sq_sizes.specs.Owners.{range_with, key_range_text, told_leaf, leaf_text, key_owners_text, owner_line, IsOwnersText};
+ghost use Rattle.sq_sizes.specs.Owners.{range_with, key_range_text, told_leaf, leaf_text};
+ghost use Rattle.sq_sizes.specs.Owners.{key_owners_text, owner_line, IsOwnersText};
 
 use crate::asked::OpeningTelling;
 use sq_ranges::{Opening, Range, Recon, SegId};

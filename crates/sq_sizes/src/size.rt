@@ -1,7 +1,8 @@
 // How large a move is.
-ghost use Rattle.std.specs.Prelude.{◌≡◌, ◌+◌, [], nat_lt, length, take_while};
+ghost use Rattle.std.specs.Prelude.{◌≡◌, [], nat_lt, length, take_while};
 ghost use Rattle.sq_schema.specs.Family.{rows_size};
-ghost use Rattle.sq_sizes.specs.Sizes.{entries_size, segment_size, sum_of_sizes, is_in_part, part_size, in_64_bits, size_in_64_bits};
+ghost use Rattle.sq_sizes.specs.Sizes.{entries_size, segment_size, sum_of_sizes, is_in_part};
+ghost use Rattle.sq_sizes.specs.Sizes.{part_size, size_in_64_bits, sum_in_64_bits};
 
 use crate::cutting::Cutting;
 use sq_ranges::{Opening, Range, Recon};
@@ -40,12 +41,7 @@ impl Size {
 
     // This and another one in sum.
     fn plus(self, other: Size) -> Size
-        ensures { result ≡ record {
-          families = in_64_bits (self.families + other.families);
-          rows = in_64_bits (self.rows + other.rows);
-          bytes = in_64_bits (self.bytes + other.bytes);
-          chunks = in_64_bits (self.chunks + other.chunks);
-        } }
+        ensures { result ≡ sum_in_64_bits self other }
     {
         Size {
             families: self.families.saturating_add(other.families),

@@ -6,7 +6,8 @@ ghost use Rattle.serde_json.specs.Read.{read};
 ghost use Rattle.serde_json.specs.View.{view, items_of};
 ghost use Rattle.serde_json.specs.Written.{compact_text};
 ghost use Rattle.sq_ranges.specs.Prelude.{stages};
-ghost use Rattle.sq_sizes.specs.SizeJson.{sized_range_data, sized_segment_data, sized_stage_data, sizes_data, TellsSizesAsJson};
+ghost use Rattle.sq_sizes.specs.SizeJson.{sized_range_data, sized_segment_data, sized_stage_data};
+ghost use Rattle.sq_sizes.specs.SizeJson.{sizes_data, TellsSizesAsJson};
 
 use crate::asked::OpeningTelling;
 use crate::size::{MovePart, Size};

@@ -3,7 +3,9 @@ ghost use Rattle.std.specs.Prelude.{OnOk};
 ghost use Rattle.std.specs.Io.KnownBytes.{Appends};
 ghost use Rattle.std.specs.List.{flat_map, enumerate_from, range_with_len};
 ghost use Rattle.sq_ranges.specs.Prelude.{stages};
-ghost use Rattle.sq_sizes.specs.SizeLines.{size_ending, range_front, segment_front, stage_front, sized_range_line, sized_segment_line, sized_stage_line, TellsSizesAsLines};
+ghost use Rattle.sq_sizes.specs.SizeLines.{size_ending, range_front, segment_front, stage_front};
+ghost use Rattle.sq_sizes.specs.SizeLines.{sized_range_line, sized_segment_line, sized_stage_line};
+ghost use Rattle.sq_sizes.specs.SizeLines.{TellsSizesAsLines};
 
 use crate::asked::OpeningTelling;
 use crate::size::{MovePart, Size};

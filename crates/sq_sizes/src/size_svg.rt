@@ -3,7 +3,9 @@ ghost use Rattle.std.specs.Prelude.{OnOk};
 ghost use Rattle.std.specs.Io.KnownBytes.{Appends};
 ghost use Rattle.std.specs.List.{flat_map, enumerate_from, range_with_len};
 ghost use Rattle.sq_ranges.specs.ReconValue.{stages};
-ghost use Rattle.sq_sizes.specs.SizeSvg.{size_phrase, sized_mark, mark_in, sized_marks, counts_text, weights_text, caption_text, sized_column, open_stage, stage_caption, sizes_svg, TellsSizesAsSvg};
+ghost use Rattle.sq_sizes.specs.SizeSvg.{size_phrase, sized_mark, mark_in, sized_marks};
+ghost use Rattle.sq_sizes.specs.SizeSvg.{counts_text, weights_text, caption_text, sized_column};
+ghost use Rattle.sq_sizes.specs.SizeSvg.{open_stage, stage_caption, sizes_svg, TellsSizesAsSvg};
 
 use crate::asked::OpeningTelling;
 use crate::size::{MovePart, Size};

@@ -1,7 +1,7 @@
 // Who watches an engine behind a pipe: it records what the engine does, and saves rows.
 ghost use Rattle.std.specs.Prelude.{◌≡◌, IfErr};
 
-use crate::outputs::{explain_conflict, save_text};
+use crate::outputs::{are_files, explain_conflict, save_text};
 use crate::serving::EngineInput;
 use crate::session::{REFUSED, refuse_for_memory};
 use sq_outputs::{
@@ -120,14 +120,18 @@ fn record_of<T: AllocGlobal>(rt: &T, input: EngineInput<'_>) -> Option<Mutex<Ser
     Some(Mutex::new(ServeRecord::new(rt.alloc())))
 }
 
-// The places of the files that an engine with this input reads or reports in. `None` where a report would be written over
-// a file that it reads, or over another report, which standard error says. An error is that memory ran out.
+// The places of the files that an engine with this input reads or reports in. `None` where a report would be no file of its
+// own, or be written over a file that it reads, or over another report, which standard error says. An error is that memory ran
+// out.
 fn places_of<T: Eprint + Files + AllocGlobal>(
     rt: &T,
     input: EngineInput<'_>,
 ) -> io::Result<Option<Vec<String>>> {
     let mut places = read_places(rt, input)?;
     let outputs = outputs_of(rt, input)?;
+    if !are_files(rt, &outputs)? {
+        return Ok(None);
+    }
     if let Some(conflict) = conflict_among(&outputs, &places) {
         explain_conflict(rt, conflict);
         return Ok(None);

@@ -19,6 +19,7 @@ mod session;
 mod source;
 mod steps;
 mod streams;
+mod unread_stages;
 mod usage;
 
 use beginning::write_demo;

@@ -4,8 +4,8 @@ ghost use Rattle.std.specs.Prelude.{◌≡◌, IfSome};
 use crate::session::{REFUSED, refuse_for_memory};
 use sq_command::{Input, Task};
 use sq_outputs::{
-    Conflict, Output, SystemFolder, conflict_among, find_folder_of, part_name, place_of,
-    place_of_standard_input, save,
+    Conflict, Output, SystemFolder, conflict_among, find_folder_of, is_other_than_file, part_name,
+    place_of, place_of_standard_input, place_of_standard_output, save,
 };
 use std::io;
 use std::io::ErrorKind;
@@ -13,6 +13,9 @@ use std::rt::Files;
 
 // The option of the file that isn't written whole or not at all.
 const TIMELINE: &str = "timeline";
+
+// The name of standard input, which names no output.
+const DASH: &str = "-";
 
 // The options of a task that name files to be written, and the names.
 fn named_outputs(task: Task<'_>) -> [(&'static str, Option<&str>); 4] {
@@ -99,8 +102,8 @@ fn inputs_of<T: Files + AllocGlobal>(rt: &T, input: Input<'_>) -> io::Result<Vec
     Ok(places)
 }
 
-/// Refuses a task that would write a file that it reads too, or one file twice, or one in a folder that isn't there, before it
-/// reads anything: says so on standard error, and gives the exit status.
+/// Refuses a task that would write a file that it reads too, one file twice, what is no file of its own, or a file in a folder
+/// that isn't there, before it reads anything: says so on standard error, and gives the exit status.
 pub fn refuse_outputs<T: Print + Eprint + Files + AllocGlobal>(
     rt: &T,
     task: Task<'_>,
@@ -115,8 +118,8 @@ pub fn refuse_outputs<T: Print + Eprint + Files + AllocGlobal>(
     }
 }
 
-// Whether a task writes no file that it reads too, none twice, and each in a folder that is there; else standard error says which.
-// An error is that there is no memory for the answer.
+// Whether a task writes files alone, none that it reads too, none twice, and each in a folder that is there; else standard error
+// says which. An error is that there is no memory for the answer.
 fn may_write<T: Eprint + Files + AllocGlobal>(
     rt: &T,
     task: Task<'_>,
@@ -126,12 +129,51 @@ fn may_write<T: Eprint + Files + AllocGlobal>(
     if outputs.is_empty() {
         return Ok(true);
     }
+    if !are_files(rt, &outputs)? {
+        return Ok(false);
+    }
     let read = inputs_of(rt, input)?;
     if let Some(conflict) = conflict_among(&outputs, &read) {
         explain_conflict(rt, conflict);
         return Ok(false);
     }
     have_folders(rt, &outputs)
+}
+
+/// Whether each output may be a file of its own; standard error says of which it may not. An error is that there is no memory
+/// for the answer.
+pub fn are_files<T: Eprint + Files + AllocGlobal>(
+    rt: &T,
+    outputs: &[Output<'_>],
+) -> io::Result<bool> {
+    let answers = place_of_standard_output(rt)?;
+    for output in outputs {
+        if let Some(why) = why_no_file(rt, output, answers.as_ref()) {
+            let (option, name) = (output.option, output.name);
+            let _ = eprintln!(rt; "squall: --{option} names '{name}', {why}");
+            return Ok(false);
+        }
+    }
+    Ok(true)
+}
+
+// Why an output is no file of its own, where standard output is the file at this place. What is written whole or not at all takes
+// no other thing's place; a timeline may be a device.
+fn why_no_file<T: Files>(
+    rt: &T,
+    output: &Output<'_>,
+    answers: Option<&String>,
+) -> Option<&'static str> {
+    if output.name == DASH {
+        return Some("and an output is a file");
+    }
+    if output.is_part && is_other_than_file(rt, output.name) {
+        return Some("which is no file");
+    }
+    match answers {
+        Some(place) if place.as_str() == output.place.as_str() => Some("which is standard output"),
+        _ => None,
+    }
 }
 
 // Whether the folders of files are there; standard error says of which file it isn't.

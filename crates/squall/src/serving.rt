@@ -6,8 +6,9 @@ ghost use Rattle.squall.specs.Session.{EndsEngine};
 use crate::engine_watch::EngineWatch;
 use crate::plans::read_plan;
 use crate::session::{REFUSED, explain_write, open_input, refuse_file, refuse_for_memory};
-use crate::source::is_table;
+use crate::source::{FaultPlace, is_table};
 use crate::streams::Streams;
+use crate::unread_stages::{PlansWatched, tell_unread_stages_of};
 use sq_command::{EngineFiles, EngineReports};
 use sq_csv_rows::{CsvRows, RecordLines};
 use sq_row_lines::RowLines;
@@ -140,12 +141,14 @@ where
     ensures { EndsEngine result }
 {
     let Some(files) = files else {
-        return serve_input(rt, writer, main, config, streams, watch);
+        let input = PlansWatched::new(*rt, main, 1);
+        return serve_input(rt, writer, input, config, streams, watch);
     };
     let mut main = main;
     match opening_text(rt, files, &mut main) {
         Ok(text) => {
-            let input = Cursor::new(text).chain(main);
+            let number = number_behind(&text);
+            let input = Cursor::new(text).chain(PlansWatched::new(*rt, main, number));
             serve_input(rt, writer, input, config, streams, watch)
         }
         Err(status) => status,
@@ -232,12 +235,19 @@ where
     ensures { IfErr result (λ status. status ≡ 2) }
 {
     let plan = told(rt, files.plan, read_plan(rt, files.plan))?;
+    tell_unread_stages_of(rt, rt.alloc(), FaultPlace::File(files.plan), &plan);
     let line = told(rt, files.plan, plan_line(rt.alloc(), &plan))?;
     let Some(name) = files.rows else {
         return Ok(line);
     };
     let text = told(rt, "standard input", with_line(line, main))?;
     told(rt, name, with_rows(rt, text, name))
+}
+
+// The number of the line behind a text.
+fn number_behind(text: &[u8]) -> u64 {
+    let lines = text.iter().filter(|byte| **byte == LINE_END).count();
+    (lines as u64).saturating_add(1)
 }
 
 // What was made of a file, or the exit status after it can't be read, or after memory ran out.

@@ -2,7 +2,8 @@ use Rattle.sq_server.specs.Becoming.{desk_value}
 use Rattle.sq_service.specs.Events.{GoneOn}
 use Rattle.std.proofs.Common.{[], ◌∷◌, refl}
 use Rattle.sq_engine.proofs.Goings.{stays}
-use Rattle.sq_service.proofs.Served.{ends_at_once, ends_with, stopped_ends, memory_ends, served_steps, speaks_only}
+use Rattle.sq_service.proofs.Served.{ends_at_once, ends_with, stopped_ends, memory_ends, served_steps, speaks_only, speaks_then}
+use Rattle.sq_server.proofs.Desks.{writes_nothing}
 use Rattle.sq_service.proofs.wishes.go_on.Goals as goal
 
 pub returns-in-Some : goal.returns-in-Some
@@ -16,9 +17,11 @@ returns-in-Ok g c =
     let book = c.args.book.now in
     let before = desk_value g.W.Write.contents c.args.desk.now in
     let told = desk_value g.W.Write.contents c.note_rest.new.desk in
+    let flushed = desk_value g.W.Write.contents c.flush.new.self in
     let after = desk_value g.W.Write.contents c.page_or_wish.new.desk in
-    served_steps book book c.page_or_wish.new.book c.args.engine before c.args.engine told c.page_or_wish.result after
-    (speaks_only book c.args.engine before told c.note_rest.ensures.speaks) c.page_or_wish.ensures
+    served_steps book book c.page_or_wish.new.book c.args.engine before c.args.engine flushed c.page_or_wish.result after
+    (speaks_only book c.args.engine before flushed (speaks_then before told flushed c.note_rest.ensures.speaks (writes_nothing told flushed c.flush.ensures)))
+    c.page_or_wish.ensures
 
 pub returns-in-Err : goal.returns-in-Err
 returns-in-Err g c =

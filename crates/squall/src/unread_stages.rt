@@ -1,0 +1,132 @@
+// Plans of an engine's input that are of the first version and have stages, which aren't read there.
+use crate::source::FaultPlace;
+use sq_diagnosis::has_unread_stages;
+use sq_lines::place_of;
+use sq_text::MAX_LINE;
+use std::alloc::Global;
+use std::io;
+use std::io::Read;
+
+// The byte that ends a line.
+const LINE_END: u8 = 10;
+
+// The words before a plan, with their spaces: in the first line, and in lines that ask for a move.
+const PLAN: &[u8] = b"plan ";
+
+const MOVE: &[u8] = b"move ";
+
+/// Says on standard error that the plan in this place is of the first version and has stages, where it is and has.
+pub fn tell_unread_stages_of<T: Eprint>(rt: &T, alloc: Global, place: FaultPlace<'_>, plan: &[u8]) {
+    if has_unread_stages(alloc, plan) == Ok(true) {
+        let _ = eprintln!(rt;
+            "squall: {place}: 'stages' isn't read in version 1: write \"version\":2"
+        );
+    }
+}
+
+/// A reader that gives what another one gives, and says on standard error which lines of it have a plan of the first version with
+/// stages.
+#[derive(Drop)]
+pub struct PlansWatched<T: Copy, R: Read> {
+    reader: R,
+    line: PlanLine<T>,
+}
+
+impl<T: Copy + Eprint + AllocGlobal, R: Read> PlansWatched<T, R> {
+    /// A reader whose first line has this number.
+    pub fn new(rt: T, reader: R, number: u64) -> PlansWatched<T, R> {
+        PlansWatched {
+            reader,
+            line: PlanLine::new(rt, number),
+        }
+    }
+}
+
+impl<T: Copy + Eprint + AllocGlobal, R: Read> Read for PlansWatched<T, R> {
+    ghost remaining = { λ watched. R.remaining watched.reader };
+
+    fn read(&mut self, buf: &mut [u8]) -> io::Result<usize> {
+        let count = self.reader.read(buf)?;
+        self.line.take(&buf[..count]);
+        Ok(count)
+    }
+}
+
+/// The line under way of an input, if it may have a plan.
+#[derive(Drop)]
+struct PlanLine<T: Copy> {
+    rt: T,
+    number: u64,
+    // Its bytes so far.
+    bytes: Vec<u8>,
+    // Whether it isn't looked at: it has no plan, it is too long, or there is no memory for it.
+    is_passed_over: bool,
+}
+
+impl<T: Copy + Eprint + AllocGlobal> PlanLine<T> {
+    // The line of this number, before its first byte.
+    fn new(rt: T, number: u64) -> PlanLine<T> {
+        PlanLine {
+            rt,
+            number,
+            bytes: Vec::new(rt.alloc()),
+            is_passed_over: false,
+        }
+    }
+
+    // Takes the next bytes of the input.
+    fn take(&mut self, bytes: &[u8]) {
+        let mut rest = bytes;
+        while let Some(end) = place_of(LINE_END, rest) {
+            let (line, behind) = (&rest[..end], &rest[end..]);
+            self.keep(line);
+            self.end();
+            rest = &behind[1..];
+        }
+        self.keep(rest);
+    }
+
+    // Keeps the next bytes of the line, if it may have a plan.
+    fn keep(&mut self, bytes: &[u8]) {
+        if self.is_passed_over {
+            return;
+        }
+        let start = if self.bytes.is_empty() {
+            bytes
+        } else {
+            &self.bytes
+        };
+        let may_have_plan = begins_alike(start, self.word());
+        let is_short = self.bytes.len().saturating_add(bytes.len()) <= MAX_LINE;
+        let is_kept = may_have_plan && is_short && self.bytes.extend_from_slice(bytes).is_ok();
+        self.is_passed_over = !is_kept;
+    }
+
+    // The word before its plan.
+    fn word(&self) -> &'static [u8] {
+        if self.number == 1 { PLAN } else { MOVE }
+    }
+
+    // Tells of its plan, if it has one, and begins the next line.
+    fn end(&mut self) {
+        if !self.is_passed_over {
+            self.tell();
+        }
+        self.bytes.clear();
+        self.is_passed_over = false;
+        self.number = self.number.saturating_add(1);
+    }
+
+    // Tells of its plan, if it has one.
+    fn tell(&self) {
+        if let Some(plan) = self.bytes.strip_prefix(self.word()) {
+            let place = FaultPlace::Line(self.number);
+            tell_unread_stages_of(&self.rt, self.rt.alloc(), place, plan);
+        }
+    }
+}
+
+// Whether bytes begin as a word does, as far as both go.
+fn begins_alike(bytes: &[u8], word: &[u8]) -> bool {
+    bytes.iter().zip(word).all(|(byte, letter)| byte == letter)
+}
