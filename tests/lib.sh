@@ -133,6 +133,7 @@ try_pages() {
     try_readme
     try_library
     try_drawings
+    try_names
 }
 
 # The walk of the tour is a case: the lines of its blocks that begin with '> ' are the input, and the others the output.
@@ -166,6 +167,11 @@ try_block() {
     else
         count "$2" "the block isn't in $3"
     fi
+}
+
+# What the pages of docs/proof name is defined.
+try_names() {
+    count names_as_they_are_defined "$(bash "$tests/page_names.sh" > "$room/told" || head -n 1 "$room/told")"
 }
 
 # The pictures in docs: of the crates, as they are drawn; of what moves, as it is stored, of the example; of a tree before a

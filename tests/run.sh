@@ -464,6 +464,7 @@ try_results() {
     try_chain_of_scripts "$folder"
     try_results_with_folds "$folder"
     try_bad_outputs "$folder"
+    try_other_outputs "$folder"
     try_clashes "$folder"
     try_broken_writes "$folder"
     count no_part_of_a_file "$(find "$folder" -name '*.squall-part')"
@@ -575,7 +576,42 @@ try_broken_writes() {
     done
 }
 
-# try_bad_outputs FOLDER: a file that can't be written, a pipe, a file that the run reads, by this name or by another, and one that two
+# refuses_output FOLDER NAME WHY WORD..: the words name an output that is refused before the jobs are read, for this reason.
+refuses_output() {
+    echo "squall: $3" > "$room/said"
+    give "$1/jobs" "${@:4}"
+    judge "$2" 2 /dev/null "$room/said"
+}
+
+# try_other_outputs FOLDER: outputs that are no files of their own: the name of standard input, a pipe, a device, a folder, and the
+# file that is standard output. A timeline may be a device.
+try_other_outputs() {
+    local option name words=(--old "$1/0.json" --new "$1/1.json" --rows "$1/rows0")
+    chain_jobs 1 > "$1/jobs"
+    mkdir -p "$1/folder"
+    mkfifo "$1/pipe"
+    for option in rows-out replies summary-out timeline; do
+        refuses_output "$1" "live --$option -" "--$option names '-', and an output is a file" live "${words[@]}" "--$option" -
+        refuses_output "$1" "live --$option that is standard output" "--$option names '$room/out', which is standard output" \
+            live "${words[@]}" "--$option" "$room/out"
+    done
+    for option in rows-out replies summary-out; do
+        for name in "$1/pipe" "$1/folder" /dev/full /dev/null; do
+            refuses_output "$1" "live --$option in place of $name" "--$option names '$name', which is no file" \
+                live "${words[@]}" "--$option" "$name"
+        done
+    done
+    refuses_output "$1" 'run --rows-out -' "--rows-out names '-', and an output is a file" run --rows-out -
+    refuses_output "$1" 'run --rows-out /dev/full' "--rows-out names '/dev/full', which is no file" run --rows-out /dev/full
+    refuses_output "$1" 'run --rows-out that is standard output' "--rows-out names '$room/out', which is standard output" run --rows-out "$room/out"
+    count outputs_that_stay "$([ -p "$1/pipe" ] || echo "it's no pipe any more"
+        [ -d "$1/folder" ] || echo "it's no folder any more"; ls -d ./- ./*.squall-part "$1"/*.squall-part "$1"/folder/* 2> /dev/null)"
+    echo 'sound 10 families 10 committed' > "$room/wanted"
+    give "$1/jobs" live "${words[@]}" --timeline /dev/null
+    judge 'live --timeline /dev/null' 0 "$room/wanted" /dev/null
+}
+
+# try_bad_outputs FOLDER: a file that can't be written, a file that the run reads, by this name or by another, and one that two
 # options name; and jobs without an answer.
 try_bad_outputs() {
     local words=(--old "$1/0.json" --new "$1/1.json" --rows "$1/rows0")
@@ -587,11 +623,6 @@ try_bad_outputs() {
     echo "squall: the file '$1/jobs/rows' can't be written: Not a directory (os error 20)" > "$room/said"
     give "$1/jobs" live "${words[@]}" --rows-out "$1/jobs/rows"
     judge 'live --rows-out in a file' 2 /dev/null "$room/said"
-    mkfifo "$1/pipe"
-    echo "squall: the file '$1/pipe' can't be written: entity already exists" > "$room/said"
-    give "$1/jobs" live "${words[@]}" --rows-out "$1/pipe"
-    judge 'live --rows-out in place of a pipe' 2 "$room/wanted" "$room/said"
-    count a_pipe_stays "$([ -p "$1/pipe" ] || echo "it's no pipe any more")"
     cp "$1/rows0" "$1/rows_before"
     echo "squall: --rows-out names the file '$1/../results/rows0', which the run reads" > "$room/said"
     give "$1/jobs" live "${words[@]}" --rows-out "$1/../results/rows0"

@@ -19,10 +19,11 @@ begin_engine() {
     why=
 }
 
-# ask LINE ANSWER..: sends a line; the next lines that come are to be these.
+# ask LINES ANSWER..: sends a line, or several at once; the next lines that come are to be these.
 ask() {
     local answer wanted
-    echo "$1" >&8
+    echo "$1" > "$room/asking"
+    cat "$room/asking" >&8
     for wanted in "${@:2}"; do
         answer=
         read -r -t 30 answer <&7 || true
@@ -49,7 +50,7 @@ served_session() {
     opening >&8
     ask 'txn 0 1 5 add 0 0 1' 'commit 1 11'
     ask 'txn 1 2 9 get 0 0' 'commit 2 20/-'
-    ask 'status' 'at rest'
+    ask 'status' 'at rest, 0 jobs open'
     ask "move $four_at_1" 'moving 1' 'moved 1'
     ask 'txn 0 3 5 add 0 0 1' 'commit 3 12'
     ask 'plan' 'plan {"partitions":2,"ranges":[[0,4,0],[4,8,1],[8,4294967296,0]],"version":1}'
@@ -66,6 +67,85 @@ said_so_far() {
     printf '%s\n' "$@" > "$room/said"
     why="$why$(difference "$room/said" "$room/err")"
     : > "$room/err"
+}
+
+# miscounted JOBS ANSWERS: which answers to `status` don't have the number of the jobs in the lines before it that are answered behind it.
+miscounted() {
+    awk 'NR == FNR { jobs += $1 == "txn"; if ($1 == "status") before[++asked] = jobs; next }
+        $1 == "commit" || $1 == "abort" { told++ }
+        / jobs open$/ { if (told + $(NF - 2) != before[++answered]) print told + 0, "answers, and then: " $0 }
+        END { if (answered != asked) print answered + 0, "of", asked, "are answered" }' "$1" "$2"
+}
+
+# At rest too `status` says how many jobs have no answer.
+served_status() {
+    local most
+    {
+        opening
+        seq 1 5000 | awk '{ print "txn 0", $1, "5 add 0 0 1" } $1 % 100 == 0 { print "status" }'
+    } > "$room/jobs"
+    give "$room/jobs" serve
+    most=$(sed -n 's/^at rest, \([0-9]*\) jobs open$/\1/p' "$room/out" | sort -n | tail -n 1)
+    if [ "${most:-0}" = 0 ]; then why='no job is open; '; else why=; fi
+    count 'serve: jobs that are open at rest' "$why$(miscounted "$room/jobs" "$room/out")"
+}
+
+# next_said LINE: the next line on standard error, which takes nothing more, is this one.
+next_said() {
+    local line=
+    while read -r -t 30 line <&9; do
+        case $line in x*) ;; *) break ;; esac
+    done
+    if [ "$line" != "$1" ]; then why="$why$line, and not $1; "; fi
+}
+
+# fill_errors: standard error takes nothing more.
+fill_errors() { dd if="$room/filler" of="$room/err" bs=4096 oflag=nonblock 2> /dev/null || true; }
+
+# What was written goes out before the engine does what may take long. Here it saves rows, and waits until it can say on standard error
+# that this failed: meanwhile the outcome of the audit before is there.
+served_before_a_stop() {
+    local unsaved="squall: the file '$room/none/rows' can't be written: No such file or directory (os error 2)"
+    head -c 1048576 /dev/zero | tr '\0' x | fold -w 4095 > "$room/filler"
+    rm -f "$room/err"
+    mkfifo "$room/err"
+    exec 9<> "$room/err"
+    fill_errors
+    begin_engine
+    opening >&8
+    ask 'txn 0 1 5 add 0 0 1' 'commit 1 11'
+    ask $'fold\nrows '"$room/none/rows" 'folded 1 1'
+    next_said "$unsaved"
+    ask 'status' 'refused 124' 'at rest, 0 jobs open'
+    exec 9>&-
+    rm "$room/err"
+    : > "$room/err"
+    end_engine 'serve: before it stops for something' 'sound 2 families 1 committed'
+}
+
+# A plan of version 1 that has `stages` is read as it was, and standard error says of each that they aren't: of the first line, of lines that
+# ask for a move, whole or in pieces, and of a plan in a file of its own. Of a plan of version 2 it says nothing.
+served_unread_stages() {
+    local staged=',"stages":"one",' unread="'stages' isn't read in version 1: write \"version\":2"
+    begin_engine
+    opening | sed "1s/,/$staged/" >&8
+    ask "move ${four_at_1/,/$staged}" 'moving 1' 'moved 1'
+    ask 'txn 0 1 5 add 0 0 1' 'commit 1 11'
+    printf mo >&8
+    sleep 0.2
+    ask "ve ${all_at_0/,/$staged}" 'moving 1' 'moved 1'
+    ask "move $four_at_1" 'moving 1' 'moved 1'
+    ask "move $(sed "s/,/$staged/; s/1/2/" <<< "$all_at_0")" 'moving 1' 'moved 1'
+    ask "move $staged" 'refused 101'
+    said_so_far "squall: line 1: $unread" "squall: line 5: $unread" "squall: line 7: $unread"
+    end_engine 'serve: stages that are not read' 'sound 2 families 1 committed'
+    echo "${all_at_0/,/$staged}" > "$room/plan.json"
+    opening | tail -n 2 > "$room/rows.txt"
+    begin_engine --plan "$room/plan.json" --rows "$room/rows.txt"
+    echo 'config 64 64 1' >&8
+    ask "move ${four_at_1/,/$staged}" 'moving 1' 'moved 1'
+    said_so_far "squall: $room/plan.json: $unread" "squall: line 5: $unread"
+    end_engine 'serve: stages that are not read, of a plan in a file' 'sound 2 families 0 committed'
 }
 
 # The rows, by rising root key, as jobs and moves leave them; in a file, which they replace whole. A file that the engine reads or
@@ -95,7 +175,7 @@ served_rows() {
     end_engine 'serve: rows' 'sound 2 families 3 committed'
 }
 
-# While rows move they aren't told, and nothing changes.
+# While rows move, and once a line before asked for it, they aren't told, and nothing changes.
 served_rows_in_a_move() {
     local plan='{"version":1,"partitions":2,"ranges":[[0,50000,OWNER],[50000,4294967296,0]]}'
     begin_engine
@@ -104,8 +184,7 @@ served_rows_in_a_move() {
         seq -f 'row %.0f 0 0 1 -' 0 49999
     } >&8
     ask 'txn 0 1 5 get 0 0' 'commit 1 1/-'
-    ask "move ${plan/OWNER/1}" 'moving 25'
-    ask 'rows' 'refused 217' 'moved 25'
+    ask "move ${plan/OWNER/1}"$'\nrows' 'refused 217' 'moving 25' 'moved 25'
     ask "rows $room/rows.out" 'rows 50000'
     seq -f 'row %.0f 0 0 1 -' 0 49999 > "$room/wanted"
     why="$why$(difference "$room/wanted" "$room/rows.out")"
@@ -135,7 +214,7 @@ served_faults() {
 # The example, whose answers come in any order.
 served_example() {
     give "$examples/engine.txt" serve
-    grep -v -e ' jobs open$' -e '^at rest$' "$room/out" | sort > "$room/told"
+    grep -v ' jobs open$' "$room/out" | sort > "$room/told"
     printf '%s\n' 'abort 4 0 small' 'commit 1 11' 'commit 2 12' 'commit 3 20/-' 'moved 1' 'moving 1' \
         'sound 2 families 3 committed' > "$room/wanted"
     count 'serve: the example' "$(difference "$room/wanted" "$room/told")"
@@ -281,7 +360,7 @@ served_full_queue() {
     } > "$room/told"
     printf '%s\n' 'commit 30100 100' 'moved 25' '30100 commit' '1 moved 25' '1 moving 25' '1 so far' \
         '1 sound 50001 families 30100 committed' > "$room/wanted"
-    count 'serve: a full queue' "$why$([ "$ended" = 0 ] || echo "status $ended; ")$(difference "$room/wanted" "$room/told")"
+    count 'serve: a full queue' "$why$(miscounted "$room/jobs" "$room/out")$([ "$ended" = 0 ] || echo "status $ended; ")$(difference "$room/wanted" "$room/told")"
 }
 
 # With only some threads, counted over all its epochs, the engine does all, or ends with the fault 222 behind answers that it would have
@@ -352,6 +431,17 @@ served_reports() {
     give "$room/jobs" serve --timeline "$room/both" --summary-out "$room/both"
     echo "squall: --timeline names the file '$room/both', which another option names too" > "$room/said"
     judge 'serve: two reports in one file' 2 "$room/wanted" "$room/said"
+    for text in summary-out timeline; do
+        give "$room/jobs" serve "--$text" -
+        echo "squall: --$text names '-', and an output is a file" > "$room/said"
+        judge "serve --$text -" 2 "$room/wanted" "$room/said"
+        give "$room/jobs" serve "--$text" /dev/full
+        echo "squall: --$text names '/dev/full', which is no file" > "$room/said"
+        judge "serve --$text /dev/full" 2 "$room/wanted" "$room/said"
+        give "$room/jobs" serve "--$text" "$room/out"
+        echo "squall: --$text names '$room/out', which is standard output" > "$room/said"
+        judge "serve --$text that is standard output" 2 "$room/wanted" "$room/said"
+    done
     give "$room/jobs" serve --timeline "$room/none/line.csv"
     echo "squall: the file '$room/none/line.csv' can't be written: No such file or directory (os error 2)" > "$room/said"
     count 'serve: a report that can not be written' "$([ "$ended" = 2 ] || echo "status $ended; ")$(difference "$room/said" "$room/err")"
@@ -391,6 +481,8 @@ try_serve() {
     local engine why rows
     trap '' PIPE
     served_session
+    served_before_a_stop
+    served_unread_stages
     served_rows
     served_rows_in_a_move
     served_faults
@@ -406,6 +498,7 @@ try_serve() {
     served_many_lines
     served_slow_client
     served_full_queue
+    served_status
     served_without_threads
     served_reports
 }
