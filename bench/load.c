@@ -11,8 +11,14 @@
 //   moves=WHAT  hot: the hotter half of the root keys of partition 0 goes to the others (the move if left out);
 //               half: half of the root keys of each partition goes to the next one
 //   chunk=N     the limit of a chunk in bytes (65536)
+//   width=N     root keys in a leaf of a segment; 0 for an eighth of what makes one segment of a partition (0)
 //   stages=N    1 for a move in several stages (0)
 //   pumps=N     pumps (1)
+//   fold=N      after how many answers a page is taken (262144)
+//   ahead=1     jobs go where the new plan says once the move is asked for, and not once it is done: a job that comes where its rows aren't
+//               yet asks for them, and one that comes where they still are is done there (0)
+//   sweep=1     once a third of JOBS is posted after the move began, a job is posted for each root key that moves: without pumps a move
+//               ends so (0)
 //   manner=HOW  live: jobs are posted while rows move (what is done if left out);
 //               stop: none is, from the answer of the last one before the move on until all rows have moved
 //   series=FILE for each 10 milliseconds a line: their number, how many answers came, and of those the median, the 99th part in
@@ -24,7 +30,8 @@
 //
 // It prints a line for the time before, during and after the move, as the script that calls it takes it apart: seconds, answers,
 // answers a second, the median, the 99th part in a hundred and the longest of the waiting times of the jobs that became due
-// then, and the longest time without an answer, all in milliseconds. It ends with 1 where a job has no answer, has two, or isn't
+// then, and the longest time without an answer, all in milliseconds. Where there is a sweep, the time from its begin to the end of the
+// move has a line of its own. It ends with 1 where a job has no answer, has two, or isn't
 // committed, and where the engine doesn't end with 0.
 #define _GNU_SOURCE
 #include <fcntl.h>
@@ -48,16 +55,16 @@ struct job {
     double due, answered;
 };
 
-static uint64_t parts = 4, roots = 100000, count_of_jobs = 1200000, hot = 50, window = 16384, size;
+static uint64_t parts = 4, roots = 100000, count_of_jobs = 1200000, hot = 50, window = 16384, width, size;
 static double rate, started;
-static char *chunk = "65536", *pumps = "1", *series;
-static int in_stages, moves_half, stops;
+static char *chunk = "65536", *pumps = "1", *fold = "262144", *series;
+static int in_stages, moves_half, stops, sweeps, ahead;
 
 static struct job *jobs;
 static uint64_t most, posted, first;
 static atomic_uint_fast64_t answered;
-static double moved_at, move_at;
-static atomic_int has_moved, faults;
+static double moved_at, move_at, swept_from;
+static atomic_int has_moved, goes_new, faults;
 static FILE *engine, *answers;
 
 static double now(void) {
@@ -96,7 +103,7 @@ static void *read_answers(void *unused) {
     while (getline(&line, &length, answers) > 0) {
         double at = now();
         if (strncmp(line, "commit ", 7) == 0) answer(strtoull(line + 7, NULL, 10), at);
-        else if (strncmp(line, "moved ", 6) == 0) moved_at = at, has_moved = 1;
+        else if (strncmp(line, "moved ", 6) == 0) moved_at = at, has_moved = goes_new = 1;
         else if (strncmp(line, "sound ", 6) != 0 && strncmp(line, "moving ", 7) != 0 && strncmp(line, "folded ", 7) != 0) {
             fprintf(stderr, "load: %s", line);
             faults++;
@@ -139,9 +146,8 @@ static void plan(FILE *to, int moved, int stages) {
     fprintf(to, "[%llu,%llu,0]]}\n", (unsigned long long)from, (unsigned long long)key_end);
 }
 
-// Posts a job, once it is due where there is a rate.
-static void post(const double *sums) {
-    uint64_t root = dice(100) < hot ? zipf(sums, size) : dice(size * parts);
+// Posts a job for a root key, once it is due where there is a rate.
+static void post_for(uint64_t root) {
     double due;
     if (rate == 0 && posted - answered >= window) {
         fflush(engine);
@@ -156,9 +162,20 @@ static void post(const double *sums) {
         }
     }
     jobs[posted].due = due;
-    fprintf(engine, "txn %llu %llu %llu add 0 0 1\n", (unsigned long long)owner(root, has_moved), (unsigned long long)posted,
+    fprintf(engine, "txn %llu %llu %llu add 0 0 1\n", (unsigned long long)owner(root, goes_new), (unsigned long long)posted,
             (unsigned long long)root);
     posted++;
+}
+
+// Posts a job for a root key by the law.
+static void post(const double *sums) { post_for(dice(100) < hot ? zipf(sums, size) : dice(size * parts)); }
+
+// Posts a job for each root key that moves.
+static void sweep(void) {
+    uint64_t root;
+    swept_from = now();
+    for (root = 0; root < size * parts; root++)
+        if (owner(root, 0) != owner(root, 1)) post_for(root);
 }
 
 static void await_answers(void) {
@@ -231,7 +248,7 @@ static pid_t start(char *program) {
     if (child == 0) {
         dup2(in[0], 0);
         dup2(out[1], 1);
-        execl(program, program, "serve", "--pumps", pumps, (char *)NULL);
+        execl(program, program, "serve", "--pumps", pumps, "--fold-after", fold, (char *)NULL);
         _exit(127);
     }
     close(in[0]);
@@ -259,8 +276,12 @@ static void read_word(char *word) {
     else if (is(word, "hot", &value)) hot = strtoull(value, NULL, 10);
     else if (is(word, "moves", &value)) moves_half = strcmp(value, "half") == 0;
     else if (is(word, "chunk", &value)) chunk = value;
+    else if (is(word, "width", &value)) width = strtoull(value, NULL, 10);
     else if (is(word, "stages", &value)) in_stages = atoi(value);
     else if (is(word, "pumps", &value)) pumps = value;
+    else if (is(word, "fold", &value)) fold = value;
+    else if (is(word, "ahead", &value)) ahead = atoi(value);
+    else if (is(word, "sweep", &value)) sweeps = atoi(value);
     else if (is(word, "manner", &value)) stops = strcmp(value, "stop") == 0;
     else if (is(word, "series", &value)) series = value;
     else fail(word);
@@ -277,14 +298,14 @@ int main(int count, char **words) {
     third = count_of_jobs / 3;
     if (parts < 2 || roots / parts < 4 || third == 0) fail("two partitions, four root keys in each and three jobs at least");
     size = roots / parts;
-    most = third * 12;
+    most = third * 12 + size * parts;
     jobs = room(most, sizeof *jobs);
     sums = room(size, sizeof *sums);
     for (root = 0; root < size; root++) sums[root] = (root ? sums[root - 1] : 0) + pow((double)(root + 1), -0.99);
     child = start(words[1]);
     fprintf(engine, "plan ");
     plan(engine, 0, 0);
-    fprintf(engine, "config %llu %s 64\n", (unsigned long long)(size / 32 / 8 + 1), chunk);
+    fprintf(engine, "config %llu %s 64\n", (unsigned long long)(width ? width : size / 32 / 8 + 1), chunk);
     for (root = 0; root < size * parts; root++) fprintf(engine, "row %llu 0 0 0 -\n", (unsigned long long)root);
     if (pthread_create(&reader, NULL, read_answers, NULL)) fail("no thread");
     // The first answer, which isn't counted, shows that all rows are read.
@@ -299,6 +320,9 @@ int main(int count, char **words) {
     plan(engine, 1, in_stages);
     fflush(engine);
     move_at = now();
+    if (ahead) goes_new = 1;
+    for (id = posted; sweeps && !has_moved && posted - id < third;) post(sums);
+    if (sweeps) sweep();
     while (!has_moved && posted < most - third)
         if (stops) usleep(50);
         else post(sums);
@@ -311,7 +335,10 @@ int main(int count, char **words) {
         if (jobs[id].answered > end) end = jobs[id].answered;
     }
     tell(phase_names[BEFORE], started, move_at);
-    tell(phase_names[DURING], move_at, moved_at);
+    if (sweeps && swept_from < moved_at) {
+        tell(phase_names[DURING], move_at, swept_from);
+        tell("sweep", swept_from, moved_at);
+    } else tell(phase_names[DURING], move_at, moved_at);
     tell(phase_names[AFTER], moved_at, end);
     if (series) write_series();
     return faults != 0 || status != 0;

@@ -14,10 +14,15 @@
 # move.
 #
 # Then jobs for any root key, of MANY families (999000, since a header has a million lines at most), half of which move, in the same two
-# ways; and with a stop.
+# ways; and with a stop. Last, pages are smaller: PAGES says after how many answers one is taken (32768; several figures are tried one by
+# one), and both moves are made in both ways, in chunks of 8 KiB.
 #
-# The program is crates/squall/out/squall, which `rt run` leaves in crates/squall; SQUALL=PATH takes another. A C compiler, cc,
-# has to be there.
+# The program is crates/squall/out/squall, which `rt run` leaves in crates/squall; SQUALL=PATH takes another. It has a pump at least. With
+# DEMAND=PATH of a build whose `serve` takes `--pumps 0` the first move is made by that build too, in the same two ways: with a pump, and on
+# demand alone. Jobs then go where the new plan says as soon as the move is asked for, since only a job that comes where its rows aren't yet
+# asks for them. Without a pump, where rows are left once JOBS / 3 jobs are posted after that, one is posted for each root key that moves
+# (the sweep). Leaves are so wide that each of the three ranges that move is one segment with root keys in each of its 32 leaves.
+# A C compiler, cc, has to be there.
 set -eu
 export LC_ALL=C
 top=$(cd "$(dirname "$0")/.." && pwd)
@@ -34,7 +39,7 @@ cc -O2 -o "$room/load" "$top/bench/load.c" -lm -lpthread
 # run NAME WORD..: a run, whose three lines go into $room/NAME, and whose series goes into $room/NAME.series.
 run() {
     echo "$1: ${*:2}" >&2
-    "$room/load" "$squall" "${@:2}" "series=$room/$1.series" > "$room/$1"
+    timeout 60 "$room/load" "$squall" "${@:2}" "series=$room/$1.series" > "$room/$1"
 }
 
 # rate_of NAME PHASE: answers a second in a phase of a run.
@@ -51,17 +56,32 @@ stages|64 KiB, in several stages|chunk=65536 stages=1
 pumps|64 KiB, four pumps|chunk=65536 pumps=4
 stop|64 KiB, no job while rows move|chunk=65536 manner=stop'
 
-# table NAME..: the rows of a table of these runs, each of which has its form's name behind a colon.
+# table NAME..: the rows of a table of these runs, each of which has its form's name behind a colon. A figure has a place for each phase.
 table() {
     local each
-    echo '| Move | | Seconds | Answers a second | Of those before | Median | 99 of 100 | Longest | Without an answer |'
-    echo '|---|---|---|---|---|---|---|---|---|'
+    echo '| Move | Thousand answers a second | Seconds of the move | Median | 99 of 100 | Longest | Without an answer |'
+    echo '|---|---|---|---|---|---|---|'
     for each in "$@"; do
-        awk -v form="${each#*:}" '$1 == "before" { base = $4 }
-            { printf "| %s | %s | %.2f | %d | %.0f %% | %.2f | %.2f | %.1f | %.1f |\n", NR == 1 ? form : "", $1, $2, $4,
-              100 * $4 / base, $5, $6, $7, $8 }' "$room/${each%%:*}"
+        awk -v form="${each#*:}" '
+            function ms(time) { return sprintf(time >= 10 ? "%.0f" : time >= 1 ? "%.1f" : "%.2f", time) }
+            function add(at, word) { figure[at] = figure[at] (figure[at] == "" ? "" : ", ") word }
+            { add(1, sprintf("%.0f", $4 / 1000)); for (at = 5; at <= 7; at++) add(at, $7 == 0 ? "-" : ms($at)); add(8, ms($8)) }
+            $1 != "before" && $1 != "after" { add(2, sprintf("%.2f", $2)) }
+            END { printf "| %s | %s | %s | %s | %s | %s | %s |\n", form, figure[1], figure[2], figure[5], figure[6], figure[7], figure[8] }
+            ' "$room/${each%%:*}"
     done
 }
+
+# range COLUMN PHASES NAME..: the lowest and the highest figure of a column in these phases of runs.
+range() {
+    local names=("${@:3}")
+    awk -v column="$1" -v phases=" $2 " '
+        index(phases, " " $1 " ") { if (!count++ || $column < low) low = $column; if ($column > high) high = $column }
+        END { printf high < 1000 ? "%.1f to %.1f" : "%d to %d", low, high }' "${names[@]/#/$room/}"
+}
+
+# share_of NAME: the answers a second in the move of a run, in a hundred of those before it.
+share_of() { awk '$1 == "before" { base = $4 } $1 == "during" { printf "%.0f", 100 * $4 / base }' "$room/$1"; }
 
 # goal WORDS FIGURE WANTED: a line of the goals.
 goal() { echo "| $1 | $2 | $3 |"; }
@@ -87,7 +107,34 @@ run many-64k-half "${many_words[@]}" chunk=65536 "rate=$many_rate"
 run many-stop "${many_words[@]}" chunk=65536 manner=stop
 run many-stop-half "${many_words[@]}" chunk=65536 manner=stop "rate=$many_rate"
 
-figure() { awk -v phase="$2" -v at="$3" '$1 == phase { print $at }' "$room/$1"; }
+# The same with smaller pages.
+pages=()
+for fold in ${PAGES:-32768}; do
+    small=(chunk=8192 "fold=$fold")
+    run "full-page-$fold" "roots=$roots" "jobs=$jobs" "${small[@]}"
+    run "half-page-$fold" "roots=$roots" "jobs=$jobs" "${small[@]}" "rate=$rate"
+    run "many-page-$fold" "${many_words[@]}" "${small[@]}"
+    run "many-page-$fold-half" "${many_words[@]}" "${small[@]}" "rate=$many_rate"
+    pages+=("full-page-$fold:a hot partition, pages of $fold" "half-page-$fold:the same, $rate a second"
+        "many-page-$fold:half of all families, pages of $fold" "many-page-$fold-half:the same, $many_rate a second")
+done
+
+# The first move by the other build.
+demand=()
+if [ -n "${DEMAND:-}" ]; then
+    squall=$DEMAND
+    hot_words=("roots=$roots" "jobs=$jobs" "width=$(((roots / 24 + 31) / 32))" ahead=1)
+    run full-pump "${hot_words[@]}"
+    run full-demand "${hot_words[@]}" pumps=0 sweep=1
+    run half-pump "${hot_words[@]}" "rate=$rate"
+    run half-demand "${hot_words[@]}" "rate=$rate" pumps=0 sweep=1
+    demand=('full-pump:as many as it takes, a pump' 'full-demand:as many as it takes, on demand' "half-pump:$rate a second, a pump"
+        "half-demand:$rate a second, on demand")
+fi
+
+# The runs by what moves and by the rate; those with a stop stand last.
+hot=("${full[@]%%:*}") hot_half=("${slow[@]%%:*}")
+all=(many-8k many-64k many-stop) all_half=(many-8k-half many-64k-half many-stop-half)
 {
     echo "# What a move costs those who use an engine"
     echo
@@ -110,15 +157,37 @@ figure() { awk -v phase="$2" -v at="$3" '$1 == phase { print $at }' "$room/$1"; 
     echo
     table 'many-8k-half:chunks of 8 KiB' 'many-64k-half:chunks of 64 KiB' 'many-stop-half:64 KiB, no job while rows move'
     echo
+    echo "## Smaller pages, chunks of 8 KiB"
+    echo
+    table "${pages[@]}"
+    if [ "${#demand[@]}" != 0 ]; then
+        echo
+        echo "## The hot partition by a build that takes no pump, chunks of 64 KiB"
+        echo
+        table "${demand[@]}"
+    fi
+    echo
     echo "## Goals"
     echo
     echo '| What | Here | Goal |'
     echo '|---|---|---|'
-    goal 'answers a second at rest, 4 partitions, jobs of one operation' "$(figure many-64k before 4)" '500000'
-    goal "answers a second while half of $many families move, of those at rest" \
-        "$(awk -v a="$(figure many-64k during 4)" -v b="$(figure many-64k before 4)" 'BEGIN { printf "%.0f %%", 100 * a / b }')" '60 %'
-    goal 'longest time without an answer while they move, at half the rate' "$(figure many-64k-half during 8) ms" '100 ms'
-    goal '99 of 100 waiting times while they move, at half the rate' "$(figure many-64k-half during 6) ms" '5 ms'
+    goal 'answers a second at rest' "$(range 4 'before after' "${hot[@]}" "${all[@]}")" 500000
+    goal "answers a second while half of $many families move, of those before, 8 KiB and 64 KiB" \
+        "$(share_of many-8k) %, $(share_of many-64k) %" '60 %'
+    goal 'no answer for, at rest, a hot partition' \
+        "$(range 8 'before after' "${hot[@]}"), $(range 8 'before after' "${hot_half[@]}") at half the rate" '100 ms'
+    goal "the same, $many families" "$(range 8 'before after' "${all[@]}"), $(range 8 'before after' "${all_half[@]}") at half the rate" '100 ms'
+    goal 'in moves, a hot partition' "$(range 8 during "${hot[@]:0:5}"), $(range 8 during "${hot_half[@]:0:5}") at half the rate" '100 ms'
+    goal "the same, half of $many families" "$(range 8 during "${all[@]:0:2}"), $(range 8 during "${all_half[@]:0:2}") at half the rate" '100 ms'
+    for fold in ${PAGES:-32768}; do
+        hot_page=("full-page-$fold" "half-page-$fold") all_page=("many-page-$fold" "many-page-$fold-half")
+        goal "pages of $fold, at rest, a hot partition" "$(range 8 'before after' "${hot_page[@]}")" '100 ms'
+        goal "the same, $many families" "$(range 8 'before after' "${all_page[@]}")" '100 ms'
+        goal "pages of $fold, in moves, both" "$(range 8 during "${hot_page[@]}" "${all_page[@]}")" '100 ms'
+        goal "pages of $fold, 99 of 100 waiting times in a move at half the rate, both" "$(range 6 during "${hot_page[1]}" "${all_page[1]}")" '5 ms'
+    done
+    goal '99 of 100 waiting times in a move at half the rate, a hot partition' "$(range 6 during "${hot_half[@]:0:5}")" '5 ms'
+    goal "the same, half of $many families" "$(range 6 during "${all_half[@]:0:2}")" '5 ms'
 } > "$folder/serve.md"
 
 # The picture, from the series that stay beside it.
