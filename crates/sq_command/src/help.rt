@@ -344,7 +344,7 @@ the rows may stand in files of their own. Then each line asks for something:
 txn P ID ROOT OP..   a job; its answer comes as soon as it is done
 move JSON            rows move to the places of this plan
 fold                 what was answered is audited, and the logs are folded
-status               how far a move is
+status               how far a move is, and how many jobs are open
 plan                 the plan that is in force
 rows                 each row, as a line 'row ..', where nothing moves
 rows FILE            the same, written into this file

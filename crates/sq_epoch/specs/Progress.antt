@@ -4,7 +4,7 @@ use Rattle.std.specs.List.{enumerate_from}
 use Rattle.sq_ranges.specs.declared.recon.Range.{Range}
 use Rattle.sq_ranges.specs.ReconValue.{ReconValue, stage_in}
 use Rattle.sq_node_model.specs.Gathered.{GatheredValue}
-use Rattle.sq_node_model.specs.Next.{is_whole_in}
+use Rattle.sq_node_model.specs.Next.{is_complete_in}
 
 -- how many segments move in a stage
 abbrev pub stage_segments : ReconValue → ℕ → ℕ
@@ -12,7 +12,7 @@ stage_segments recon stage = count_by (λ segment. stage_in recon segment == sta
 
 -- the segment, which has this number, moves in the stage that was gathered, and is complete by its tree
 abbrev pub is_complete_in_stage : ReconValue → GatheredValue → ℕ × Range → Bool
-is_complete_in_stage recon g at = (stage_in recon at.1 == g.stage) && is_whole_in g at.0
+is_complete_in_stage recon g at = (stage_in recon at.1 == g.stage) && is_complete_in g at.0
 
 -- how many segments are
 abbrev pub complete_segments_in : ReconValue → GatheredValue → ℕ

@@ -1,6 +1,6 @@
 // How far the segments of a stage are.
 ghost use Rattle.std.specs.Prelude.{◌≡◌};
-ghost use Rattle.sq_node_model.specs.Prelude.{is_whole_in, AllGrown};
+ghost use Rattle.sq_node_model.specs.Prelude.{is_complete_in, AllGrown};
 ghost use Rattle.sq_epoch.specs.Progress.{stage_segments, is_complete_in_stage, complete_segments_in};
 
 use sq_gather::{Gathered, reads_complete};
@@ -89,7 +89,7 @@ fn is_complete(recon: &Recon, g: &Gathered, place: usize, segment: &Range) -> bo
 // Whether the segment at this place is complete by its tree.
 fn is_segment_complete(g: &Gathered, place: usize) -> bool
     requires { AllGrown g.now.statuses }
-    ensures { result ≡ is_whole_in g.now place }
+    ensures { result ≡ is_complete_in g.now place }
 {
     match g.statuses.get(place) {
         Some(statuses) => reads_complete(statuses, NodeId::WHOLE),

@@ -17,7 +17,7 @@ meanings =
     ∷ (108, codes "a plan's stages are neither \"one\" nor \"auto\"")
     ∷ (111, codes "the old and the new plan have different numbers of partitions")
     ∷ (112, codes "the width of a leaf isn't from 1 to 65536")
-    ∷ (113, codes "the move would have more than 256 segments, or 1024 where the new plan is of version 2: wider leaves make fewer")
+    ∷ (113, codes "the move would have more than 256 segments, or 1024 where the new plan is of version 2: wider leaves may make fewer")
     ∷ (114, codes "the limit of a chunk isn't from 64 to 1048576")
     ∷ (115, codes "the capacity of a link isn't from 1 to 64")
     ∷ (121, codes "a line of the header is missing or isn't of its form: 'old PLAN', 'new PLAN', 'config W L C' and lines 'row ROOT T S N NOTE', in this order, each ended by a line feed alone")

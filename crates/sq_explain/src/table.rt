@@ -76,7 +76,7 @@ pub(crate) const ENTRIES: [Entry; 62] = [
     },
     Entry {
         number: 113,
-        meaning: "the move would have more than 256 segments, or 1024 where the new plan is of version 2: wider leaves make fewer",
+        meaning: "the move would have more than 256 segments, or 1024 where the new plan is of version 2: wider leaves may make fewer",
         given: "fault of the line `config`",
         advice: "Raise the first number of the line, or move less at a time: a segment has 32 leaves.",
     },

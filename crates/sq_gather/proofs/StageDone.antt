@@ -7,20 +7,20 @@ use Rattle.sq_ranges.specs.declared.recon.Range.{Range}
 use Rattle.sq_ranges.specs.ReconValue.{stage_in, stage_at, stage_found}
 use Rattle.sq_ranges.specs.OpeningValue.{OpeningValue}
 use Rattle.sq_node_model.specs.Gathered.{GatheredValue}
-use Rattle.sq_node_model.specs.Next.{is_whole_in, IsStageDone}
+use Rattle.sq_node_model.specs.Next.{is_complete_in, IsStageDone}
 
 -- of the first segments those of the stage are complete
 abbrev pub AreDoneTo : OpeningValue → GatheredValue → ℕ → Type 0
 AreDoneTo o g count =
-    (seg : ℕ) (segment : Range) → seg < count → slice_get o.recon.segments seg ≡ Some segment → stage_in o.recon segment ≡ g.stage → is_whole_in g seg ≡ true
+    (seg : ℕ) (segment : Range) → seg < count → slice_get o.recon.segments seg ≡ Some segment → stage_in o.recon segment ≡ g.stage → is_complete_in g seg ≡ true
 
 module _ (o : OpeningValue) (g : GatheredValue) (count : ℕ) where
-  pub one_more : AreDoneTo o g count → (stage_at o.recon count ≡ g.stage → is_whole_in g count ≡ true) → AreDoneTo o g (count + 1)
+  pub one_more : AreDoneTo o g count → (stage_at o.recon count ≡ g.stage → is_complete_in g count ≡ true) → AreDoneTo o g (count + 1)
   one_more are here seg segment low there runs = elim (cases_lt seg count) [
     | inl lt ↦ are seg segment lt there runs
     | inr past ↦
         let same : count ≡ seg = omega (arith, low, past) in
-        subst (λ (k : ℕ). is_whole_in g k ≡ true) same (here (ap (stage_at o.recon) same ∙ ap (stage_found o.recon) there ∙ runs))
+        subst (λ (k : ℕ). is_complete_in g k ≡ true) same (here (ap (stage_at o.recon) same ∙ ap (stage_found o.recon) there ∙ runs))
   ]
 
   pub all_done : AreDoneTo o g count → length o.recon.segments ≤ count → IsStageDone o g

@@ -114,7 +114,8 @@ impl Gathering {
     // Adds what a node left.
     fn add_node(&mut self, node: Node)
         requires stores { length self.old.stores < self.old.room.stores }
-        requires receipts { length self.old.receipts + length node.receipts ≤ self.old.room.receipts }
+        requires receipts { length self.old.receipts + length node.receipts
+            ≤ self.old.room.receipts }
         requires owners { length self.old.owners < self.old.room.owners }
         requires ends { IsAddable (length self.old.ends) node }
         ensures { AddsNode self.old node self.new }

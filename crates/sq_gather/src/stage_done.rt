@@ -2,7 +2,7 @@
 ghost use Rattle.std.specs.Prelude.{◌≡◌, ◌≤◌, ◌*◌, ◌^◌, ℕ};
 ghost use Rattle.std.specs.Bool.{Decides};
 ghost use Rattle.sq_tree.specs.Prelude.{reading_within, is_complete_reading, status_at, IsGrown};
-ghost use Rattle.sq_node_model.specs.Prelude.{is_whole_in, IsStageDone, AllGrown};
+ghost use Rattle.sq_node_model.specs.Prelude.{is_complete_in, IsStageDone, AllGrown};
 
 use crate::gathered::Gathered;
 use sq_ranges::{Opening, SegId};
@@ -29,7 +29,7 @@ impl Gathered {
     // Whether a segment is complete. One without statuses isn't.
     fn is_whole(&self, seg: SegId) -> bool
         requires { AllGrown self.now.statuses }
-        ensures { result ≡ is_whole_in self.now seg }
+        ensures { result ≡ is_complete_in self.now seg }
     {
         match self.statuses.get(seg.index()) {
             Some(statuses) => reads_complete(statuses, NodeId::WHOLE),

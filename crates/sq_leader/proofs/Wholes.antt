@@ -9,7 +9,7 @@ use Rattle.std.proofs.lemmas.List.Sums.{AllPass-from_list_all}
 use Rattle.std.proofs.lemmas.Option.{slice_get-get_or, slice_get_past}
 use Rattle.sq_ranges.specs.declared.recon.Range.{Range}
 use Rattle.sq_ranges.specs.ReconValue.{ReconValue, stage_in, of_stage, goes_into, moves_into}
-use Rattle.sq_leader.specs.Segments.{is_told_whole, all_told_whole}
+use Rattle.sq_leader.specs.Segments.{is_marked_complete, all_marked_complete}
 
 -- each number passes
 pub all_pass : (p : ℕ → Bool) (a n : ℕ) → ((k : ℕ) → a ≤ k → k < a + n → p k ≡ true) → list_all p (range_with_len a n) ≡ true
@@ -42,11 +42,11 @@ is_into-past recon stage part seg past = ap (λ found. goes_into (of_stage recon
 
 -- a segment is missing if it moves into the partition in the stage and isn't whole
 pub is_missing-at : (recon : ReconValue) (stage part seg : ℕ) (whole : List Bool) (segment : Range) → seg < length recon.segments → segment ≡ get_or recon.segments seg segment
-    → (not (moves_into recon stage part seg) || is_told_whole whole seg) ≡ (not ((stage_in recon segment == stage) && (segment.dst == part)) || is_told_whole whole seg)
+    → (not (moves_into recon stage part seg) || is_marked_complete whole seg) ≡ (not ((stage_in recon segment == stage) && (segment.dst == part)) || is_marked_complete whole seg)
 is_missing-at recon stage part seg whole segment lt is =
     let goes : moves_into recon stage part seg ≡ ((stage_in recon segment == stage) && (segment.dst == part)) =
     is_into-at recon stage part seg segment lt ∙ ap (λ (range : Range). (stage_in recon range == stage) && (range.dst == part)) (sym is) in
-    ap (λ b. not b || is_told_whole whole seg) goes
+    ap (λ b. not b || is_marked_complete whole seg) goes
 
 -- one that moves elsewhere isn't
 elsewhere : (now done : Bool) → (not (now && false) || done) ≡ true
@@ -57,15 +57,15 @@ pub moves_elsewhere : (now here done : Bool) → here ≡ false → (not (now &&
 moves_elsewhere now here done away = (λ i. not (now && away i) || done) ∙ elsewhere now done
 
 -- where all are whole that move into the partition in the stage, each that does is whole
-pub each_whole : (recon : ReconValue) (stage : ℕ) (whole : List Bool) (part : ℕ) → all_told_whole recon stage whole part ≡ true → (seg : ℕ) → moves_into recon stage part seg ≡ true → is_told_whole whole seg ≡ true
+pub each_whole : (recon : ReconValue) (stage : ℕ) (whole : List Bool) (part : ℕ) → all_marked_complete recon stage whole part ≡ true → (seg : ℕ) → moves_into recon stage part seg ≡ true → is_marked_complete whole seg ≡ true
 each_whole recon stage whole part all seg goes = elim (cases_lt seg (length recon.segments)) [
   | inl lt ↦
       let count = length recon.segments in
       let at : get_or (range_with_len 0 count) seg 0 ≡ seg = get_or-range_with_len 0 count seg 0 lt ∙ omega arith in
-      let test : ℕ → Bool = λ k. not (moves_into recon stage part k) || is_told_whole whole k in
-      let here : (not (moves_into recon stage part seg) || is_told_whole whole seg) ≡ true =
+      let test : ℕ → Bool = λ k. not (moves_into recon stage part k) || is_marked_complete whole k in
+      let here : (not (moves_into recon stage part seg) || is_marked_complete whole seg) ≡ true =
       ap test (sym at) ∙ AllPass-from_list_all test (range_with_len 0 count) all seg 0 (omega (arith, length-range_with_len 0 count, lt)) in
-      elim (or_cases (not (moves_into recon stage part seg)) (is_told_whole whole seg) here) [
+      elim (or_cases (not (moves_into recon stage part seg)) (is_marked_complete whole seg) here) [
         | inl away ↦ absurd (both_ways (moves_into recon stage part seg) (not-true (moves_into recon stage part seg) away) goes)
         | inr done ↦ done
       ]

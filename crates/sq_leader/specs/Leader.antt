@@ -17,7 +17,7 @@ use Rattle.sq_leader.specs.declared.fault.FinishFault.TheVariants as finish
 use Rattle.sq_leader.specs.declared.leader.Refused.{Refused}
 use Rattle.sq_leader.specs.LeaderValue.{IdleValue, PreparingValue, StageValue, ReportValue}
 use Rattle.sq_leader.specs.Marks.{none_marked, with_mark, all_marked}
-use Rattle.sq_leader.specs.Segments.{all_told_whole, have_reported}
+use Rattle.sq_leader.specs.Segments.{all_marked_complete, have_reported}
 
 -- the first partition prepares
 abbrev pub answer_to_first_prepare : IdleValue → ℕ → Result PreparingValue (Refused IdleValue PrepareFault)
@@ -45,7 +45,7 @@ answer_to_start preparing =
 abbrev pub made_answer : PlanValue → ReconValue → ℕ → List Bool → ℕ → Result ReportValue ReportFault
 made_answer plan recon stage whole part =
     if nat_le plan.parts part then Err report.NoSuchPartition
-    else if all_told_whole recon stage whole part then Ok (record { part = part; stage = stage })
+    else if all_marked_complete recon stage whole part then Ok (record { part = part; stage = stage })
     else Err report.NotFinished
 
 -- a report of the running stage counts

@@ -6,14 +6,14 @@ use Rattle.sq_ranges.specs.ReconValue.{ReconValue, stage_in, moves_into}
 use Rattle.sq_leader.specs.LeaderValue.{StageValue}
 use Rattle.sq_leader.specs.Marks.{is_marked, marks_after}
 
--- the segment of this number is whole; a segment without an entry isn't
-abbrev pub is_told_whole : List Bool → ℕ → Bool
-is_told_whole whole seg = slice_index_or whole seg false
+-- the segment of this number is marked as complete; a segment without an entry isn't
+abbrev pub is_marked_complete : List Bool → ℕ → Bool
+is_marked_complete whole seg = slice_index_or whole seg false
 
--- each segment into the partition in this stage is whole
-abbrev pub all_told_whole : ReconValue → ℕ → List Bool → ℕ → Bool
-all_told_whole recon stage whole part =
-    list_all (λ seg. not (moves_into recon stage part seg) || is_told_whole whole seg) (range_with_len 0 (length recon.segments))
+-- each segment into the partition in this stage is marked as complete
+abbrev pub all_marked_complete : ReconValue → ℕ → List Bool → ℕ → Bool
+all_marked_complete recon stage whole part =
+    list_all (λ seg. not (moves_into recon stage part seg) || is_marked_complete whole seg) (range_with_len 0 (length recon.segments))
 
 -- the segment moves in another stage, or the partition into which it moves reported
 abbrev pub is_heard : StageValue → Range → Bool

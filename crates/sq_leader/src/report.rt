@@ -1,7 +1,7 @@
 // Reports of partitions.
 ghost use Rattle.std.specs.Prelude.{◌≡◌, ℕ, IsTrue, OnOk};
 ghost use Rattle.sq_ranges.specs.Prelude.{moves_into};
-ghost use Rattle.sq_leader.specs.Segments.{all_told_whole, is_told_whole};
+ghost use Rattle.sq_leader.specs.Segments.{all_marked_complete, is_marked_complete};
 ghost use Rattle.sq_leader.specs.Leader.{made_answer};
 
 use crate::fault::ReportFault;
@@ -39,7 +39,7 @@ impl Report {
         ensures answer { result ≡ made_answer plan.now recon.now stage whole.now part }
         // There is a report only where each segment into the partition in the stage is whole.
         ensures whole { OnOk result ((seg : ℕ) → IsTrue (moves_into recon.now stage part seg)
-            → IsTrue (is_told_whole whole.now seg)) }
+            → IsTrue (is_marked_complete whole.now seg)) }
     {
         if part >= u64::from(plan.parts()) {
             return Err(ReportFault::NoSuchPartition);
@@ -68,12 +68,12 @@ impl Report {
 
 // Whether every segment that moves into a partition in a stage is whole.
 fn has_all(part: PartId, recon: &Recon, stage: u64, whole: &[bool]) -> bool
-    ensures { result ≡ all_told_whole recon.now stage whole.now part }
+    ensures { result ≡ all_marked_complete recon.now stage whole.now part }
 {
     for (seg, segment) in recon.segments().iter().enumerate() {
         if segment.dst == part
             && recon.stage_on(segment.src, segment.dst) == stage
-            && !is_whole(whole, seg)
+            && !is_complete(whole, seg)
         {
             return false;
         }
@@ -81,9 +81,9 @@ fn has_all(part: PartId, recon: &Recon, stage: u64, whole: &[bool]) -> bool
     true
 }
 
-// Whether the segment of this number is whole.
-fn is_whole(whole: &[bool], seg: usize) -> bool
-    ensures { result ≡ is_told_whole whole.now seg }
+// Whether the segment of this number is marked as complete.
+fn is_complete(whole: &[bool], seg: usize) -> bool
+    ensures { result ≡ is_marked_complete whole.now seg }
 {
     whole.get(seg).copied().unwrap_or(false)
 }

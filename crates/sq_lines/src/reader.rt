@@ -75,7 +75,8 @@ impl<R: Read> Model for LineReader<R> {
     } };
 
     ghost invariant = { λ r.
-        IsBuffered r.buffer.items r.piece_start r.piece_end r.start r.searched r.end r.reading (R.remaining r.reader) };
+        IsBuffered r.buffer.items r.piece_start r.piece_end r.start r.searched r.end r.reading
+        (R.remaining r.reader) };
 }
 
 impl<R: Read> LineReader<R> {

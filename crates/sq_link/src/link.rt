@@ -35,7 +35,8 @@ impl Model for SharedLink {
       capacity = ruled_capacity l.queue;
     } };
 
-    ghost invariant = { λ l. (vec_len l.room ≡ 0) × (ruled_capacity l.queue ≤ vec_capacity l.room) };
+    ghost invariant = { λ l. (vec_len l.room ≡ 0)
+        × (ruled_capacity l.queue ≤ vec_capacity l.room) };
 }
 
 impl SharedLink {

@@ -14,7 +14,7 @@ use Rattle.sq_ranges.proofs.Stages.{stage_below}
 use Rattle.sq_leader.proofs.Wholes.{all_pass}
 use Rattle.sq_model.proofs.Keys.{linked}
 use Rattle.sq_node_model.specs.Gathered.{GatheredValue}
-use Rattle.sq_node_model.specs.Next.{is_whole_in, IsStageDone}
+use Rattle.sq_node_model.specs.Next.{is_complete_in, IsStageDone}
 use Rattle.sq_audit.proofs.Knowing.{count_first}
 use Rattle.sq_live.specs.Outcome.{segment_has_moved, moved_count}
 use Rattle.sq_live.specs.Judged.{MarksMoved, marked_count}
@@ -86,8 +86,8 @@ module _ (o : OpeningValue) (g : GatheredValue) (is : IsOpening o) where
           let at : stage_at o.recon seg ≡ stage_in o.recon segment = ap (stage_found o.recon) there in
           let below : stage_in o.recon segment < stages o.recon = stage_below o.recon segment.src segment.dst (linked o is seg segment there) in
           elim (below_or_at (stage_in o.recon segment) g.stage (omega (arith, below, last))) [
-            | inl earlier ↦ or_left (nat_lt (stage_at o.recon seg) g.stage) (is_whole_in g seg) (ap (λ n. nat_lt n g.stage) at ∙ lt-ltb (stage_in o.recon segment) g.stage earlier)
-            | inr now ↦ or_right (nat_lt (stage_at o.recon seg) g.stage) (is_whole_in g seg) (done seg segment there now)
+            | inl earlier ↦ or_left (nat_lt (stage_at o.recon seg) g.stage) (is_complete_in g seg) (ap (λ n. nat_lt n g.stage) at ∙ lt-ltb (stage_in o.recon segment) g.stage earlier)
+            | inr now ↦ or_right (nat_lt (stage_at o.recon seg) g.stage) (is_complete_in g seg) (done seg segment there now)
           ]
 
   -- where one of the stage isn't complete, fewer count than there are
@@ -100,13 +100,13 @@ module _ (o : OpeningValue) (g : GatheredValue) (is : IsOpening o) where
   ]
     where
       of_all : (seg : ℕ) (segment : Range) → slice_get o.recon.segments seg ≡ Some segment → stage_in o.recon segment ≡ g.stage
-          → list_all (segment_has_moved o g) (range_with_len 0 (length o.recon.segments)) ≡ true → is_whole_in g seg ≡ true
+          → list_all (segment_has_moved o g) (range_with_len 0 (length o.recon.segments)) ≡ true → is_complete_in g seg ≡ true
       of_all seg segment there now all =
           let count = length o.recon.segments in
           let lt = slice_get_within o.recon.segments seg segment there in
           let at : get_or (range_with_len 0 count) seg 0 ≡ seg = get_or-range_with_len 0 count seg 0 lt ∙ omega arith in
           let here : segment_has_moved o g seg ≡ true = ap (segment_has_moved o g) (sym at) ∙ AllPass-from_list_all (segment_has_moved o g) (range_with_len 0 count) all seg 0 (omega (arith, length-range_with_len 0 count, lt)) in
-          elim (or_cases (nat_lt (stage_at o.recon seg) g.stage) (is_whole_in g seg) here) [
+          elim (or_cases (nat_lt (stage_at o.recon seg) g.stage) (is_complete_in g seg) here) [
             | inl earlier ↦
                 let under = ltb-true (stage_at o.recon seg) g.stage earlier in
                 let same : stage_at o.recon seg ≡ g.stage = ap (stage_found o.recon) there ∙ now in

@@ -9,12 +9,12 @@ use Rattle.sq_ranges.specs.Opening.{IsOpening}
 use Rattle.sq_ranges.proofs.Stages.{some_stage}
 use Rattle.sq_leader.specs.LeaderValue.{StageValue}
 use Rattle.sq_leader.specs.Marks.{none_marked}
-use Rattle.sq_leader.specs.Segments.{is_told_whole}
+use Rattle.sq_leader.specs.Segments.{is_marked_complete}
 use Rattle.sq_leader.specs.Leader.{is_last, answer_to_next}
 use Rattle.sq_node_model.specs.BeganWith.{BeganWith, first_began}
 use Rattle.sq_node_model.specs.Gathered.{GatheredValue}
 use Rattle.sq_node_model.specs.Placed.{IsPlaced}
-use Rattle.sq_node_model.specs.Next.{is_whole_in, IsStageDone, next_began}
+use Rattle.sq_node_model.specs.Next.{is_complete_in, IsStageDone, next_began}
 use Rattle.sq_audit.specs.declared.job.Job.{Job}
 use Rattle.sq_audit.specs.Answers.{IdsDiffer}
 use Rattle.sq_live.specs.declared.outcome.LiveOutcome.{LiveOutcome}
@@ -39,43 +39,43 @@ pub record WasTold (account : AccountValue) (moving : StageValue) (began : Began
   pub now : moving.stage ≡ g.stage
 
 module _ (account : AccountValue) (moving : StageValue) (began : BeganWith) (g : GatheredValue) (moved : List Bool) (told : WasTold account moving began g moved) where
-  same : (seg : ℕ) → seg < length account.opening.recon.segments → is_told_whole moved seg ≡ is_whole_in g seg
+  same : (seg : ℕ) → seg < length account.opening.recon.segments → is_marked_complete moved seg ≡ is_complete_in g seg
   same seg lt = let few = told.is.few_segments in told.marks seg (omega (arith, lt, few))
 
-  stage_done : AreComplete account.opening moving.stage (is_told_whole moved) → IsStageDone account.opening g
-  stage_done all = subst (λ (n : ℕ). AreComplete account.opening n (is_whole_in g)) told.now (complete_by account.opening moving.stage (is_told_whole moved) (is_whole_in g) same all)
+  stage_done : AreComplete account.opening moving.stage (is_marked_complete moved) → IsStageDone account.opening g
+  stage_done all = subst (λ (n : ℕ). AreComplete account.opening n (is_complete_in g)) told.now (complete_by account.opening moving.stage (is_marked_complete moved) (is_complete_in g) same all)
 
-  gone_on : (at : StageValue) → HasGoneOn account.opening moving.stage (is_told_whole moved) at → HasGoneOn account.opening g.stage (is_whole_in g) at
-  gone_on at has = subst (λ (n : ℕ). HasGoneOn account.opening n (is_whole_in g) at) told.now (gone_on_by account.opening moving.stage (is_told_whole moved) (is_whole_in g) same at has)
+  gone_on : (at : StageValue) → HasGoneOn account.opening moving.stage (is_marked_complete moved) at → HasGoneOn account.opening g.stage (is_complete_in g) at
+  gone_on at has = subst (λ (n : ℕ). HasGoneOn account.opening n (is_complete_in g) at) told.now (gone_on_by account.opening moving.stage (is_marked_complete moved) (is_complete_in g) same at has)
 
-  ended : (at : StageValue) → HasEnded account.opening moving.stage (is_told_whole moved) at → HasEnded account.opening g.stage (is_whole_in g) at
-  ended at has = subst (λ (n : ℕ). HasEnded account.opening n (is_whole_in g) at) told.now (ended_by account.opening moving.stage (is_told_whole moved) (is_whole_in g) same at has)
+  ended : (at : StageValue) → HasEnded account.opening moving.stage (is_marked_complete moved) at → HasEnded account.opening g.stage (is_complete_in g) at
+  ended at has = subst (λ (n : ℕ). HasEnded account.opening n (is_complete_in g) at) told.now (ended_by account.opening moving.stage (is_marked_complete moved) (is_complete_in g) same at has)
 
   -- it continued
-  module _ (next : StageValue) (led : Leads account.opening moving.stage (is_told_whole moved) (Next next)) where
+  module _ (next : StageValue) (led : Leads account.opening moving.stage (is_marked_complete moved) (Next next)) where
     pub done_before : IsStageDone account.opening g
     done_before = stage_done led.1
 
-    pub went_on : HasGoneOn account.opening g.stage (is_whole_in g) led.2
+    pub went_on : HasGoneOn account.opening g.stage (is_complete_in g) led.2
     went_on = gone_on led.2 led.3
 
     pub leads_next : next ≡ leading account.opening (g.stage + 1)
     leads_next = led.0 ∙ ap (λ (n : ℕ). leading account.opening (n + 1)) told.now
 
   -- it ended the move
-  module _ (led : Leads account.opening moving.stage (is_told_whole moved) Ended) where
+  module _ (led : Leads account.opening moving.stage (is_marked_complete moved) Ended) where
     pub last_stage : g.stage + 1 ≡ stages account.opening.recon
     last_stage = ap (λ (n : ℕ). n + 1) (sym told.now) ∙ led.0
 
     pub done_at_last : IsStageDone account.opening g
     done_at_last = stage_done led.1
 
-    pub has_ended : (at : StageValue) × HasEnded account.opening g.stage (is_whole_in g) at
+    pub has_ended : (at : StageValue) × HasEnded account.opening g.stage (is_complete_in g) at
     has_ended = (led.2, ended led.2 led.3)
 
   -- it did neither
-  pub not_done : Leads account.opening moving.stage (is_told_whole moved) Missing → IsStageDone account.opening g → ⊥
-  not_done none done = none (marked_by account.opening moving.stage (is_told_whole moved) (is_whole_in g) same (subst (λ (n : ℕ). AreComplete account.opening n (is_whole_in g)) (sym told.now) done))
+  pub not_done : Leads account.opening moving.stage (is_marked_complete moved) Missing → IsStageDone account.opening g → ⊥
+  not_done none done = none (marked_by account.opening moving.stage (is_marked_complete moved) (is_complete_in g) same (subst (λ (n : ℕ). AreComplete account.opening n (is_complete_in g)) (sym told.now) done))
 
 -- ---- what a run continues with
 
@@ -122,7 +122,7 @@ module _ (old : AccountValue) (g : GatheredValue) (new : AccountValue) (next : G
 
 -- ---- what comes after a stage
 
-module _ (folds : Bool) (old : AccountValue) (began : BeganWith) (g : GatheredValue) (ran : RanFrom old.opening began g) (at : StageValue) (led : HasGoneOn old.opening g.stage (is_whole_in g) at) where
+module _ (folds : Bool) (old : AccountValue) (began : BeganWith) (g : GatheredValue) (ran : RanFrom old.opening began g) (at : StageValue) (led : HasGoneOn old.opening g.stage (is_complete_in g) at) where
   -- the next stage, or the end at the defect that the fold between the stages found
   pub goes_on_comes : IsStageDone old.opening g → (next : ControlFlow LiveOutcome Ready) → GoesOnTo folds old g next → ComesAfterStage folds old began next
   goes_on_comes done (Continue ready) goes = (

@@ -17,7 +17,7 @@ use Rattle.sq_model.proofs.Lists.{Contains-nothing, Contains-slice_get}
 use Rattle.sq_model.proofs.Keys.{found_in_segment, unfound_stays, linked}
 use Rattle.sq_node_model.specs.declared.spot.Spot.TheVariants.{Store}
 use Rattle.sq_node_model.specs.Gathered.{GatheredValue}
-use Rattle.sq_node_model.specs.Next.{is_whole_in, IsStageDone}
+use Rattle.sq_node_model.specs.Next.{is_complete_in, IsStageDone}
 use Rattle.sq_node_model.specs.Folded.{folded_opening}
 use Rattle.sq_node_model.proofs.Next.{stands_next}
 use Rattle.sq_node_model.proofs.Staged.{key_stage, moved_source, staying_source}
@@ -40,7 +40,7 @@ use Rattle.sq_live.proofs.WholeRun.{HaveTold, HaveToldTo, all_part, told_more, s
 
 -- where all segments are complete, those of the stage are
 all_done : (o : OpeningValue) (g : GatheredValue) → IsOpening o → moved_count o g ≡ length o.recon.segments → IsStageDone o g
-all_done o g is all seg segment there now = elim (cases_Bool (is_whole_in g seg)) [
+all_done o g is all seg segment there now = elim (cases_Bool (is_complete_in g seg)) [
   | inl whole ↦ whole
   | inr partial ↦
       let fewer = one_unmoved o g is (λ done. true≢false (sym (done seg segment there now) ∙ partial)) in
@@ -88,7 +88,7 @@ module _ (o : OpeningValue) (is : IsOpening o) (jobs : List Job) (differ : IdsDi
       (subst (λ (p : OpeningValue). moved_count p g ≡ length p.recon.segments) at.opening found.is_done.moved)
 
   last : g.stage + 1 ≡ stages o.recon
-  last = ended_last account.opening g.stage (is_whole_in g) found.is_done.leader found.is_done.ended ∙ ap (λ (p : OpeningValue). stages p.recon) at.opening
+  last = ended_last account.opening g.stage (is_complete_in g) found.is_done.leader found.is_done.ended ∙ ap (λ (p : OpeningValue). stages p.recon) at.opening
 
   owner_then : (root : ℕ) → owner_in o (g.stage + 1) root ≡ destination o root
   owner_then root = owner_last o is (g.stage + 1) root last

@@ -7,7 +7,7 @@ use Rattle.sq_tree.specs.Status.{reading}
 use Rattle.sq_tree.specs.Tree.{status_at}
 use Rattle.sq_ranges.specs.declared.segment.TheConstants.{SEGMENT_LIMIT}
 use Rattle.sq_ranges.specs.ReconValue.{ReconValue, stage_at}
-use Rattle.sq_leader.specs.Segments.{is_told_whole}
+use Rattle.sq_leader.specs.Segments.{is_marked_complete}
 
 -- the segment of this number is complete: its node 1 reads complete
 abbrev pub is_moved : List (List Status) → ℕ → Bool
@@ -15,9 +15,9 @@ is_moved statuses seg = is_complete_reading (reading (status_at (slice_index_or 
 
 -- just the segments are marked that are complete
 abbrev pub MarksMoved : List (List Status) → List Bool → Type 0
-MarksMoved statuses moved = (seg : ℕ) → seg < SEGMENT_LIMIT → is_told_whole moved seg ≡ is_moved statuses seg
+MarksMoved statuses moved = (seg : ℕ) → seg < SEGMENT_LIMIT → is_marked_complete moved seg ≡ is_moved statuses seg
 
 -- how many segments moved in an earlier stage than this, or are marked
 abbrev pub marked_count : ReconValue → ℕ → List Bool → ℕ
 marked_count recon stage moved =
-    count_by (λ seg. nat_lt (stage_at recon seg) stage || is_told_whole moved seg) (range_with_len 0 (length recon.segments))
+    count_by (λ seg. nat_lt (stage_at recon seg) stage || is_marked_complete moved seg) (range_with_len 0 (length recon.segments))

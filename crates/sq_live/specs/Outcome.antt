@@ -9,7 +9,7 @@ use Rattle.sq_text.specs.Texts.{line}
 use Rattle.sq_node_model.specs.NodeValue.{ReceiptValue}
 use Rattle.sq_node_model.specs.Receipts.{is_commit}
 use Rattle.sq_node_model.specs.Gathered.{GatheredValue}
-use Rattle.sq_node_model.specs.Next.{is_whole_in, IsStageDone}
+use Rattle.sq_node_model.specs.Next.{is_complete_in, IsStageDone}
 use Rattle.sq_audit.specs.declared.job.Job.{Job}
 use Rattle.sq_audit.specs.declared.verdict.Defect.{Defect}
 use Rattle.sq_audit.specs.Defects.{defect_number, IsFirstDefect}
@@ -40,7 +40,7 @@ answered_count receipts jobs = length (answered_jobs receipts jobs)
 -- the segment of this number is complete: it moved in an earlier stage than the one that was gathered, or its node 1
 -- reads complete; a segment without gathered statuses doesn't
 abbrev pub segment_has_moved : OpeningValue → GatheredValue → ℕ → Bool
-segment_has_moved o g seg = nat_lt (stage_at o.recon seg) g.stage || is_whole_in g seg
+segment_has_moved o g seg = nat_lt (stage_at o.recon seg) g.stage || is_complete_in g seg
 
 -- how many segments are complete
 abbrev pub moved_count : OpeningValue → GatheredValue → ℕ
@@ -60,7 +60,7 @@ pub record IsDone (account : AccountValue) (g : GatheredValue) : Type 0 where
   pub moved : moved_count account.opening g ≡ length account.opening.recon.segments
   -- the leader as it was in the end
   pub leader : StageValue
-  pub ended : HasEnded account.opening g.stage (is_whole_in g) leader
+  pub ended : HasEnded account.opening g.stage (is_complete_in g) leader
 
 -- why a run stopped: a segment of the stage isn't complete, or after the last stage a job isn't answered
 abbrev pub WhyStopped : AccountValue → GatheredValue → Type 0
@@ -88,7 +88,7 @@ pub record IsFoundSound (account : AccountValue) (g : GatheredValue) (families c
 -- an audit found this defect first: the fold's between two stages, or the one of all jobs in the end
 abbrev pub IsFoundUnsound : Bool → AccountValue → GatheredValue → Defect → Type 0
 IsFoundUnsound folds account g defect =
-    ((folds ≡ true) × (leader : StageValue) × HasGoneOn account.opening g.stage (is_whole_in g) leader
+    ((folds ≡ true) × (leader : StageValue) × HasGoneOn account.opening g.stage (is_complete_in g) leader
     × IsFirstDefect account.opening g (answered_jobs g.receipts account.jobs) defect)
     ⊎ (IsDone account g × IsFirstDefect account.opening g account.jobs defect)
 

@@ -6,7 +6,7 @@ use Rattle.sq_ranges.specs.OpeningValue.{OpeningValue}
 use Rattle.sq_leader.specs.LeaderValue.{StageValue}
 use Rattle.sq_node_model.specs.BeganWith.{BeganWith, first_began}
 use Rattle.sq_node_model.specs.Gathered.{GatheredValue}
-use Rattle.sq_node_model.specs.Next.{is_whole_in, IsStageDone, next_began}
+use Rattle.sq_node_model.specs.Next.{is_complete_in, IsStageDone, next_began}
 use Rattle.sq_audit.specs.declared.job.Job.{Job}
 use Rattle.sq_audit.specs.declared.folded.Folded.{Folded}
 use Rattle.sq_audit.specs.declared.verdict.Defect.{Defect}
@@ -48,7 +48,7 @@ pub record HasPassed (folds : Bool) (old : AccountValue) (began : BeganWith) (g 
   pub ran : RanFrom old.opening began g
   pub done : IsStageDone old.opening g
   pub leader : StageValue
-  pub led : HasGoneOn old.opening g.stage (is_whole_in g) leader
+  pub led : HasGoneOn old.opening g.stage (is_complete_in g) leader
   pub next : GatheredValue
   pub continues : ContinuesWith folds old g new next
   pub later_is : later ≡ next_began new.opening next

@@ -4,8 +4,8 @@ ghost use Rattle.std.specs.FinMap.{len};
 ghost use Rattle.sq_ranges.specs.declared.segment.TheConstants.{SEGMENT_LIMIT};
 ghost use Rattle.sq_ranges.specs.Prelude.{stages, stage_at};
 ghost use Rattle.sq_leader.specs.LeaderValue.{StageValue};
-ghost use Rattle.sq_leader.specs.Segments.{is_told_whole};
-ghost use Rattle.sq_node_model.specs.Prelude.{is_whole_in, IsStageDone, AllGrown};
+ghost use Rattle.sq_leader.specs.Segments.{is_marked_complete};
+ghost use Rattle.sq_node_model.specs.Prelude.{is_complete_in, IsStageDone, AllGrown};
 ghost use Rattle.sq_stages.specs.Leading.{HasEnded};
 ghost use Rattle.sq_live.specs.Outcome.{answered_count, commit_count, CameTo, WhyStopped};
 ghost use Rattle.sq_live.specs.Judged.{MarksMoved, marked_count};
@@ -38,7 +38,7 @@ pub(crate) fn judge_end<R: Threads + Sync>(
     requires last { g.now.stage + 1 ≡ stages account.now.opening.recon }
     requires done { IsStageDone account.now.opening g.now }
     requires ended { (at : StageValue)
-        × HasEnded account.now.opening g.now.stage (is_whole_in g.now) at }
+        × HasEnded account.now.opening g.now.stage (is_complete_in g.now) at }
     ensures { IfOk result (λ outcome. (folds : Bool) → CameTo folds account.now g.now outcome) }
 {
     let answered = count_answered(alloc, &g.receipts, &account.jobs)?;
@@ -116,7 +116,8 @@ fn count_complete(recon: &Recon, stage: u64, moved: &[bool]) -> u64
 
 // Whether a segment moved in an earlier stage than this, or is marked.
 fn is_counted(recon: &Recon, stage: u64, moved: &[bool], seg: SegId) -> bool
-    ensures { result ≡ (nat_lt (stage_at recon.now seg) stage || is_told_whole moved.now seg) }
+    ensures { result ≡ (nat_lt (stage_at recon.now seg) stage
+        || is_marked_complete moved.now seg) }
 {
     recon.stage_of(seg) < stage || moved.get(seg.index()).copied().unwrap_or(false)
 }

@@ -14,14 +14,14 @@ use Rattle.sq_node_model.specs.Spots.{gathered_status, family_at_spot}
 use Rattle.sq_node_model.specs.Placed.{IsPlaced}
 
 -- the segment is complete: its node 1 reads complete
-abbrev pub is_whole_in : GatheredValue → ℕ → Bool
-is_whole_in g seg = is_complete_reading (reading (gathered_status g seg) 1)
+abbrev pub is_complete_in : GatheredValue → ℕ → Bool
+is_complete_in g seg = is_complete_reading (reading (gathered_status g seg) 1)
 
 -- the segments of the stage that was gathered are complete
 abbrev pub IsStageDone : OpeningValue → GatheredValue → Type 0
 IsStageDone o g =
     (seg : ℕ) (segment : Range) → slice_get o.recon.segments seg ≡ Some segment → stage_in o.recon segment ≡ g.stage
-    → is_whole_in g seg ≡ true
+    → is_complete_in g seg ≡ true
 
 -- a stage of this opening's move is over: what was gathered of it is placed, and its segments are complete
 pub record IsStageOver (o : OpeningValue) (g : GatheredValue) : Type 0 where

@@ -51,7 +51,12 @@ impl Model for Pump {
       round = p.round.items;
     } };
 
-    ghost invariant = { λ p. IsPump (record { number = p.number; wins = p.wins.wins; seats = p.seats.items; round = p.round.items }) };
+    ghost invariant = { λ p. IsPump (record {
+      number = p.number;
+      wins = p.wins.wins;
+      seats = p.seats.items;
+      round = p.round.items;
+    }) };
 }
 
 impl Pump {

@@ -74,7 +74,8 @@ impl Model for Recon {
     } };
 
     ghost invariant = { λ r.
-        HasLists (recon_with r.width r.ranges.items r.segments.items r.auto) r.links.items r.places.items };
+        HasLists (recon_with r.width r.ranges.items r.segments.items r.auto)
+        r.links.items r.places.items };
 }
 
 impl Recon {

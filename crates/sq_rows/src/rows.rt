@@ -36,7 +36,8 @@ impl Model for Rows {
 
     ghost view = { λ r. entries_of r.rows };
 
-    ghost invariant = { λ r. IsRowList (entries_of r.rows) × (r.size ≡ rows_size (entries_of r.rows)) };
+    ghost invariant = { λ r. IsRowList (entries_of r.rows)
+        × (r.size ≡ rows_size (entries_of r.rows)) };
 }
 
 impl Rows {

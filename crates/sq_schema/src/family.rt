@@ -36,7 +36,8 @@ impl Model for Family {
 
     ghost view = { λ f. record { root = f.root; base = f.rows.base; log = f.log.items } };
 
-    ghost invariant = { λ f. IsKept (record { root = f.root; base = f.rows.base; log = f.log.items }) f.rows.rows };
+    ghost invariant = { λ f.
+        IsKept (record { root = f.root; base = f.rows.base; log = f.log.items }) f.rows.rows };
 }
 
 impl Family {

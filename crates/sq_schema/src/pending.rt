@@ -35,7 +35,8 @@ impl<'a> Model for PendingRows<'a> {
 
     ghost view = { λ d. record { base = d.rows.now; writes = short_items d.writes } };
 
-    ghost invariant = { λ d. IsPending (record { base = d.rows.now; writes = short_items d.writes }) d.count d.size
+    ghost invariant = { λ d.
+        IsPending (record { base = d.rows.now; writes = short_items d.writes }) d.count d.size
         × AreMarked d.written.marks (short_items d.writes) };
 }
 

@@ -128,7 +128,8 @@ impl RootList {
         requires present { IsSome (find nat_cmp root (table_of self.old)) }
         requires note { length row.note ≤ MAX_NOTE }
         ensures ok { OnOk result (table_of self.new
-            ≡ put nat_cmp root (with_row (rows_in (table_of self.old) root) key row) (table_of self.old)) }
+            ≡ put nat_cmp root (with_row (rows_in (table_of self.old) root) key row)
+            (table_of self.old)) }
         ensures err { OnErr result (table_of self.new ≡ table_of self.old) }
         ensures row_returned { IfErr result (λ failed. failed.value ≡ row) }
     {

@@ -13,7 +13,7 @@ use Rattle.sq_ranges.specs.ReconValue.{ReconValue, stage_in, stages, of_stage, g
 use Rattle.sq_ranges.specs.OpeningValue.{OpeningValue}
 use Rattle.sq_ranges.specs.Opening.{IsOpening}
 use Rattle.sq_leader.specs.Marks.{none_marked, is_marked, with_mark, all_marked}
-use Rattle.sq_leader.specs.Segments.{is_told_whole, all_told_whole, have_reported}
+use Rattle.sq_leader.specs.Segments.{is_marked_complete, all_marked_complete, have_reported}
 use Rattle.sq_leader.specs.LeaderValue.{IdleValue, PreparingValue, StageValue}
 use Rattle.sq_leader.specs.declared.fault.PrepareFault.{PrepareFault}
 use Rattle.sq_leader.specs.declared.fault.FinishFault.{FinishFault}
@@ -106,31 +106,31 @@ module _ (many : ℕ) (holds : ℕ → Bool) where
 -- of the partitions below this number those have reported in the stage that may
 pub record AreHeard (o : OpeningValue) (stage : ℕ) (whole : List Bool) (next : ℕ) (at : StageValue) : Type 0 where
   pub leads : LeadsStage o stage at
-  pub marks : AreMarked o.old.parts next (all_told_whole o.recon stage whole) at.reported
+  pub marks : AreMarked o.old.parts next (all_marked_complete o.recon stage whole) at.reported
 
 module _ (o : OpeningValue) (stage : ℕ) (whole : List Bool) where
-  same_has_all : (next : ℕ) (at : StageValue) → AreHeard o stage whole next at → all_told_whole o.recon stage whole next ≡ all_told_whole at.recon at.stage whole next
-  same_has_all next at so_far = λ i. all_told_whole (sym so_far.leads.recon_is i) (sym so_far.leads.stage_is i) whole next
+  same_has_all : (next : ℕ) (at : StageValue) → AreHeard o stage whole next at → all_marked_complete o.recon stage whole next ≡ all_marked_complete at.recon at.stage whole next
+  same_has_all next at so_far = λ i. all_marked_complete (sym so_far.leads.recon_is i) (sym so_far.leads.stage_is i) whole next
 
   pub none_heard : (at : StageValue) → at ≡ leading o stage → AreHeard o stage whole 0 at
   none_heard at is = subst (AreHeard o stage whole 0) (sym is) (record {
     leads = record { recon_is = refl; stage_is = refl };
-    marks = none_yet o.old.parts (all_told_whole o.recon stage whole);
+    marks = none_yet o.old.parts (all_marked_complete o.recon stage whole);
   })
 
   -- one more may and did
-  pub one_heard : (next : ℕ) (at : StageValue) → next < o.old.parts → AreHeard o stage whole next at → all_told_whole at.recon at.stage whole next ≡ true
+  pub one_heard : (next : ℕ) (at : StageValue) → next < o.old.parts → AreHeard o stage whole next at → all_marked_complete at.recon at.stage whole next ≡ true
       → AreHeard o stage whole (next + 1) (record at { reported = with_mark at.reported next })
   one_heard next at lt so_far may = record {
     leads = record { recon_is = so_far.leads.recon_is; stage_is = so_far.leads.stage_is };
-    marks = set_next o.old.parts (all_told_whole o.recon stage whole) next at.reported true lt so_far.marks (sym (same_has_all next at so_far ∙ may));
+    marks = set_next o.old.parts (all_marked_complete o.recon stage whole) next at.reported true lt so_far.marks (sym (same_has_all next at so_far ∙ may));
   }
 
   -- one more may not
-  pub one_unheard : (next : ℕ) (at : StageValue) → AreHeard o stage whole next at → all_told_whole at.recon at.stage whole next ≡ false → AreHeard o stage whole (next + 1) at
+  pub one_unheard : (next : ℕ) (at : StageValue) → AreHeard o stage whole next at → all_marked_complete at.recon at.stage whole next ≡ false → AreHeard o stage whole (next + 1) at
   one_unheard next at so_far may_not = record {
     leads = so_far.leads;
-    marks = pass_next o.old.parts (all_told_whole o.recon stage whole) next at.reported so_far.marks (same_has_all next at so_far ∙ may_not);
+    marks = pass_next o.old.parts (all_marked_complete o.recon stage whole) next at.reported so_far.marks (same_has_all next at so_far ∙ may_not);
   }
 
   -- they all said so
@@ -138,7 +138,7 @@ module _ (o : OpeningValue) (stage : ℕ) (whole : List Bool) where
   all_heard next at is so_far = record {
     leads = so_far.leads;
     parts = so_far.marks.length_is;
-    each = λ k. so_far.marks.each k ∙ ap (λ n. nat_lt k n && all_told_whole o.recon stage whole k) is;
+    each = λ k. so_far.marks.each k ∙ ap (λ n. nat_lt k n && all_marked_complete o.recon stage whole k) is;
   }
 
 -- the segment of this number moves in the stage
@@ -165,11 +165,11 @@ module _ (recon : ReconValue) (stage part seg : ℕ) where
 
 module _ (o : OpeningValue) (stage : ℕ) (whole : List Bool) (at : StageValue) (have : HaveReported o stage whole at) where
   -- a segment into a partition that reported is whole
-  heard_whole : (part seg : ℕ) → is_marked at.reported part ≡ true → moves_into o.recon stage part seg ≡ true → is_told_whole whole seg ≡ true
+  heard_whole : (part seg : ℕ) → is_marked at.reported part ≡ true → moves_into o.recon stage part seg ≡ true → is_marked_complete whole seg ≡ true
   heard_whole part seg marked =
-      each_whole o.recon stage whole part (and_parts (nat_lt part o.old.parts) (all_told_whole o.recon stage whole part) (sym (have.each part) ∙ marked)).1 seg
+      each_whole o.recon stage whole part (and_parts (nat_lt part o.old.parts) (all_marked_complete o.recon stage whole part) (sym (have.each part) ∙ marked)).1 seg
 
-  hears : HasHeard o stage (is_told_whole whole) at
+  hears : HasHeard o stage (is_marked_complete whole) at
   hears = record { leads = have.leads; heard = heard_whole }
 
   -- the segment moves in another stage, or its destination reported
@@ -180,7 +180,7 @@ module _ (o : OpeningValue) (stage : ℕ) (whole : List Bool) (at : StageValue) 
   all_told = λ i. list_all (λ segment. not (stage_in (have.leads.recon_is i) segment == have.leads.stage_is i) || is_marked at.reported segment.dst) (have.leads.recon_is i).segments
 
   -- where each partition reported into which a segment of the stage moves, each such segment is whole
-  whole_if_reported : have_reported at ≡ true → AreComplete o stage (is_told_whole whole)
+  whole_if_reported : have_reported at ≡ true → AreComplete o stage (is_marked_complete whole)
   whole_if_reported all seg segment there is =
       let segments = o.recon.segments in
       let here = get_or_from_slice_get segments seg segment segment there in
@@ -189,23 +189,23 @@ module _ (o : OpeningValue) (stage : ℕ) (whole : List Bool) (at : StageValue) 
       heard_whole segment.dst seg marked (into_dst o.recon stage segment.dst seg segment (record { there = there; is = is }))
 
   -- and where each is whole, each of those partitions reported
-  reported_if_whole : IsOpening o → AreComplete o stage (is_told_whole whole) → have_reported at ≡ true
+  reported_if_whole : IsOpening o → AreComplete o stage (is_marked_complete whole) → have_reported at ≡ true
   reported_if_whole is all =
       let segments = o.recon.segments in
       all_told ∙ list_all-from_AllPass is_told segments (λ seg d lt.
       let segment = get_or segments seg d in
       let below : segment.dst < o.old.parts = (ends_below o is seg segment (slice_get-get_or segments seg d lt)).1 in
       or_right (not (stage_in o.recon segment == stage)) (is_marked at.reported segment.dst)
-      (have.each segment.dst ∙ and_from (nat_lt segment.dst o.old.parts) (all_told_whole o.recon stage whole segment.dst) (lt-ltb segment.dst o.old.parts below) (has_each segment.dst)))
+      (have.each segment.dst ∙ and_from (nat_lt segment.dst o.old.parts) (all_marked_complete o.recon stage whole segment.dst) (lt-ltb segment.dst o.old.parts below) (has_each segment.dst)))
     where
-      whole_or_away : (part seg : ℕ) (into : Bool) → moves_into o.recon stage part seg ≡ into → (not into || is_told_whole whole seg) ≡ true
+      whole_or_away : (part seg : ℕ) (into : Bool) → moves_into o.recon stage part seg ≡ into → (not into || is_marked_complete whole seg) ≡ true
       whole_or_away part seg true goes =
           let (segment, of) = of_into o.recon stage part seg (slice_get o.recon.segments seg) refl goes in
           all seg segment of.there of.is
       whole_or_away part seg false goes = refl
 
-      has_each : (part : ℕ) → all_told_whole o.recon stage whole part ≡ true
-      has_each part = all_pass (λ k. not (moves_into o.recon stage part k) || is_told_whole whole k) 0 (length o.recon.segments) (λ k low high. whole_or_away part k (moves_into o.recon stage part k) refl)
+      has_each : (part : ℕ) → all_marked_complete o.recon stage whole part ≡ true
+      has_each part = all_pass (λ k. not (moves_into o.recon stage part k) || is_marked_complete whole k) 0 (length o.recon.segments) (λ k low high. whole_or_away part k (moves_into o.recon stage part k) refl)
 
   -- ---- what the leader answers
 
@@ -221,13 +221,13 @@ module _ (o : OpeningValue) (stage : ℕ) (whole : List Bool) (at : StageValue) 
       chosen a b false true is = (refl, ap (λ answer. unwrap_or (result_ok answer) (next_stage at)) is)
       chosen a b false false is = absurd (true≢false (ap is_ok is))
 
-  pub goes_on : (found : StageValue) → Ok found ≡ answer_to_next at → Leads o stage (is_told_whole whole) (Next found)
+  pub goes_on : (found : StageValue) → Ok found ≡ answer_to_next at → Leads o stage (is_marked_complete whole) (Next found)
   goes_on found is =
       let (all, next) = went found is in
       (next ∙ next_leads, whole_if_reported all, at, record { hears = hears; next = sym is ∙ ap Ok (next ∙ next_leads) })
 
   -- it ends the move
-  pub ends : (found : StageValue) → Ok found ≡ answer_to_finish at → Leads o stage (is_told_whole whole) Ended
+  pub ends : (found : StageValue) → Ok found ≡ answer_to_finish at → Leads o stage (is_marked_complete whole) Ended
   ends found is =
       let (both, same) = chosen _ (is_last at && have_reported at) is in
       let (last, all) = and_parts (is_last at) (have_reported at) both in
@@ -239,11 +239,11 @@ module _ (o : OpeningValue) (stage : ℕ) (whole : List Bool) (at : StageValue) 
       chosen a false is = absurd (true≢false (ap is_ok is))
 
   -- a report is missing
-  misses : IsOpening o → have_reported at ≡ false → Leads o stage (is_told_whole whole) Missing
+  misses : IsOpening o → have_reported at ≡ false → Leads o stage (is_marked_complete whole) Missing
   misses is none = λ all. true≢false (sym (reported_if_whole is all) ∙ none)
 
   -- in the last stage, where it doesn't end the move
-  pub stays_last : IsOpening o → is_last at ≡ true → (found : Refused StageValue FinishFault) → Err found ≡ answer_to_finish at → Leads o stage (is_told_whole whole) Missing
+  pub stays_last : IsOpening o → is_last at ≡ true → (found : Refused StageValue FinishFault) → Err found ≡ answer_to_finish at → Leads o stage (is_marked_complete whole) Missing
   stays_last is last found answer = misses is (ap (λ b. b && have_reported at) (sym last) ∙ chosen _ (is_last at && have_reported at) answer)
     where
       chosen : (a : Refused StageValue FinishFault) (may : Bool) → Err found ≡ (if may then Ok at else Err a) → may ≡ false
@@ -265,7 +265,7 @@ module _ (o : OpeningValue) (stage : ℕ) (whole : List Bool) (at : StageValue) 
       chosen false true is = absurd (true≢false (sym (ap is_ok is)))
       chosen false false is = (ap (λ r. (fault_of r).leader) is, λ unfinished. refl)
 
-  pub stays_between : IsOpening o → (found : Refused StageValue NextFault) → Err found ≡ answer_to_next at → found.fault ≡ NotFinished → Leads o stage (is_told_whole whole) Missing
+  pub stays_between : IsOpening o → (found : Refused StageValue NextFault) → Err found ≡ answer_to_next at → found.fault ≡ NotFinished → Leads o stage (is_marked_complete whole) Missing
   stays_between is found answer unfinished = misses is ((refused found answer).1 unfinished)
 
   pub same_stage : (found : Refused StageValue NextFault) → Err found ≡ answer_to_next at → found.leader.stage ≡ stage

@@ -5,7 +5,7 @@ use Rattle.sq_ranges.specs.ReconValue.{stage_in, stages, moves_into}
 use Rattle.sq_ranges.specs.OpeningValue.{OpeningValue}
 use Rattle.sq_leader.specs.LeaderValue.{StageValue}
 use Rattle.sq_leader.specs.Marks.{none_marked, is_marked}
-use Rattle.sq_leader.specs.Segments.{all_told_whole}
+use Rattle.sq_leader.specs.Segments.{all_marked_complete}
 use Rattle.sq_leader.specs.Leader.{answer_to_next, answer_to_finish}
 use Rattle.sq_stages.specs.declared.leader.Led.{Led}
 use Rattle.sq_stages.specs.declared.leader.Led.TheVariants.{Next, Ended, Missing}
@@ -23,7 +23,7 @@ pub record LeadsStage (o : OpeningValue) (stage : ℕ) (at : StageValue) : Type 
 pub record HaveReported (o : OpeningValue) (stage : ℕ) (whole : List Bool) (at : StageValue) : Type 0 where
   pub leads : LeadsStage o stage at
   pub parts : length at.reported ≡ o.old.parts
-  pub each : (part : ℕ) → is_marked at.reported part ≡ (nat_lt part o.old.parts && all_told_whole o.recon stage whole part)
+  pub each : (part : ℕ) → is_marked at.reported part ≡ (nat_lt part o.old.parts && all_marked_complete o.recon stage whole part)
 
 -- partitions reported in the stage, each only where all segments that move into it then are complete
 pub record HasHeard (o : OpeningValue) (stage : ℕ) (is_complete : ℕ → Bool) (at : StageValue) : Type 0 where

@@ -2,7 +2,7 @@
 ghost use Rattle.std.specs.Prelude.{◌≡◌, length, true, IfOk};
 ghost use Rattle.sq_ranges.specs.Prelude.{IsOpening};
 ghost use Rattle.sq_leader.specs.Marks.{all_marked};
-ghost use Rattle.sq_leader.specs.Segments.{is_told_whole};
+ghost use Rattle.sq_leader.specs.Segments.{is_marked_complete};
 ghost use Rattle.sq_leader.specs.Leader.{is_last};
 ghost use Rattle.sq_stages.specs.Leading.{leading, HaveReported, Leads};
 
@@ -57,7 +57,7 @@ fn prepare_all(plan: &Plan, recon: Recon) -> Preparing
 /// partition reports first that may.
 pub fn lead_on(moving: Moving, opening: &Opening, whole: &[bool]) -> Led
     requires { moving ≡ leading opening.now moving.stage }
-    ensures { Leads opening.now moving.stage (is_told_whole whole.now) result }
+    ensures { Leads opening.now moving.stage (is_marked_complete whole.now) result }
 {
     match hear_reports(moving, opening, whole).next() {
         Ok(moving) => Led::Next(moving),
@@ -73,7 +73,7 @@ fn end_move(moving: Moving, opening: &Opening, whole: &[bool]) -> Led
     requires reported { HaveReported opening.now moving.stage whole.now moving }
     requires last { is_last moving ≡ true }
     requires opening { IsOpening opening.now }
-    ensures { Leads opening.now moving.stage (is_told_whole whole.now) result }
+    ensures { Leads opening.now moving.stage (is_marked_complete whole.now) result }
 {
     match moving.finish() {
         Ok(_) => Led::Ended,

@@ -22,7 +22,7 @@ use Rattle.sq_leader.specs.declared.fault.FinishFault.{FinishFault}
 use Rattle.sq_leader.specs.declared.fault.FinishFault.TheVariants as finish
 use Rattle.sq_leader.specs.LeaderValue.{PreparingValue, StageValue, ReportValue}
 use Rattle.sq_leader.specs.Marks.{with_mark, all_marked}
-use Rattle.sq_leader.specs.Segments.{is_told_whole, all_told_whole, have_reported}
+use Rattle.sq_leader.specs.Segments.{is_marked_complete, all_marked_complete, have_reported}
 use Rattle.sq_leader.specs.Leader.{first_stage, answer_to_start, made_answer, answer_to_report, is_last, next_stage, answer_to_next, answer_to_finish}
 use Rattle.sq_leader.proofs.Counted.{have_reported-counted}
 use Rattle.sq_exec.specs.CoreValue.{entered_core}
@@ -32,7 +32,7 @@ use Rattle.sq_model.specs.declared.answer.Refusal.TheVariants.{NotMoving, Alread
 use Rattle.sq_model.specs.Leader.{is_moving_phase, is_started_phase}
 use Rattle.sq_transition.specs.WorldValue.{WorldValue, running_stage}
 use Rattle.sq_transition.specs.Leading.{phase_of, parts_of, moved_by, stage_of, has_prepared, has_reported, after_start, after_report, after_next, after_finish}
-use Rattle.sq_transition.specs.LeaderResults.{StepResult, refuse, if_partition, started_core, is_segment_into, is_segment_whole, segment_range, all_reported, start_result, report_result, next_result, finish_result}
+use Rattle.sq_transition.specs.LeaderResults.{StepResult, refuse, if_partition, started_core, is_segment_into, is_complete_by_tree, segment_range, all_reported, start_result, report_result, next_result, finish_result}
 use Rattle.sq_state.specs.Results.{report_refused, next_refused}
 use Rattle.sq_state.specs.Sound.{IsSound}
 
@@ -70,7 +70,7 @@ counted at part given next is answer =
 pub never_refused : (plan : PlanValue) (recon : ReconValue) (whole : List Bool) (at : StageValue) (part : ℕ) (given : ReportValue) (back : RefusedCall StageValue StageFault)
     → Ok given ≡ made_answer plan recon at.stage whole part → Err back ≡ answer_to_report at given → ⊥
 never_refused plan recon whole at part given back answer refused =
-    let so = made (nat_le plan.parts part) (all_told_whole recon at.stage whole part) report.NoSuchPartition report.NotFinished (let named : ReportValue = record { part = part; stage = at.stage } in named) given answer in
+    let so = made (nat_le plan.parts part) (all_marked_complete recon at.stage whole part) report.NoSuchPartition report.NotFinished (let named : ReportValue = record { part = part; stage = at.stage } in named) given answer in
     by_stage (at.stage == at.stage) (eq-eqb at.stage at.stage refl) (refused ∙ ap (answer_to_report at) so.2)
   where
     by_stage : (here : Bool) → here ≡ true → Err back ≡ (let r : Result StageValue (RefusedCall StageValue StageFault) = if here then Ok (record at { reported = with_mark at.reported part }) else Err (record { leader = at; fault = stage_fault.OtherStage }) in r) → ⊥
@@ -107,14 +107,14 @@ module _ (w : WorldValue) where
         ∙ sym (start_by (Preparing before) false is (sym (all_marked-by_part before.prepared) ∙ so.0))
 
   -- a Report, by the leader
-  report_by : (l : Leader) (part : ℕ) (b : Bool) → w.leader ≡ l → list_all (λ seg. not (is_segment_into w part seg) || is_segment_whole w seg) (segment_range w) ≡ b
+  report_by : (l : Leader) (part : ℕ) (b : Bool) → w.leader ≡ l → list_all (λ seg. not (is_segment_into w part seg) || is_complete_by_tree w seg) (segment_range w) ≡ b
       → report_result w part ≡ (if not (is_moving_phase (phase_of l)) then refuse w NotMoving else if_partition w part (if b then (Done, record w { leader = after_report l part }) else refuse w NotFinished))
   report_by l part b is e =
       λ i. if not (is_moving_phase (phase_of (is i))) then refuse w NotMoving else if_partition w part (if e i then (Done, record w { leader = after_report (is i) part }) else refuse w NotFinished)
 
   -- what is said of each segment is so
-  module _ (sound : IsSound w) (whole : List Bool) (told : (seg : ℕ) → seg < length w.trees → is_told_whole whole seg ≡ is_segment_whole w seg) where
-    all_told : (at : StageValue) (part : ℕ) → w.leader ≡ Moving at → list_all (λ seg. not (is_segment_into w part seg) || is_segment_whole w seg) (segment_range w) ≡ all_told_whole w.recon at.stage whole part
+  module _ (sound : IsSound w) (whole : List Bool) (told : (seg : ℕ) → seg < length w.trees → is_marked_complete whole seg ≡ is_complete_by_tree w seg) where
+    all_told : (at : StageValue) (part : ℕ) → w.leader ≡ Moving at → list_all (λ seg. not (is_segment_into w part seg) || is_complete_by_tree w seg) (segment_range w) ≡ all_marked_complete w.recon at.stage whole part
     all_told at part is =
         let runs : running_stage w ≡ at.stage = ap stage_of is in
         same_within _ _ 0 (length w.recon.segments) (λ seg low high. λ i. not (goes_into (of_stage w.recon (runs i) (slice_get w.recon.segments seg)) part) || sym (told seg (omega (arith, high, sound.trees))) i)
@@ -122,7 +122,7 @@ module _ (w : WorldValue) where
     pub report_went : (at : StageValue) (part : ℕ) (given : ReportValue) (next : StageValue) → w.leader ≡ Moving at → Ok given ≡ made_answer w.old w.recon at.stage whole part → Ok next ≡ answer_to_report at given
         → (Done, record w { leader = Moving next }) ≡ report_result w part
     report_went at part given next is answer counts =
-        let so = made (nat_le w.old.parts part) (all_told_whole w.recon at.stage whole part) report.NoSuchPartition report.NotFinished (let named : ReportValue = record { part = part; stage = at.stage } in named) given answer in
+        let so = made (nat_le w.old.parts part) (all_marked_complete w.recon at.stage whole part) report.NoSuchPartition report.NotFinished (let named : ReportValue = record { part = part; stage = at.stage } in named) given answer in
         ap (λ leader. (Done, record w { leader = Moving leader })) (counted at part given next so.2 counts)
         ∙ ap (λ b. if b then refuse w NoSuchPartition else (Done, record w { leader = Moving (record at { reported = with_mark at.reported part }) })) (sym so.0)
         ∙ sym (report_by (Moving at) part true is (all_told at part is ∙ so.1))
@@ -131,8 +131,8 @@ module _ (w : WorldValue) where
         → (Refused (report_refused fault), record w { leader = Moving at }) ≡ report_result w part
     report_fails at part fault is answer =
         ap (λ same. (Refused (report_refused fault), same)) (stays (Moving at) (Moving at) is refl)
-        ∙ not_made w (nat_le w.old.parts part) (all_told_whole w.recon at.stage whole part) (let named : ReportValue = record { part = part; stage = at.stage } in named) fault (Done, record w { leader = Moving (record at { reported = with_mark at.reported part }) }) answer
-        ∙ sym (report_by (Moving at) part (all_told_whole w.recon at.stage whole part) is (all_told at part is))
+        ∙ not_made w (nat_le w.old.parts part) (all_marked_complete w.recon at.stage whole part) (let named : ReportValue = record { part = part; stage = at.stage } in named) fault (Done, record w { leader = Moving (record at { reported = with_mark at.reported part }) }) answer
+        ∙ sym (report_by (Moving at) part (all_marked_complete w.recon at.stage whole part) is (all_told at part is))
 
   -- who reported, by the leader
   module _ (sound : IsSound w) (at : StageValue) (is : w.leader ≡ Moving at) where

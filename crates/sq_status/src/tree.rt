@@ -36,7 +36,8 @@ impl Model for StatusTree {
 
     ghost view = { λ t. t.table.shared.table_id };
 
-    ghost invariant = { λ t. (t.table.shared.table_id.words ≡ NODES) × (t.table.shared.table_id.slots ≡ 0) };
+    ghost invariant = { λ t. (t.table.shared.table_id.words ≡ NODES)
+        × (t.table.shared.table_id.slots ≡ 0) };
 }
 
 /// The right to make steps on a tree. It has no bytes. A contract sees its tree and its view.

@@ -26,6 +26,11 @@ impl NoScript {
 }
 
 impl From<io::Error> for NoScript {
+    ghost use Rattle.std.specs.Prelude.{◌≡◌};
+    ghost use Rattle.sq_steps.specs.declared.ending.NoScript.TheVariants.{Memory};
+
+    ghost from_gives = { λ _ refused. refused ≡ Memory };
+
     fn from(_error: io::Error) -> NoScript {
         NoScript::Memory
     }

@@ -22,7 +22,7 @@ use Rattle.sq_model.specs.Answers.{answer, is_complete_segment, is_into, has_all
 use Rattle.sq_model.proofs.Lists.{list_all-Contains, row_has}
 use Rattle.sq_transition.specs.WorldValue.{WorldValue, WholeLink, running_stage, no_core, core_at, queue_at, link_value}
 use Rattle.sq_transition.specs.Leading.{parts_of, has_prepared, has_reported, after_prepare, after_start, after_report, after_next, after_finish}
-use Rattle.sq_transition.specs.LeaderResults.{started_core, entered, runs_last, all_reported, is_segment_into, is_segment_whole, segment_range}
+use Rattle.sq_transition.specs.LeaderResults.{started_core, entered, runs_last, all_reported, is_segment_into, is_complete_by_tree, segment_range}
 use Rattle.sq_transition.specs.Transition.{step_result}
 use Rattle.sq_transition.specs.Holds.{CoreHolds, LeaderHolds, PartitionsHold, LinkHolds, LinksHold}
 use Rattle.sq_transition.proofs.Cores.{same_moves, set_again, cores_kept}
@@ -122,7 +122,7 @@ start_keeps o t w h =
     (refl, links_changed (partitions_changed (leader_changed h now) cores) links)))
 
 -- a segment has moved as a whole in the world just where it has by the history
-whole_same : (o : OpeningValue) (t : Trace) (w : WorldValue) (seg : ℕ) → PartsHold o t w → seg < length o.recon.segments → is_segment_whole w seg ≡ is_complete_segment t seg
+whole_same : (o : OpeningValue) (t : Trace) (w : WorldValue) (seg : ℕ) → PartsHold o t w → seg < length o.recon.segments → is_complete_by_tree w seg ≡ is_complete_segment t seg
 whole_same o t w seg h there = λ i. is_complete_reading (reading (λ node. h.segments.statuses seg node there i) 1)
 
 -- a segment moves into a partition in the world just where it does by the history
@@ -130,9 +130,9 @@ into_same : (o : OpeningValue) (t : Trace) (w : WorldValue) (part seg : ℕ) →
 into_same o t w part seg h = λ i. goes_into (of_stage (h.plans.recon i) (h.leader.stage i) (slice_get (h.plans.recon i).segments seg)) part
 
 arrived_same : (o : OpeningValue) (t : Trace) (w : WorldValue) (part : ℕ) → PartsHold o t w
-    → list_all (λ seg. not (is_segment_into w part seg) || is_segment_whole w seg) (segment_range w) ≡ has_all o t part
+    → list_all (λ seg. not (is_segment_into w part seg) || is_complete_by_tree w seg) (segment_range w) ≡ has_all o t part
 arrived_same o t w part h =
-    (λ i. list_all (λ seg. not (into_same o t w part seg h i) || is_segment_whole w seg) (range_with_len 0 (length (h.plans.recon i).segments)))
+    (λ i. list_all (λ seg. not (into_same o t w part seg h i) || is_complete_by_tree w seg) (range_with_len 0 (length (h.plans.recon i).segments)))
     ∙ same_within _ _ 0 (length o.recon.segments) (λ seg low high. ap (λ b. not (is_into o t part seg) || b) (whole_same o t w seg h (omega arith)))
 
 pub report_keeps : (o : OpeningValue) (t : Trace) (w : WorldValue) (part : ℕ) → PartsHold o t w → Keeps o t (Report part) (step_result w (Report part)) (answer o t (Report part))

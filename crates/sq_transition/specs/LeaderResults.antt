@@ -48,9 +48,9 @@ start_result w =
 abbrev pub is_segment_into : WorldValue → ℕ → ℕ → Bool
 is_segment_into w part seg = goes_into (running_range w seg) part
 
--- the segment of this number is whole at its destination
-abbrev pub is_segment_whole : WorldValue → ℕ → Bool
-is_segment_whole w seg = is_complete_reading (reading (status_in w seg) 1)
+-- the segment of this number is complete by its tree
+abbrev pub is_complete_by_tree : WorldValue → ℕ → Bool
+is_complete_by_tree w seg = is_complete_reading (reading (status_in w seg) 1)
 
 abbrev pub segment_range : WorldValue → List ℕ
 segment_range w = range_with_len 0 (length w.recon.segments)
@@ -58,7 +58,7 @@ segment_range w = range_with_len 0 (length w.recon.segments)
 abbrev pub report_result : WorldValue → ℕ → StepResult
 report_result w part =
     if_moving w (if_partition w part (
-    if list_all (λ seg. not (is_segment_into w part seg) || is_segment_whole w seg) (segment_range w)
+    if list_all (λ seg. not (is_segment_into w part seg) || is_complete_by_tree w seg) (segment_range w)
     then (Done, record w { leader = after_report w.leader part })
     else refuse w NotFinished
     ))

@@ -87,7 +87,8 @@ impl Waiting {
     /// The first that is due whose arrival number isn't below this one.
     pub fn next_due(&self, from: u64) -> Option<(u64, &Txn)>
         ensures due { option_map {U = ℕ × TxnValue} (λ found. (found.0, found.1.now)) result
-            ≡ option_map {U = ℕ × TxnValue} (λ a. (a.number, a.txn)) (find (is_due_from from) self.now.arrivals) }
+            ≡ option_map {U = ℕ × TxnValue} (λ a. (a.number, a.txn))
+            (find (is_due_from from) self.now.arrivals) }
         ensures below { IfSome result (λ found. found.0 < no_number) }
         ensures rises { IsStrictlyIncreasing (numbers_of self.now.arrivals) }
     {

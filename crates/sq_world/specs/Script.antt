@@ -76,7 +76,7 @@ IsLedByLines tables lines w = (given : List PieceValue) × CanCome lines given �
 abbrev pub IsLedByReader : ℕ → Option (List ℕ) → WorldValue → Type 0
 IsLedByReader tables known w = (given : List PieceValue) × IsGiven known given × IsLedTo tables given w
 
--- where a run comes to its dump, a world is kept of which this holds
+-- a run that comes to its dump keeps a world for which `Led` holds
 abbrev pub KeepsLed : (WorldValue → Type 0) → Option WorldValue → Ending → Type 0
 KeepsLed Led kept Done = (w : WorldValue) × (kept ≡ Some w) × Led w
 KeepsLed Led kept (Stopped refused) = (w : WorldValue) × (kept ≡ Some w) × Led w

@@ -18,7 +18,8 @@ pub(super) fn open_rooms(
     left: &[Vec<Txn>],
 ) -> Result<Vec<VecDeque<Post>>, AllocError>
     ensures { IfOk result (λ rooms.
-        HaveRoom (map (λ jobs. length jobs.items) left.now) (map (λ room. deque_capacity room - deque_len room) rooms.items)) }
+        HaveRoom (map (λ jobs. length jobs.items) left.now)
+        (map (λ room. deque_capacity room - deque_len room) rooms.items)) }
 {
     let mut rooms = Vec::new(alloc);
     for jobs in left {

@@ -1,6 +1,6 @@
 // The steps of the leader.
 ghost use Rattle.std.specs.Prelude.{◌≡◌, ℕ, ◌<◌, ◌≤◌, [], length, map, slice_index_or};
-ghost use Rattle.sq_leader.specs.Segments.{is_told_whole};
+ghost use Rattle.sq_leader.specs.Segments.{is_marked_complete};
 ghost use Rattle.sq_leader.specs.declared.leader.Leader.{Leader};
 ghost use Rattle.sq_ranges.specs.declared.segment.TheConstants.{SEGMENT_LIMIT};
 ghost use Rattle.sq_ranges.specs.Prelude.{no_moves};
@@ -75,7 +75,7 @@ impl State {
     {
         match self.take_leader() {
             Leader::Moving(moving) => {
-                let whole = whole_segments(&self.trees);
+                let whole = complete_by_trees(&self.trees);
                 match Report::made(part, &self.old_plan, &self.recon, moving.stage(), &whole) {
                     Ok(report) => match moving.report(&report) {
                         Ok(moving) => self.go_on(Leader::Moving(moving)),
@@ -186,11 +186,11 @@ fn enter_all(cores: &mut [PartCore<RunStore>], stage: u64)
     }
 }
 
-// Which segments are whole, by their trees.
-fn whole_segments(trees: &[PlainTree]) -> [bool; SEGMENTS]
+// Which segments are complete, by their trees.
+fn complete_by_trees(trees: &[PlainTree]) -> [bool; SEGMENTS]
     requires { length trees.now ≤ SEGMENT_LIMIT }
     ensures { (seg : ℕ) → seg < length trees.now
-        → is_told_whole result seg ≡ is_complete_reading
+        → is_marked_complete result seg ≡ is_complete_reading
         (reading (status_at (slice_index_or trees.now seg [])) 1) }
 {
     let mut whole = [false; SEGMENTS];

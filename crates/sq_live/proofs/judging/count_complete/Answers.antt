@@ -3,7 +3,7 @@ use Rattle.std.specs.List.{range_with_len}
 use Rattle.std.proofs.lemmas.List.{take_all}
 use Rattle.std.proofs.lemmas.List.FromFn.{get_or-range_with_len, length-range_with_len}
 use Rattle.sq_ranges.specs.ReconValue.{stage_at}
-use Rattle.sq_leader.specs.Segments.{is_told_whole}
+use Rattle.sq_leader.specs.Segments.{is_marked_complete}
 use Rattle.sq_live.proofs.Counts.{counted_yes, counted_no}
 use Rattle.sq_live.proofs.judging.count_complete.Goals as goal
 use Rattle.sq_live.proofs.judging.count_complete.Goals.{then-is_counted, else-is_counted}
@@ -13,7 +13,7 @@ loop-number-preserved c =
     let recon = c.args.recon.now in
     let n = length recon.segments in
     let number = c.loop-number.number in
-    let p = λ (seg : ℕ). nat_lt (stage_at recon seg) c.args.stage || is_told_whole c.args.moved.now seg in
+    let p = λ (seg : ℕ). nat_lt (stage_at recon seg) c.args.stage || is_marked_complete c.args.moved.now seg in
     let within : number < length (range_with_len 0 n) = rw (length-range_with_len 0 n) (search rules) in
     let low : number < n = rw (← length-range_with_len 0 n) within in
     let at : get_or (range_with_len 0 n) number 0 ≡ number = get_or-range_with_len 0 n number 0 low ∙ omega arith in

@@ -3,7 +3,7 @@ use Rattle.std.proofs.lemmas.Result.{IfOk-weaker}
 use Rattle.sq_tree.specs.declared.status.Status.{Status}
 use Rattle.sq_ranges.specs.Opening.{IsOpening}
 use Rattle.sq_leader.specs.LeaderValue.{StageValue}
-use Rattle.sq_leader.specs.Segments.{is_told_whole}
+use Rattle.sq_leader.specs.Segments.{is_marked_complete}
 use Rattle.sq_node_model.specs.BeganWith.{BeganWith}
 use Rattle.sq_node_model.specs.Gathered.{GatheredValue}
 use Rattle.sq_node_model.specs.Spots.{AllGrown}
@@ -42,14 +42,14 @@ told g c moved marks began ready =
     }
 
 -- what the leader did, by what the account has
-led_next : (g : Over) (c : In-Next g) → Leads c.args.ready.account.opening c.args.ready.moving.stage (is_told_whole c.moved_segments-moved.result) (Next c.in-Next.moving)
-led_next g c = subst (λ (a : AccountValue). Leads a.opening c.args.ready.moving.stage (is_told_whole c.moved_segments-moved.result) (Next c.in-Next.moving)) c.account.view_is c.in-Next.ensures
+led_next : (g : Over) (c : In-Next g) → Leads c.args.ready.account.opening c.args.ready.moving.stage (is_marked_complete c.moved_segments-moved.result) (Next c.in-Next.moving)
+led_next g c = subst (λ (a : AccountValue). Leads a.opening c.args.ready.moving.stage (is_marked_complete c.moved_segments-moved.result) (Next c.in-Next.moving)) c.account.view_is c.in-Next.ensures
 
-led_end : (g : Over) (c : In-Ended g) → Leads c.args.ready.account.opening c.args.ready.moving.stage (is_told_whole c.moved_segments-moved.result) Ended
-led_end g c = subst (λ (a : AccountValue). Leads a.opening c.args.ready.moving.stage (is_told_whole c.moved_segments-moved.result) Ended) c.account.view_is c.in-Ended.ensures
+led_end : (g : Over) (c : In-Ended g) → Leads c.args.ready.account.opening c.args.ready.moving.stage (is_marked_complete c.moved_segments-moved.result) Ended
+led_end g c = subst (λ (a : AccountValue). Leads a.opening c.args.ready.moving.stage (is_marked_complete c.moved_segments-moved.result) Ended) c.account.view_is c.in-Ended.ensures
 
-led_missing : (g : Over) (c : In-Missing g) → Leads c.args.ready.account.opening c.args.ready.moving.stage (is_told_whole c.moved_segments-moved.result) Missing
-led_missing g c = subst (λ (a : AccountValue). Leads a.opening c.args.ready.moving.stage (is_told_whole c.moved_segments-moved.result) Missing) c.account.view_is c.in-Missing.ensures
+led_missing : (g : Over) (c : In-Missing g) → Leads c.args.ready.account.opening c.args.ready.moving.stage (is_marked_complete c.moved_segments-moved.result) Missing
+led_missing g c = subst (λ (a : AccountValue). Leads a.opening c.args.ready.moving.stage (is_marked_complete c.moved_segments-moved.result) Missing) c.account.view_is c.in-Missing.ensures
 
 pub moved_segments-moved-requires : goal.moved_segments-moved-requires
 moved_segments-moved-requires g c = subst AllGrown (sym (statuses g c)) (ran g c c.requires.ready.0 c.requires.ready.1).placed.fit.grown

@@ -1,5 +1,5 @@
 use Rattle.std.proofs.Common.{subst}
-use Rattle.sq_leader.specs.Segments.{is_told_whole}
+use Rattle.sq_leader.specs.Segments.{is_marked_complete}
 use Rattle.sq_stages.specs.Leading.{Leads}
 use Rattle.sq_stages.proofs.Leading.{goes_on, stays_between, same_stage}
 use Rattle.sq_stages.proofs.leader.lead_on.Goals as goal
@@ -13,6 +13,6 @@ returns-in-NotFinished c =
 
 pub returns-in-LastStage : goal.returns-in-LastStage
 returns-in-LastStage c =
-    subst (λ stage. Leads c.args.opening.now stage (is_told_whole c.args.whole.now) c.end_move.result)
+    subst (λ stage. Leads c.args.opening.now stage (is_marked_complete c.args.whole.now) c.end_move.result)
     (same_stage c.args.opening.now c.args.moving.stage c.args.whole.now c.hear_reports.result c.hear_reports.ensures.heard c.in-Err.refused c.in-Err.ensures.answer)
     c.end_move.ensures
