@@ -1,5 +1,5 @@
 -- Jobs with their ids, and one more whose id is new.
-use Rattle.std.proofs.Common.{◌≡◌, ⊎_elim, ◌⊎◌, inl, inr, ℕ, zero, suc, ◌<◌, ◌==◌, ◌||◌, Bool, true, false, List, [], ◌∷◌, ◌++◌, length, slice_get, Some, refl, sym, ap, ◌∙◌, arith, true≢false, eq-eqb}
+use Rattle.std.proofs.Common.{◌≡◌, ⊎_elim, ◌⊎◌, inl, inr, ℕ, zero, suc, ◌<◌, ◌≤◌, ◌==◌, ◌||◌, Bool, true, false, List, [], ◌∷◌, ◌++◌, length, slice_get, Some, refl, sym, ap, ◌∙◌, arith, true≢false, eq-eqb}
 use Rattle.std.specs.Ordering.{nat_cmp}
 use Rattle.std.specs.BTreeSet.{BTreeSet, contains, Updates}
 use Rattle.std.specs.Cmp.{unsigned_tied}
@@ -23,16 +23,17 @@ last_or (z ∷ zs) x y (suc i) at = ⊎_elim (λ before. inl before) (λ last. i
 pub its_id : (jobs : List Job) (job : Job) (i id : ℕ) → slice_get jobs i ≡ Some job → job.txn.id ≡ id → has_id id jobs ≡ true
 its_id jobs job i id at is = list_any-Contains (λ (j : Job). j.txn.id == id) jobs job (Contains-slice_get jobs i job at) (eq-eqb job.txn.id id is)
 
-module _ (jobs : List Job) (old new : BTreeSet ℕ) (job : Job) (has : HasIds jobs old) (fresh : contains nat_cmp old job.txn.id ≡ false) where
+-- one more job whose id is new
+module _ (jobs : List Job) (job : Job) (fresh : has_id job.txn.id jobs ≡ false) (differ : IdsDiffer jobs) where
   unlike : (i : ℕ) (other : Job) → slice_get jobs i ≡ Some other → other.txn.id ≡ job.txn.id → ⊥
-  unlike i other at same = true≢false (sym (its_id jobs other i job.txn.id at same) ∙ sym (has.each job.txn.id) ∙ fresh)
+  unlike i other at same = true≢false (sym (its_id jobs other i job.txn.id at same) ∙ fresh)
 
-  differ : IdsDiffer (jobs ++ job ∷ [])
-  differ i j one other at also same =
+  pub differ_then : IdsDiffer (jobs ++ job ∷ [])
+  differ_then i j one other at also same =
       ⊎_elim
       (λ first.
       ⊎_elim
-      (λ second. has.differ i j one other first second same)
+      (λ second. differ i j one other first second same)
       (λ second. absurd (unlike i one first (same ∙ ap (λ (x : Job). x.txn.id) second.1)))
       (last_or jobs job other j also))
       (λ first.
@@ -42,6 +43,16 @@ module _ (jobs : List Job) (old new : BTreeSet ℕ) (job : Job) (has : HasIds jo
       (last_or jobs job other j also))
       (last_or jobs job one i at)
 
+-- there is room for one more job
+pub few_then : (jobs : List Job) (job : Job) → length jobs < MAX_JOBS → length (jobs ++ job ∷ []) ≤ MAX_JOBS
+few_then jobs job below = let grown = length-append jobs (job ∷ []) in omega (arith, grown, below)
+
+-- jobs that aren't as many as there may be are fewer
+pub below_most : (jobs : List Job) → length jobs ≤ MAX_JOBS → (length jobs == MAX_JOBS) ≡ false → length jobs < MAX_JOBS
+below_most jobs few room =
+    ⊎_elim (λ full. absurd (true≢false (sym (eq-eqb (length jobs) MAX_JOBS full) ∙ room))) (λ apart. omega (arith, few, apart)) (cases_eq (length jobs) MAX_JOBS)
+
+module _ (jobs : List Job) (old new : BTreeSet ℕ) (job : Job) (has : HasIds jobs old) (fresh : contains nat_cmp old job.txn.id ≡ false) where
   with_last : (id : ℕ) → has_id id (jobs ++ job ∷ []) ≡ (has_id id jobs || ((job.txn.id == id) || false))
   with_last id = list_any-append (λ (j : Job). j.txn.id == id) jobs (job ∷ [])
 
@@ -64,7 +75,8 @@ module _ (jobs : List Job) (old new : BTreeSet ℕ) (job : Job) (has : HasIds jo
     -- the ids of the jobs and of the one more
     pub ids_then : (length jobs == MAX_JOBS) ≡ false → HasIds (jobs ++ job ∷ []) new
     ids_then room =
-        let grown = length-append jobs (job ∷ []) in
-        let few = has.few in
-        let below : length jobs < MAX_JOBS = ⊎_elim (λ full. absurd (true≢false (sym (eq-eqb (length jobs) MAX_JOBS full) ∙ room))) (λ apart. omega (arith, few, apart)) (cases_eq (length jobs) MAX_JOBS) in
-        record { differ = differ; each = each; few = omega (arith, grown, below) }
+        record {
+          differ = differ_then jobs job (sym (has.each job.txn.id) ∙ fresh) has.differ;
+          each = each;
+          few = few_then jobs job (below_most jobs has.few room);
+        }

@@ -1,5 +1,6 @@
 mod JobIds
 mod JobRuns
+mod SpelledJobs
 mod Counts
 mod LiveRuns
 mod Moved

@@ -1,6 +1,7 @@
 pub mod Faults
 pub mod Jobs
 pub mod JobLines
+pub mod SpelledJobs
 pub mod Account
 pub mod Outcome
 pub mod Stages

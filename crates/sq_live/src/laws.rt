@@ -1,5 +1,5 @@
 //! What holds of live runs. The functions do nothing: each states a law, which the checker proves.
-ghost use Rattle.std.specs.Prelude.{◌≡◌, ℕ, Bool, List};
+ghost use Rattle.std.specs.Prelude.{◌≡◌, ◌↔◌, ℕ, Bool, List, [], Ok, Err};
 ghost use Rattle.sq_lines.specs.Pieces.{PieceValue};
 ghost use Rattle.sq_ranges.specs.Prelude.{OpeningValue};
 ghost use Rattle.sq_pull.specs.declared.numbers.TheConstants.{MAX_OWNERS, MAX_PUMPS, MAX_CLAIMS};
@@ -8,6 +8,9 @@ ghost use Rattle.sq_node.specs.declared.fabric.TheConstants.{REQUEST_PLACES, JOB
 ghost use Rattle.sq_audit.specs.declared.job.Job.{Job};
 ghost use Rattle.sq_live.specs.declared.job_list.TheConstants.{MAX_JOBS};
 ghost use Rattle.sq_live.specs.declared.outcome.LiveOutcome.{LiveOutcome};
+ghost use Rattle.sq_live.specs.declared.fault.LiveFault.{LiveFault};
+ghost use Rattle.sq_live.specs.JobLines.{jobs_in};
+ghost use Rattle.sq_live.specs.SpelledJobs.{SpellJobs, EndInFault};
 ghost use Rattle.sq_live.specs.Live.{WereRun, EndsLive};
 ghost use Rattle.sq_live.specs.WholeRun.{MeetsPlan, AreRunAsPlanned, sound_ending};
 
@@ -30,4 +33,14 @@ pub fn a_sound_run_ends_where_planned()
     ensures input { (folds : Bool) (tables : ℕ) (given : List PieceValue) (families committed : ℕ)
         → EndsLive folds tables given (sound_ending families committed)
         → AreRunAsPlanned folds tables given families committed }
+{}
+
+/// The jobs of an input are those that its lines spell, one each, and there are just such jobs where each is for a
+/// partition that there is, no two have one id, and there are at most [`MAX_JOBS`](crate::MAX_JOBS). Else the lines before
+/// one spell jobs, and the fault is that of this one: what each fault says of it rules out those that come before.
+pub fn lines_spell_jobs_or_the_first_has_a_fault()
+    ensures jobs { (tables parts : ℕ) (pieces : List PieceValue) (jobs : List Job)
+        → (jobs_in tables parts [] pieces ≡ Ok jobs) ↔ SpellJobs tables parts pieces jobs }
+    ensures fault { (tables parts : ℕ) (pieces : List PieceValue) (fault : LiveFault)
+        → jobs_in tables parts [] pieces ≡ Err fault → EndInFault tables parts pieces fault }
 {}
