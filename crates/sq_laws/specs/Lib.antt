@@ -1,0 +1,4 @@
+pub mod Says
+pub mod Stages
+pub mod Rows
+pub mod Cuts
