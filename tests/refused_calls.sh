@@ -33,7 +33,7 @@
 # is gathered in the end is always the same.
 #
 # The workers of `engine` and `chain` run in threads, so that an allocation of the same number isn't always of the same call: of each
-# call several numbers are tried.
+# call several numbers are tried, and all in between where none of them refused an allocation of each.
 set -eu
 . "$(dirname "$0")/lib.sh"
 room=$(mktemp -d)
@@ -77,12 +77,40 @@ make_inputs() {
     done
 }
 
-# Gives the program the inputs, and leaves what it wrote for each in a file, which is empty where it wrote nothing.
+# lacks_one CALL RUN WORDS..: whether no input that was tried refused an allocation of one of these.
+lacks_one() {
+    local call=$1 run=$2 what
+    shift 2
+    for what; do
+        if ! cat "$room/outputs/$call.$run".* | grep -q -x "refused $what"; then return 0; fi
+    done
+    return 1
+}
+
+# What is tried: of a call that runs in threads all numbers between the least and the most where one of its allocations isn't refused
+# in an input of `tries`. Those are made.
+widened_tries() {
+    local call run ranges words
+    while read -r call run ranges words; do
+        # shellcheck disable=SC2086
+        case $call in engine | chain)
+            if lacks_one "$call" "$run" $words; then
+                ranges=${ranges%%-*}-${ranges##*-}
+                make_inputs "$call" "$run" "$ranges"
+            fi ;;
+        esac
+        echo "$call $run $ranges $words"
+    done < <(tries)
+}
+
+# Gives the program the inputs, and leaves what it wrote for each in a file, which is empty where it wrote nothing. Those that
+# it was given are away then.
 run_inputs() {
     (cd "$room/crates/refused_calls" && rt try --steps 1 --cases "$room/inputs" --fail-alloc "$failing") \
         > "$room/written" 2> "$room/told" || { cat "$room/told" >&2; exit 1; }
     awk -v folder="$room/outputs/" '/^== / { close(file); file = folder $2; printf "" > file; next } { print > file }' \
         "$room/written"
+    rm -f "$room"/inputs/*
 }
 
 # --- what is wanted of steps, a list and a store ---
@@ -243,9 +271,11 @@ check() {
 make_program
 while read -r call run ranges _; do make_inputs "$call" "$run" "$ranges"; done < <(tries)
 run_inputs
+widened_tries > "$room/tries"
+if [ -n "$(ls "$room/inputs")" ]; then run_inputs; fi
 while read -r call run ranges words; do
     # shellcheck disable=SC2086
     check "$call" "$run" "$ranges" $words
-done < <(tries)
+done < "$room/tries"
 echo "$passed refused allocations of calls passed, $failed failed"
 [ "$failed" = 0 ]
