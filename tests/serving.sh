@@ -363,6 +363,27 @@ served_full_queue() {
     count 'serve: a full queue' "$why$(miscounted "$room/jobs" "$room/out")$([ "$ended" = 0 ] || echo "status $ended; ")$(difference "$room/wanted" "$room/told")"
 }
 
+# Of 300,000 jobs for one partition 65,536 may wait beside its queue, which holds 4,096, and no line is taken while so many do: so half of
+# them are answered before the line behind them is read. All are answered.
+served_full_sides() {
+    local open plan='{"version":1,"partitions":2,"ranges":[[0,50000,OWNER],[50000,4294967296,0]]}'
+    {
+        printf '%s\n' "plan ${plan/OWNER/0}" 'config 64 64 1'
+        seq -f 'row %.0f 0 0 1 -' 0 49999
+        echo "move ${plan/OWNER/1}"
+        seq 1 300000 | awk '{ print "txn 1", $1, $1 * 7919 % 50000, "get 0 0" }'
+        echo 'status'
+    } > "$room/jobs"
+    give "$room/jobs" serve
+    open=$(sed -n -E 's/^(moving [0-9]* of 25 segments|at rest), ([0-9]*) jobs open$/\2/p' "$room/out")
+    if [ "${open:-150000}" -ge 150000 ]; then why="$open jobs open; "; else why=; fi
+    grep -c '^commit ' "$room/out" > "$room/told" || true
+    tail -n 1 "$room/out" >> "$room/told"
+    printf '%s\n' 300000 'sound 50000 families 300000 committed' > "$room/wanted"
+    count 'serve: no more wait beside queues than there is room for' \
+        "$why$(miscounted "$room/jobs" "$room/out")$([ "$ended" = 0 ] || echo "status $ended; ")$(difference "$room/wanted" "$room/told")"
+}
+
 # With only some threads, counted over all its epochs, the engine does all, or ends with the fault 222 behind answers that it would have
 # given anyway; it never waits for ever. Without a thread it can't even read, and with 60 it does all.
 served_without_threads() {
@@ -498,6 +519,7 @@ try_serve() {
     served_many_lines
     served_slow_client
     served_full_queue
+    served_full_sides
     served_status
     served_without_threads
     served_reports
