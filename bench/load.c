@@ -19,6 +19,7 @@
 //               yet asks for them, and one that comes where they still are is done there (0)
 //   sweep=1     once a third of JOBS is posted after the move began, a job is posted for each root key that moves: without pumps a move
 //               ends so (0)
+//   limit=N     a move that isn't done N seconds after it was asked for is given up, and the engine is killed; 0 for no limit (0)
 //   manner=HOW  live: jobs are posted while rows move (what is done if left out);
 //               stop: none is, from the answer of the last one before the move on until all rows have moved
 //   series=FILE for each 10 milliseconds a line: their number, how many answers came, and of those the median, the 99th part in
@@ -31,12 +32,14 @@
 // It prints a line for the time before, during and after the move, as the script that calls it takes it apart: seconds, answers,
 // answers a second, the median, the 99th part in a hundred and the longest of the waiting times of the jobs that became due
 // then, and the longest time without an answer, all in milliseconds. Where there is a sweep, the time from its begin to the end of the
-// move has a line of its own. It ends with 1 where a job has no answer, has two, or isn't
-// committed, and where the engine doesn't end with 0.
+// move has a line of its own. Where a move was given up, `unmoved` stands for `during`, there is no time after it, and jobs without an
+// answer have waited until then. It ends with 1 where a job has no answer, has two, or isn't committed, and where the engine doesn't end
+// with 0; and with 3 where a move was given up.
 #define _GNU_SOURCE
 #include <fcntl.h>
 #include <math.h>
 #include <pthread.h>
+#include <signal.h>
 #include <stdatomic.h>
 #include <stdint.h>
 #include <stdio.h>
@@ -56,9 +59,9 @@ struct job {
 };
 
 static uint64_t parts = 4, roots = 100000, count_of_jobs = 1200000, hot = 50, window = 16384, width, size;
-static double rate, started;
+static double rate, limit, started;
 static char *chunk = "65536", *pumps = "1", *fold = "262144", *series;
-static int in_stages, moves_half, stops, sweeps, ahead;
+static int in_stages, moves_half, stops, sweeps, ahead, is_late;
 
 static struct job *jobs;
 static uint64_t most, posted, first;
@@ -146,13 +149,20 @@ static void plan(FILE *to, int moved, int stages) {
     fprintf(to, "[%llu,%llu,0]]}\n", (unsigned long long)from, (unsigned long long)key_end);
 }
 
-// Posts a job for a root key, once it is due where there is a rate.
+// Whether a move is to be given up.
+static int late(void) {
+    if (limit > 0 && move_at > 0 && !has_moved && now() - move_at > limit) is_late = 1;
+    return is_late;
+}
+
+// Posts a job for a root key, once it is due where there is a rate; not where a move is given up.
 static void post_for(uint64_t root) {
     double due;
     if (rate == 0 && posted - answered >= window) {
         fflush(engine);
-        while (posted - answered >= window && !faults) usleep(20);
+        while (posted - answered >= window && !faults && !late()) usleep(20);
     }
+    if (late()) return;
     due = now();
     if (rate > 0) {
         due = started + (double)(posted - first) / rate;
@@ -174,7 +184,7 @@ static void post(const double *sums) { post_for(dice(100) < hot ? zipf(sums, siz
 static void sweep(void) {
     uint64_t root;
     swept_from = now();
-    for (root = 0; root < size * parts; root++)
+    for (root = 0; root < size * parts && !is_late; root++)
         if (owner(root, 0) != owner(root, 1)) post_for(root);
 }
 
@@ -218,6 +228,14 @@ static void tell(const char *name, double from, double to) {
 static int by_answer(const void *left, const void *right) {
     double a = ((const struct job *)left)->answered, b = ((const struct job *)right)->answered;
     return (a > b) - (a < b);
+}
+
+// Has the time of a move that is given up end now, until which jobs without an answer have waited.
+static void give_up(void) {
+    uint64_t id;
+    moved_at = now();
+    for (id = 0; id < posted; id++)
+        if (jobs[id].answered == 0) jobs[id].answered = moved_at;
 }
 
 // Writes the series of intervals.
@@ -281,6 +299,7 @@ static void read_word(char *word) {
     else if (is(word, "pumps", &value)) pumps = value;
     else if (is(word, "fold", &value)) fold = value;
     else if (is(word, "ahead", &value)) ahead = atoi(value);
+    else if (is(word, "limit", &value)) limit = strtod(value, NULL);
     else if (is(word, "sweep", &value)) sweeps = atoi(value);
     else if (is(word, "manner", &value)) stops = strcmp(value, "stop") == 0;
     else if (is(word, "series", &value)) series = value;
@@ -303,6 +322,8 @@ int main(int count, char **words) {
     sums = room(size, sizeof *sums);
     for (root = 0; root < size; root++) sums[root] = (root ? sums[root - 1] : 0) + pow((double)(root + 1), -0.99);
     child = start(words[1]);
+    // An engine that was killed reads no more.
+    signal(SIGPIPE, SIG_IGN);
     fprintf(engine, "plan ");
     plan(engine, 0, 0);
     fprintf(engine, "config %llu %s 64\n", (unsigned long long)(width ? width : size / 32 / 8 + 1), chunk);
@@ -321,25 +342,29 @@ int main(int count, char **words) {
     fflush(engine);
     move_at = now();
     if (ahead) goes_new = 1;
-    for (id = posted; sweeps && !has_moved && posted - id < third;) post(sums);
-    if (sweeps) sweep();
-    while (!has_moved && posted < most - third)
+    for (id = posted; sweeps && !has_moved && !is_late && posted - id < third;) post(sums);
+    if (sweeps && !has_moved && !is_late) sweep();
+    while (!has_moved && !is_late && posted < most - third)
         if (stops) usleep(50);
         else post(sums);
-    for (id = 0; id < third; id++) post(sums);
+    for (id = 0; id < third && !is_late; id++) post(sums);
+    if (is_late) kill(child, SIGKILL);
     fclose(engine);
     pthread_join(reader, NULL);
     if (waitpid(child, &status, 0) < 0) fail("no status");
+    if (is_late) give_up();
     for (id = 0; id < posted; id++) {
         if (jobs[id].answered == 0) faults++;
         if (jobs[id].answered > end) end = jobs[id].answered;
     }
     tell(phase_names[BEFORE], started, move_at);
-    if (sweeps && swept_from < moved_at) {
+    if (is_late) tell("unmoved", move_at, moved_at);
+    else if (sweeps && swept_from > 0 && swept_from < moved_at) {
         tell(phase_names[DURING], move_at, swept_from);
         tell("sweep", swept_from, moved_at);
     } else tell(phase_names[DURING], move_at, moved_at);
-    tell(phase_names[AFTER], moved_at, end);
+    if (!is_late) tell(phase_names[AFTER], moved_at, end);
     if (series) write_series();
+    if (is_late) return 3;
     return faults != 0 || status != 0;
 }

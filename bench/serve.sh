@@ -14,14 +14,16 @@
 # move.
 #
 # Then jobs for any root key, of MANY families (999000, since a header has a million lines at most), half of which move, in the same two
-# ways; and with a stop. Last, pages are smaller: PAGES says after how many answers one is taken (32768; several figures are tried one by
-# one), and both moves are made in both ways, in chunks of 8 KiB.
+# ways; in chunks of 8 KiB, 64 KiB and 1 MiB, and with a stop. Last, pages are smaller: PAGES has after how many answers one is taken
+# (65536, 32768 and 16384), and this move is made in both ways, in chunks of 8 KiB.
 #
 # The program is crates/squall/out/squall, which `rt run` leaves in crates/squall; SQUALL=PATH takes another. It has a pump at least. With
-# DEMAND=PATH of a build whose `serve` takes `--pumps 0` the first move is made by that build too, in the same two ways: with a pump, and on
-# demand alone. Jobs then go where the new plan says as soon as the move is asked for, since only a job that comes where its rows aren't yet
-# asks for them. Without a pump, where rows are left once JOBS / 3 jobs are posted after that, one is posted for each root key that moves
-# (the sweep). Leaves are so wide that each of the three ranges that move is one segment with root keys in each of its 32 leaves.
+# DEMAND=PATH of a build whose `serve` takes `--pumps 0` (in crates/sq_command/src/serve.rt `0..=MAX_PUMPS`, and `0` in `number_of`) both
+# moves are made by that build too, in the same two ways: with a pump, and on demand alone. Jobs then go where the new plan says as soon as
+# the move is asked for, since only a job that comes where its rows aren't yet asks for them. Without a pump, where rows are left once JOBS
+# / 3 jobs are posted after that, one is posted for each root key that moves (the sweep). Leaves are so wide that each of the three ranges
+# that move is one segment with root keys in each of its 32 leaves. A move on demand alone that isn't done in 10 seconds is given up, and
+# its waiting times are those until then.
 # A C compiler, cc, has to be there.
 set -eu
 export LC_ALL=C
@@ -36,10 +38,13 @@ room=$(mktemp -d)
 trap 'rm -r "$room"' EXIT
 cc -O2 -o "$room/load" "$top/bench/load.c" -lm -lpthread
 
-# run NAME WORD..: a run, whose three lines go into $room/NAME, and whose series goes into $room/NAME.series.
+# run NAME WORD..: a run, whose three lines go into $room/NAME, and whose series goes into $room/NAME.series. Load ends with 3 where a move
+# was given up.
 run() {
+    local status=0
     echo "$1: ${*:2}" >&2
-    timeout 60 "$room/load" "$squall" "${@:2}" "series=$room/$1.series" > "$room/$1"
+    timeout 60 "$room/load" "$squall" "${@:2}" "series=$room/$1.series" > "$room/$1" || status=$?
+    if [ "$status" != 0 ] && [ "$status" != 3 ]; then return "$status"; fi
 }
 
 # rate_of NAME PHASE: answers a second in a phase of a run.
@@ -66,7 +71,7 @@ table() {
             function ms(time) { return sprintf(time >= 10 ? "%.0f" : time >= 1 ? "%.1f" : "%.2f", time) }
             function add(at, word) { figure[at] = figure[at] (figure[at] == "" ? "" : ", ") word }
             { add(1, sprintf("%.0f", $4 / 1000)); for (at = 5; at <= 7; at++) add(at, $7 == 0 ? "-" : ms($at)); add(8, ms($8)) }
-            $1 != "before" && $1 != "after" { add(2, sprintf("%.2f", $2)) }
+            $1 != "before" && $1 != "after" { add(2, sprintf($1 == "unmoved" ? "over %.0f" : "%.2f", $2)) }
             END { printf "| %s | %s | %s | %s | %s | %s | %s |\n", form, figure[1], figure[2], figure[5], figure[6], figure[7], figure[8] }
             ' "$room/${each%%:*}"
     done
@@ -101,40 +106,45 @@ done <<< "$forms"
 many_words=("roots=$many" "jobs=$jobs" hot=0 moves=half)
 run many-8k "${many_words[@]}" chunk=8192
 run many-64k "${many_words[@]}" chunk=65536
+run many-1m "${many_words[@]}" chunk=1048576
 many_rate=$(half_of "$(rate_of many-64k before)")
 run many-8k-half "${many_words[@]}" chunk=8192 "rate=$many_rate"
 run many-64k-half "${many_words[@]}" chunk=65536 "rate=$many_rate"
+run many-1m-half "${many_words[@]}" chunk=1048576 "rate=$many_rate"
 run many-stop "${many_words[@]}" chunk=65536 manner=stop
 run many-stop-half "${many_words[@]}" chunk=65536 manner=stop "rate=$many_rate"
 
 # The same with smaller pages.
 pages=()
-for fold in ${PAGES:-32768}; do
-    small=(chunk=8192 "fold=$fold")
-    run "full-page-$fold" "roots=$roots" "jobs=$jobs" "${small[@]}"
-    run "half-page-$fold" "roots=$roots" "jobs=$jobs" "${small[@]}" "rate=$rate"
-    run "many-page-$fold" "${many_words[@]}" "${small[@]}"
-    run "many-page-$fold-half" "${many_words[@]}" "${small[@]}" "rate=$many_rate"
-    pages+=("full-page-$fold:a hot partition, pages of $fold" "half-page-$fold:the same, $rate a second"
-        "many-page-$fold:half of all families, pages of $fold" "many-page-$fold-half:the same, $many_rate a second")
+for fold in ${PAGES:-65536 32768 16384}; do
+    run "many-page-$fold" "${many_words[@]}" chunk=8192 "fold=$fold"
+    run "many-page-$fold-half" "${many_words[@]}" chunk=8192 "fold=$fold" "rate=$many_rate"
+    pages+=("many-page-$fold:pages of $fold" "many-page-$fold-half:the same, $many_rate a second")
 done
 
-# The first move by the other build.
+# Both moves by the other build.
 demand=()
 if [ -n "${DEMAND:-}" ]; then
     squall=$DEMAND
     hot_words=("roots=$roots" "jobs=$jobs" "width=$(((roots / 24 + 31) / 32))" ahead=1)
+    alone=(pumps=0 sweep=1 limit=10)
     run full-pump "${hot_words[@]}"
-    run full-demand "${hot_words[@]}" pumps=0 sweep=1
+    run full-demand "${hot_words[@]}" "${alone[@]}"
     run half-pump "${hot_words[@]}" "rate=$rate"
-    run half-demand "${hot_words[@]}" "rate=$rate" pumps=0 sweep=1
-    demand=('full-pump:as many as it takes, a pump' 'full-demand:as many as it takes, on demand' "half-pump:$rate a second, a pump"
-        "half-demand:$rate a second, on demand")
+    run half-demand "${hot_words[@]}" "rate=$rate" "${alone[@]}"
+    run many-pump "${many_words[@]}" ahead=1
+    run many-demand "${many_words[@]}" ahead=1 "${alone[@]}"
+    run many-pump-half "${many_words[@]}" ahead=1 "rate=$many_rate"
+    run many-demand-half "${many_words[@]}" ahead=1 "rate=$many_rate" "${alone[@]}"
+    demand=('full-pump:a hot partition, a pump' 'full-demand:a hot partition, on demand'
+        "half-pump:$rate a second, a pump" "half-demand:$rate a second, on demand"
+        'many-pump:half of all families, a pump' 'many-demand:half of all families, on demand'
+        "many-pump-half:$many_rate a second, a pump" "many-demand-half:$many_rate a second, on demand")
 fi
 
 # The runs by what moves and by the rate; those with a stop stand last.
 hot=("${full[@]%%:*}") hot_half=("${slow[@]%%:*}")
-all=(many-8k many-64k many-stop) all_half=(many-8k-half many-64k-half many-stop-half)
+all=(many-8k many-64k many-1m many-stop) all_half=(many-8k-half many-64k-half many-1m-half many-stop-half)
 {
     echo "# What a move costs those who use an engine"
     echo
@@ -151,18 +161,18 @@ all=(many-8k many-64k many-stop) all_half=(many-8k-half many-64k-half many-stop-
     echo
     echo "## Half of $many families move, as many jobs as the engine takes"
     echo
-    table 'many-8k:chunks of 8 KiB' 'many-64k:chunks of 64 KiB' 'many-stop:64 KiB, no job while rows move'
+    table 'many-8k:chunks of 8 KiB' 'many-64k:chunks of 64 KiB' 'many-1m:chunks of 1 MiB' 'many-stop:64 KiB, no job while rows move'
     echo
     echo "## The same at $many_rate jobs a second"
     echo
-    table 'many-8k-half:chunks of 8 KiB' 'many-64k-half:chunks of 64 KiB' 'many-stop-half:64 KiB, no job while rows move'
+    table 'many-8k-half:chunks of 8 KiB' 'many-64k-half:chunks of 64 KiB' 'many-1m-half:chunks of 1 MiB' 'many-stop-half:64 KiB, no job while rows move'
     echo
-    echo "## Smaller pages, chunks of 8 KiB"
+    echo "## Half of $many families move in chunks of 8 KiB, smaller pages"
     echo
     table "${pages[@]}"
     if [ "${#demand[@]}" != 0 ]; then
         echo
-        echo "## The hot partition by a build that takes no pump, chunks of 64 KiB"
+        echo "## Both moves by a build that takes no pump, chunks of 64 KiB"
         echo
         table "${demand[@]}"
     fi
@@ -172,22 +182,20 @@ all=(many-8k many-64k many-stop) all_half=(many-8k-half many-64k-half many-stop-
     echo '| What | Here | Goal |'
     echo '|---|---|---|'
     goal 'answers a second at rest' "$(range 4 'before after' "${hot[@]}" "${all[@]}")" 500000
-    goal "answers a second while half of $many families move, of those before, 8 KiB and 64 KiB" \
-        "$(share_of many-8k) %, $(share_of many-64k) %" '60 %'
+    goal "answers a second while half of $many families move, of those before, 8 KiB, 64 KiB and 1 MiB" \
+        "$(share_of many-8k) %, $(share_of many-64k) %, $(share_of many-1m) %" '60 %'
     goal 'no answer for, at rest, a hot partition' \
         "$(range 8 'before after' "${hot[@]}"), $(range 8 'before after' "${hot_half[@]}") at half the rate" '100 ms'
     goal "the same, $many families" "$(range 8 'before after' "${all[@]}"), $(range 8 'before after' "${all_half[@]}") at half the rate" '100 ms'
     goal 'in moves, a hot partition' "$(range 8 during "${hot[@]:0:5}"), $(range 8 during "${hot_half[@]:0:5}") at half the rate" '100 ms'
-    goal "the same, half of $many families" "$(range 8 during "${all[@]:0:2}"), $(range 8 during "${all_half[@]:0:2}") at half the rate" '100 ms'
-    for fold in ${PAGES:-32768}; do
-        hot_page=("full-page-$fold" "half-page-$fold") all_page=("many-page-$fold" "many-page-$fold-half")
-        goal "pages of $fold, at rest, a hot partition" "$(range 8 'before after' "${hot_page[@]}")" '100 ms'
-        goal "the same, $many families" "$(range 8 'before after' "${all_page[@]}")" '100 ms'
-        goal "pages of $fold, in moves, both" "$(range 8 during "${hot_page[@]}" "${all_page[@]}")" '100 ms'
-        goal "pages of $fold, 99 of 100 waiting times in a move at half the rate, both" "$(range 6 during "${hot_page[1]}" "${all_page[1]}")" '5 ms'
+    goal "the same, half of $many families" "$(range 8 during "${all[@]:0:3}"), $(range 8 during "${all_half[@]:0:3}") at half the rate" '100 ms'
+    for fold in ${PAGES:-65536 32768 16384}; do
+        goal "pages of $fold, at rest" "$(range 8 'before after' "many-page-$fold"), $(range 8 'before after' "many-page-$fold-half") at half the rate" '100 ms'
+        goal "pages of $fold, in moves" "$(range 8 during "many-page-$fold"), $(range 8 during "many-page-$fold-half") at half the rate" '100 ms'
+        goal "pages of $fold, 99 of 100 waiting times in a move at half the rate" "$(range 6 during "many-page-$fold-half")" '5 ms'
     done
     goal '99 of 100 waiting times in a move at half the rate, a hot partition' "$(range 6 during "${hot_half[@]:0:5}")" '5 ms'
-    goal "the same, half of $many families" "$(range 6 during "${all_half[@]:0:2}")" '5 ms'
+    goal "the same, half of $many families" "$(range 6 during "${all_half[@]:0:3}")" '5 ms'
 } > "$folder/serve.md"
 
 # The picture, from the series that stay beside it.
