@@ -16,8 +16,8 @@ use std::io::Write;
 use std::sync::Wait;
 use std::thread::Threads;
 
-/// Continues after an epoch: says where a move is done, and does what the epoch ended for. That may take long, so all that was
-/// written goes out before.
+/// Continues after an epoch: says where a move is done, and does what the epoch ended for. All that was written goes out before,
+/// since the wish may take long.
 pub(crate) fn go_on<T: Threads + Wait + Sync, W: Write + Drop, V: ServeWatch>(
     rt: &T,
     alloc: Global,

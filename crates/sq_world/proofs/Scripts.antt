@@ -36,7 +36,7 @@ use Rattle.sq_world.specs.Run.{Writes, GoesOnBehind, IsDumped, IsFault, EndsAtFa
 use Rattle.sq_world.specs.Script.{LeadsTo, AreSpelled, Continues, IsAnswered, EndsWithDump, IsWritten, AnswersWorld, RunsScript}
 use Rattle.sq_state.proofs.Dumps.{nothing}
 
--- a line goes on with a step that it spells, or with none
+-- a line appends a step that it spells, or none
 line_spelled : (echoes : Bool) (o : OpeningValue) (t : Trace) (line : List ℕ) (after : Trace) (text : List ℕ) (refused : Option ℕ) → AnswersLine echoes o t line after text refused → AreSpelled o.tables t → AreSpelled o.tables after
 line_spelled echoes o t line after text refused (inl is) so_far = subst (AreSpelled o.tables) (sym is.goes_on) ((line, is.spelled), so_far)
 line_spelled echoes o t line after text refused (inr (inl is)) so_far = subst (AreSpelled o.tables) (sym is.stays) so_far
