@@ -60,7 +60,7 @@ spaces_of() {
 make_program() {
     local uses file
     tar -C "$top" --exclude=out -cf - HANDLES crates | tar -C "$room" -xf -
-    uses=$(sed -nE 's/^(sq_tests|sq_thread_tests) [^:]*: //p' "$top/crates.txt" | tr ' ' '\n' | sort -u | tr '\n' ' ')
+    uses=$(sed -nE 's/^(sq_tests|sq_thread_tests|sq_engine_tests) [^:]*: //p' "$top/crates.txt" | tr ' ' '\n' | sort -u | tr '\n' ' ')
     { cat "$top/crates.txt"; echo "refused_calls: $uses"; } > "$room/crates.txt"
     mkdir -p "$room/crates/refused_calls/src" "$room/inputs" "$room/outputs"
     for file in "$tests"/programs/refused_calls/*.rt.txt; do

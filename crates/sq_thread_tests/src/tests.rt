@@ -10,4 +10,3 @@ mod round;
 mod run;
 mod stages;
 mod text;
-mod there_and_back;

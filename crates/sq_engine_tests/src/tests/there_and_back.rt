@@ -1,11 +1,14 @@
 // The caller of an engine that docs/guide/library.md shows.
-use super::run::read_opening;
 use sq_audit::Verdict;
 use sq_engine::Closed;
 use sq_examples::engine::go_there_and_back;
+use sq_lines::LineReader;
 use sq_plan::Plan;
-use sq_schema::{Root, RowKey};
+use sq_ranges::Opening;
+use sq_schema::{Root, RowKey, Schema};
 use sq_store::FamilyStore;
+use sq_text::read_header;
+use std::alloc::Global;
 use std::test::Fail;
 
 // Two partitions and ten root keys, with the number 0 each, between which nothing moves.
@@ -26,6 +29,13 @@ row 9 0 0 0 -
 
 // Root keys 2 to 4 go to partition 1.
 const THERE: &[u8] = br#"{"version":1,"partitions":2,"ranges":[[0,2,0],[2,4294967296,1]]}"#;
+
+// The opening of a header.
+fn read_opening(alloc: Global, header: &str) -> Result<Opening, Fail> {
+    let schema = Schema::new(8).ok_or("8 tables are a schema")?;
+    let mut lines = LineReader::new(alloc, header.as_bytes())?;
+    Ok(read_header(alloc, schema, &mut lines)?)
+}
 
 // Each of two threads has 1,000 jobs answered, which add 1 to the number of a root key, to each of ten in turn.
 #[test]
