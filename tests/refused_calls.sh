@@ -104,9 +104,9 @@ widened_tries() {
 }
 
 # Gives the program the inputs, and leaves what it wrote for each in a file, which is empty where it wrote nothing. Those that
-# it was given are away then.
+# it was given are away then. `--steps 0` leaves out the interpreter, which would take as long as the program.
 run_inputs() {
-    (cd "$room/crates/refused_calls" && rt try --steps 1 --cases "$room/inputs" --fail-alloc "$failing") \
+    (cd "$room/crates/refused_calls" && rt try --steps 0 --cases "$room/inputs" --fail-alloc "$failing") \
         > "$room/written" 2> "$room/told" || { cat "$room/told" >&2; exit 1; }
     awk -v folder="$room/outputs/" '/^== / { close(file); file = folder $2; printf "" > file; next } { print > file }' \
         "$room/written"
