@@ -1,8 +1,14 @@
 -- The numbers of options.
-use Rattle.std.proofs.Common.{◌≡◌, inl, inr, ℕ, ◌<◌, ◌≤◌, ◌^◌, refl, arith}
+use Rattle.std.proofs.Common.{◌≡◌, ◌∙◌, inl, inr, ℕ, ◌<◌, ◌≤◌, ◌^◌, ℤ, pos, w64, refl, subst, arith}
 use Rattle.std.specs.Prelude.{Option, Some, None}
+use Rattle.std.specs.Int.{saturate_unsigned}
+use Rattle.std.specs.Ordering.{nat_cmp, ord_max, ord_min}
 use Rattle.std.specs.Str.Parse.{IsNumeral, digits_value, without_leading_plus}
+use Rattle.std.proofs.lemmas.Bool.Decides.{nat_tests}
+use Rattle.clap.specs.Values.{NarrowsTo}
 use Rattle.clap.specs.Walk.{Text}
+use Rattle.clap.specs.declared.builder.value_parser.ValueParser.{ValueParser}
+use Rattle.clap.specs.declared.builder.value_parser.ValueParser.TheVariants.{Unsigned}
 use Rattle.sq_command.specs.Options.{NumberOf, GivenNumberOf}
 use Rattle.sq_command.specs.Line.{SpellsShort, GivenNumber}
 
@@ -54,3 +60,25 @@ pub short_read : (read : Option ℕ) (text : Option Text) → (text ≡ None →
 short_read read None none some spells = none refl
 short_read None (Some t) none some spells = spells t refl refl
 short_read (Some n) (Some t) none some spells = some t n refl refl
+
+-- ---- the parser of a number
+
+at_least : (n : ℕ) → ord_max nat_cmp 0 n ≡ n
+at_least n = grind (arith, nat_tests)
+
+at_most : (n m : ℕ) → n ≤ m → ord_min nat_cmp m n ≡ n
+at_most n m within = grind (arith, nat_tests)
+
+kept : (n : ℕ) → n < 2 ^ 63 → saturate_unsigned w64 (pos n) ≡ n
+kept n within = grind (arith, nat_tests)
+
+-- the parser of all numbers of 64 bits, narrowed to those from the least up to the most
+pub narrowed_to : (least most : ℕ) (from to : ℤ) (parser : ValueParser) → least ≤ most → most < 2 ^ 63 → from ≡ pos least → to ≡ pos most
+    → NarrowsTo (Unsigned 0 18446744073709551615) (Some from) (Some to) parser → parser ≡ Unsigned least most
+narrowed_to least most from to parser some within begins ends narrows =
+    let low : ord_max nat_cmp 0 (saturate_unsigned w64 (pos least)) ≡ least = at_least _ ∙ kept least (omega (arith, some, within)) in
+    let high : ord_min nat_cmp 18446744073709551615 most ≡ most = at_most most 18446744073709551615 (omega (arith, within)) in
+    let begun = subst (λ (z : ℤ). NarrowsTo (Unsigned 0 18446744073709551615) (Some z) (Some to) parser) begins narrows in
+    let is : NarrowsTo (Unsigned 0 18446744073709551615) (Some (pos least)) (Some (pos most)) parser =
+    subst (λ (z : ℤ). NarrowsTo (Unsigned 0 18446744073709551615) (Some (pos least)) (Some z) parser) ends begun in
+    is ∙ (λ i. Unsigned (low i) (high i))

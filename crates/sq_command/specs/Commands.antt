@@ -1,15 +1,23 @@
 -- The program's command, as `clap` reads it.
-use Rattle.std.specs.Prelude.{ℕ, true, [], ◌∷◌, ◌++◌, codes, pos, Some}
+use Rattle.std.specs.Prelude.{◌≡◌, ℕ, true, false, [], ◌∷◌, ◌++◌, codes, pos, Some, Result, IfOk}
+use Rattle.std.specs.declared.alloc.AllocError.{AllocError}
 use Rattle.clap.specs.Walk.{Text, Rule}
-use Rattle.clap.specs.Words.{App, with_subcommand}
+use Rattle.clap.specs.Words.{App, shape_of, with_subcommand}
 use Rattle.clap.specs.Simple.{Shape, new_shape, new_rule}
 use Rattle.clap.specs.declared.builder.action.ArgAction.TheVariants.{SetTrue, Append}
+use Rattle.clap.specs.declared.builder.command.Command.{Command}
+use Rattle.clap.specs.declared.builder.command.Command.TheViews.{out-Command}
 use Rattle.clap.specs.declared.builder.value_parser.ValueParser.{ValueParser}
 use Rattle.clap.specs.declared.builder.value_parser.ValueParser.TheVariants.{Signed, Unsigned}
 use Rattle.sq_command.specs.declared.tasks.TheConstants.{MAX_TURNS, MAX_PUMPS}
 use Rattle.sq_command.specs.declared.owner.TheConstants.{MAX_WIDTH}
 use Rattle.sq_command.specs.declared.demo.TheConstants.{LEAST_PARTITIONS, MAX_PARTITIONS, MAX_ROOTS, MAX_ROWS_PER_ROOT, MAX_JOBS, MAX_HOT, MAX_SEED}
 use Rattle.sq_command.specs.declared.serve.TheConstants.{MAX_FOLD_AFTER}
+
+-- the command has this shape, and no argument that goes for its subcommands too, unless memory ran out
+pub record HasShape (shape : Shape) (made : Result Command AllocError) : Type 0 where
+  pub shaped : IfOk made (λ command. shape_of command ≡ shape)
+  pub local : IfOk made (λ command. (out-Command command).has_globals ≡ false)
 
 -- the program has a version, and wants a subcommand
 abbrev pub program : Shape

@@ -1,10 +1,11 @@
 // The program's command, with a subcommand for each thing that it does.
-ghost use Rattle.std.specs.Prelude.{◌≡◌, [], IfOk, false};
-ghost use Rattle.clap.specs.Walk.{rule_of};
-ghost use Rattle.clap.specs.Simple.{new_shape};
+ghost use Rattle.std.specs.Prelude.{◌≡◌, ◌≤◌, ◌<◌, ◌^◌, [], IfOk, false};
+ghost use Rattle.clap.specs.Walk.{Rule, rule_of};
+ghost use Rattle.clap.specs.Simple.{App, Shape, new_shape, with_subcommand};
 ghost use Rattle.clap.specs.Words.{app_of, shape_of};
 ghost use Rattle.clap.specs.declared.builder.command.Command.TheViews.{out-Command};
-ghost use Rattle.sq_command.specs.Commands.{program, working, squall, option_rule, flag_rule, file_rule, valued_rule, larger, with_input};
+ghost use Rattle.clap.specs.declared.builder.value_parser.ValueParser.TheVariants.{Unsigned};
+ghost use Rattle.sq_command.specs.Commands.{program, working, squall, option_rule, counted_rule, flag_rule, file_rule, valued_rule, HasShape, larger, with_input};
 
 use crate::demo::demo;
 use crate::explain::explain;
@@ -13,7 +14,7 @@ use crate::owner::owner;
 use crate::serve::serve;
 use crate::tasks::{live, ranges, run, steps};
 use clap::builder::ValueParser;
-use clap::{Arg, ArgAction, Command};
+use clap::{Arg, ArgAction, Command, value_parser};
 use std::alloc::{AllocError, Global};
 
 // The version that `--version` prints.
@@ -57,8 +58,17 @@ pub fn valued<'a>(alloc: Global, name: &'a str, value: &'a str, help: &'a str) -
         .help(help)
 }
 
-/// An option for a number, and its default.
-pub fn option<'a>(
+/// The parser of the numbers from the least up to the most.
+pub fn numbers<'a>(least: u64, most: u64) -> ValueParser<'a>
+    requires some { least ≤ most }
+    requires within { most < 2 ^ 63 }
+    ensures { result ≡ Unsigned least most }
+{
+    value_parser!(u64).range(least as i64..=most as i64)
+}
+
+// An option with a value that this parser takes, which is a number, and its default.
+fn option<'a>(
     alloc: Global,
     name: &'a str,
     help: &'a str,
@@ -73,8 +83,26 @@ pub fn option<'a>(
         .default_value(default)
 }
 
-/// An option that takes no value.
-pub fn flag<'a>(alloc: Global, name: &'a str, help: &'a str) -> Arg<'a>
+/// An option for a number from the least up to the most, and its default.
+pub fn counted<'a>(
+    alloc: Global,
+    name: &'a str,
+    help: &'a str,
+    least: u64,
+    most: u64,
+    default: &'a str,
+) -> Arg<'a>
+    requires some { least ≤ most }
+    requires within { most < 2 ^ 63 }
+    ensures rule { let rule = counted_rule name.entry.now least most default.entry.now in
+        rule_of result ≡ rule }
+    ensures local { result.global ≡ false }
+{
+    option(alloc, name, help, numbers(least, most), default)
+}
+
+// An option that takes no value.
+fn flag<'a>(alloc: Global, name: &'a str, help: &'a str) -> Arg<'a>
     ensures rule { rule_of result ≡ flag_rule name.entry.now }
     ensures local { result.global ≡ false }
 {
@@ -100,45 +128,84 @@ pub fn path<'a>(alloc: Global, name: &'a str, help: &'a str) -> Arg<'a>
     valued(alloc, name, "FILE", help)
 }
 
-/// The command with one argument more.
-pub fn with<'a>(command: Command<'a>, arg: Arg<'a>) -> Result<Command<'a>, AllocError>
+/// The command, if it is made, with one argument more.
+pub fn with<'a>(
+    command: Result<Command<'a>, AllocError>,
+    arg: Arg<'a>,
+) -> Result<Command<'a>, AllocError>
     requires { arg.global ≡ false }
-    ensures shape { IfOk result
-        (λ more. shape_of more ≡ larger (shape_of command.entry) (rule_of arg.entry)) }
-    ensures local { IfOk result
-        (λ more. (out-Command more).has_globals ≡ (out-Command command.entry).has_globals) }
+    ensures { (shape : Shape) (rule : Rule) → HasShape shape command.entry
+        → rule_of arg.entry ≡ rule → HasShape (larger shape rule) result }
 {
-    command.arg(arg)
+    command?.arg(arg)
 }
 
-/// The command with what says where its input comes from.
-pub fn with_input<'a>(alloc: Global, command: Command<'a>) -> Result<Command<'a>, AllocError>
-    ensures shape { IfOk result (λ more. shape_of more ≡ with_input (shape_of command.entry)) }
-    ensures local { IfOk result
-        (λ more. (out-Command more).has_globals ≡ (out-Command command.entry).has_globals) }
+/// The command, if it is made, with an option that takes no value.
+pub fn with_flag<'a>(
+    alloc: Global,
+    command: Result<Command<'a>, AllocError>,
+    name: &'a str,
+    help: &'a str,
+) -> Result<Command<'a>, AllocError>
+    ensures { (shape : Shape) → HasShape shape command.entry
+        → HasShape (larger shape (flag_rule name.entry.now)) result }
 {
-    let with_file = with(command, file(alloc))?;
-    let with_old = with(with_file, path(alloc, "old", help::OLD))?;
-    let with_new = with(with_old, path(alloc, "new", help::NEW))?;
-    with(with_new, path(alloc, "rows", help::ROWS))
+    with(command, flag(alloc, name, help))
+}
+
+/// The command, if it is made, with an option for the name of a file.
+pub fn with_path<'a>(
+    alloc: Global,
+    command: Result<Command<'a>, AllocError>,
+    name: &'a str,
+    help: &'a str,
+) -> Result<Command<'a>, AllocError>
+    ensures { (shape : Shape) → HasShape shape command.entry
+        → HasShape (larger shape (valued_rule name.entry.now)) result }
+{
+    with(command, path(alloc, name, help))
+}
+
+/// The command, if it is made, with what says where its input comes from.
+pub fn with_input<'a>(
+    alloc: Global,
+    command: Result<Command<'a>, AllocError>,
+) -> Result<Command<'a>, AllocError>
+    ensures { (shape : Shape) → HasShape shape command.entry → HasShape (with_input shape) result }
+{
+    let with_file = with(command, file(alloc));
+    let with_old = with_path(alloc, with_file, "old", help::OLD);
+    let with_new = with_path(alloc, with_old, "new", help::NEW);
+    with_path(alloc, with_new, "rows", help::ROWS)
+}
+
+// The command with one subcommand more, if both are made.
+fn also<'a>(
+    command: Result<Command<'a>, AllocError>,
+    sub: Result<Command<'a>, AllocError>,
+) -> Result<Command<'a>, AllocError>
+    ensures { (app : App) (shape : Shape) → IfOk command.entry (λ had. app_of had ≡ app)
+        → HasShape shape sub.entry → IfOk result (λ more. app_of more ≡ with_subcommand app shape) }
+{
+    command?.subcommand(sub?)
 }
 
 // The program's command with the subcommands that do something with an input.
 fn working<'a>(alloc: Global) -> Result<Command<'a>, AllocError>
     ensures { IfOk result (λ command. app_of command ≡ working) }
 {
-    let runs = program(alloc).subcommand(run(alloc)?)?;
-    let tells = runs.subcommand(ranges(alloc)?)?;
-    let lives = tells.subcommand(live(alloc)?)?;
-    lives.subcommand(steps(alloc)?)
+    let runs = also(Ok(program(alloc)), run(alloc));
+    let tells = also(runs, ranges(alloc));
+    let lives = also(tells, live(alloc));
+    also(lives, steps(alloc))
 }
 
 /// The program's command, with a subcommand for each line.
 pub fn command<'a>(alloc: Global) -> Result<Command<'a>, AllocError>
     ensures { IfOk result (λ command. app_of command ≡ squall) }
 {
-    let finds = working(alloc)?.subcommand(owner(alloc)?)?;
-    let begins = finds.subcommand(demo(alloc)?)?;
-    let serves = begins.subcommand(serve(alloc)?)?;
-    serves.subcommand(explain(alloc)?)
+    let finds = also(working(alloc), owner(alloc));
+    let begins = also(finds, demo(alloc));
+    let serves = also(begins, serve(alloc));
+    also(serves, explain(alloc))
 }

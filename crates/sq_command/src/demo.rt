@@ -2,19 +2,17 @@
 ghost use Rattle.std.specs.Prelude.{◌≡◌, IfOk, false, codes};
 ghost use Rattle.clap.specs.Matches.{found_of};
 ghost use Rattle.clap.specs.Walk.{rule_of, rows_of};
-ghost use Rattle.clap.specs.Words.{shape_of};
-ghost use Rattle.clap.specs.declared.builder.command.Command.TheViews.{out-Command};
-ghost use Rattle.sq_command.specs.Commands.{counted_rule, folder_rule, placed_shape, worked_shape, demo_shape};
+ghost use Rattle.sq_command.specs.Commands.{HasShape, counted_rule, folder_rule, placed_shape, worked_shape, demo_shape};
 ghost use Rattle.sq_command.specs.Options.{Asks};
 ghost use Rattle.sq_command.specs.Demo.{IsDemoOf, IsDemoLine, LacksFolder, DemoIsWithin};
 ghost use Rattle.sq_command.specs.Line.{LineIsWithin};
 
 use crate::clash::Clash;
-use crate::commands::{flag, option, subcommand, with};
+use crate::commands::{counted, subcommand, with, with_flag};
 use crate::help;
 use crate::line::{Demo, Line};
 use crate::options::{is_given, name_of, number_of};
-use clap::{Arg, ArgMatches, Command, value_parser};
+use clap::{Arg, ArgMatches, Command};
 use std::alloc::{AllocError, Global};
 
 /// The fewest and the most partitions, the most root keys and rows of each, and the most jobs.
@@ -52,59 +50,45 @@ const _: () = prove!(PARTITIONS == 4 && ROOTS == 1_000 && ROWS_PER_ROOT == 4);
 
 const _: () = prove!(JOBS == 2_000 && HOT == 50 && SEED == 1);
 
-// The subcommand with its options for partitions, root keys and rows.
-fn placed<'a>(alloc: Global) -> Result<Command<'a>, AllocError>
-    ensures shape { IfOk result (λ command. shape_of command ≡ placed_shape) }
-    ensures local { IfOk result (λ command. (out-Command command).has_globals ≡ false) }
+// The option for the partitions.
+fn partitions<'a>(alloc: Global) -> Arg<'a>
+    ensures rule { let least = LEAST_PARTITIONS in
+        rule_of result ≡ counted_rule (codes "partitions") least MAX_PARTITIONS (codes "4") }
+    ensures local { result.global ≡ false }
 {
-    let plain = subcommand(alloc, "demo", help::DEMO_ABOUT, help::DEMO);
-    let any = value_parser!(u64).range(LEAST_PARTITIONS as i64..=MAX_PARTITIONS as i64);
-    let partitions = option(alloc, "partitions", help::PARTITIONS, any, "4");
-    let parted = with(plain, partitions)?;
-    let any = value_parser!(u64).range(1..=MAX_ROOTS as i64);
-    let rooted = with(parted, option(alloc, "roots", help::ROOTS, any, "1000"))?;
-    let any = value_parser!(u64).range(1..=MAX_ROWS_PER_ROOT as i64);
-    with(
-        rooted,
-        option(alloc, "rows-per-root", help::ROWS_PER_ROOT, any, "4"),
+    counted(
+        alloc,
+        "partitions",
+        help::PARTITIONS,
+        LEAST_PARTITIONS,
+        MAX_PARTITIONS,
+        "4",
     )
 }
 
-// The option for the jobs.
-fn jobs<'a>(alloc: Global) -> Arg<'a>
-    ensures rule { rule_of result ≡ counted_rule (codes "jobs") 0 MAX_JOBS (codes "2000") }
-    ensures local { result.global ≡ false }
+// The subcommand with its options for partitions, root keys and rows.
+fn placed<'a>(alloc: Global) -> Result<Command<'a>, AllocError>
+    ensures { HasShape placed_shape result }
 {
-    let any = value_parser!(u64).range(0..=MAX_JOBS as i64);
-    option(alloc, "jobs", help::JOBS, any, "2000")
-}
-
-// The option for the jobs of hot root keys.
-fn hot<'a>(alloc: Global) -> Arg<'a>
-    ensures rule { rule_of result ≡ counted_rule (codes "hot") 0 MAX_HOT (codes "50") }
-    ensures local { result.global ≡ false }
-{
-    let any = value_parser!(u64).range(0..=MAX_HOT as i64);
-    option(alloc, "hot", help::HOT, any, "50")
-}
-
-// The option for the seed.
-fn seed<'a>(alloc: Global) -> Arg<'a>
-    ensures rule { rule_of result ≡ counted_rule (codes "seed") 0 MAX_SEED (codes "1") }
-    ensures local { result.global ≡ false }
-{
-    let any = value_parser!(u64).range(0..=MAX_SEED as i64);
-    option(alloc, "seed", help::SEED, any, "1")
+    let plain = Ok(subcommand(alloc, "demo", help::DEMO_ABOUT, help::DEMO));
+    let parted = with(plain, partitions(alloc));
+    let roots = counted(alloc, "roots", help::ROOTS, 1, MAX_ROOTS, "1000");
+    let rooted = with(parted, roots);
+    let each = help::ROWS_PER_ROOT;
+    let rows = counted(alloc, "rows-per-root", each, 1, MAX_ROWS_PER_ROOT, "4");
+    with(rooted, rows)
 }
 
 // The subcommand with its options for jobs too.
 fn worked<'a>(alloc: Global) -> Result<Command<'a>, AllocError>
-    ensures shape { IfOk result (λ command. shape_of command ≡ worked_shape) }
-    ensures local { IfOk result (λ command. (out-Command command).has_globals ≡ false) }
+    ensures { HasShape worked_shape result }
 {
-    let busy = with(placed(alloc)?, jobs(alloc))?;
-    let heated = with(busy, hot(alloc))?;
-    with(heated, seed(alloc))
+    let jobs = counted(alloc, "jobs", help::JOBS, 0, MAX_JOBS, "2000");
+    let busy = with(placed(alloc), jobs);
+    let hot = counted(alloc, "hot", help::HOT, 0, MAX_HOT, "50");
+    let heated = with(busy, hot);
+    let seed = counted(alloc, "seed", help::SEED, 0, MAX_SEED, "1");
+    with(heated, seed)
 }
 
 // The name of the folder.
@@ -120,10 +104,9 @@ fn folder<'a>(alloc: Global) -> Arg<'a>
 
 /// The subcommand that writes an input to begin with.
 pub fn demo<'a>(alloc: Global) -> Result<Command<'a>, AllocError>
-    ensures shape { IfOk result (λ command. shape_of command ≡ demo_shape) }
-    ensures local { IfOk result (λ command. (out-Command command).has_globals ≡ false) }
+    ensures { HasShape demo_shape result }
 {
-    let staged = with(worked(alloc)?, flag(alloc, "stages", help::STAGES))?;
+    let staged = with_flag(alloc, worked(alloc), "stages", help::STAGES);
     with(staged, folder(alloc))
 }
 

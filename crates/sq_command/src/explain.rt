@@ -1,10 +1,7 @@
 // The subcommand that says what numbers mean.
-ghost use Rattle.std.specs.Prelude.{◌≡◌, IfOk, false};
 ghost use Rattle.clap.specs.Matches.{found_of};
 ghost use Rattle.clap.specs.Walk.{rows_of};
-ghost use Rattle.clap.specs.Words.{shape_of};
-ghost use Rattle.clap.specs.declared.builder.command.Command.TheViews.{out-Command};
-ghost use Rattle.sq_command.specs.Commands.{explain_shape};
+ghost use Rattle.sq_command.specs.Commands.{HasShape, explain_shape};
 ghost use Rattle.sq_command.specs.Line.{IsExplainLine};
 
 use crate::commands::{subcommand, with};
@@ -15,10 +12,9 @@ use std::alloc::{AllocError, Global};
 
 /// The subcommand that says what numbers mean.
 pub fn explain<'a>(alloc: Global) -> Result<Command<'a>, AllocError>
-    ensures shape { IfOk result (λ command. shape_of command ≡ explain_shape) }
-    ensures local { IfOk result (λ command. (out-Command command).has_globals ≡ false) }
+    ensures { HasShape explain_shape result }
 {
-    let plain = subcommand(alloc, "explain", help::EXPLAIN_ABOUT, help::EXPLAIN);
+    let plain = Ok(subcommand(alloc, "explain", help::EXPLAIN_ABOUT, help::EXPLAIN));
     let number = Arg::new(alloc, "number")
         .value_name("NUMBER")
         .help(help::NUMBER)

@@ -59,7 +59,7 @@ pub enum Line<'a> {
 }
 
 /// Where an input comes from.
-#[derive(Clone, Copy, Debug, PartialEq, Eq)]
+#[derive(Clone, Copy, Debug)]
 pub struct Input<'a> {
     /// The file of this name, or standard input where there is none.
     pub file: Option<&'a str>,
@@ -68,7 +68,7 @@ pub struct Input<'a> {
 }
 
 /// The files that hold the plans of a move.
-#[derive(Clone, Copy, Debug, PartialEq, Eq)]
+#[derive(Clone, Copy, Debug)]
 pub struct Plans<'a> {
     /// The name of the file that holds the plan before the move.
     pub old: &'a str,
@@ -97,7 +97,7 @@ pub struct EngineReports<'a> {
 }
 
 /// The form in which what moves is written.
-#[derive(Clone, Copy, Debug, PartialEq, Eq)]
+#[derive(Clone, Copy, Debug)]
 pub enum Form {
     /// A line for each range and for each segment.
     Lines,
@@ -108,7 +108,7 @@ pub enum Form {
 }
 
 /// What is to be done with an input.
-#[derive(Clone, Copy, Debug, PartialEq, Eq)]
+#[derive(Clone, Copy, Debug)]
 pub enum Task<'a> {
     /// Make the steps of a script.
     Run {
@@ -133,7 +133,7 @@ pub enum Task<'a> {
 }
 
 /// How jobs are run in threads, and what is written of it besides its line.
-#[derive(Clone, Copy, Debug, PartialEq, Eq)]
+#[derive(Clone, Copy, Debug)]
 pub struct LiveOptions<'a> {
     /// How many turns each thread takes at most.
     pub turns: u64,
@@ -154,7 +154,7 @@ pub struct LiveOptions<'a> {
 }
 
 /// What an input to begin with is like.
-#[derive(Clone, Copy, Debug, PartialEq, Eq)]
+#[derive(Clone, Copy, Debug)]
 pub struct Demo {
     /// How many partitions there are.
     pub partitions: u32,

@@ -2,15 +2,13 @@
 ghost use Rattle.std.specs.Prelude.{◌≡◌, ◌≤◌, IfOk, IfSome, false, length, codes};
 ghost use Rattle.clap.specs.Matches.{found_of};
 ghost use Rattle.clap.specs.Walk.{one_of, rule_of, rows_of};
-ghost use Rattle.clap.specs.Words.{shape_of};
-ghost use Rattle.clap.specs.declared.builder.command.Command.TheViews.{out-Command};
-ghost use Rattle.sq_command.specs.Commands.{keys_rule, width_rule, owner_shape, needed_rule};
+ghost use Rattle.sq_command.specs.Commands.{HasShape, keys_rule, width_rule, owner_shape, needed_rule};
 ghost use Rattle.sq_command.specs.Options.{Asks, GivenNumberOf};
 ghost use Rattle.sq_command.specs.Owner.{IsKeyOf, AreKeysOf, KeysClash, IsOwnerLine, OwnerClash, HasPlans, PlansClash};
 ghost use Rattle.sq_command.specs.Line.{LineIsWithin};
 
 use crate::clash::Clash;
-use crate::commands::{path, subcommand, valued, with};
+use crate::commands::{numbers, path, subcommand, valued, with};
 use crate::help;
 use crate::line::{Line, Plans};
 use crate::options::{given_number, plans_of};
@@ -46,20 +44,18 @@ fn width<'a>(alloc: Global) -> Arg<'a>
     ensures rule { rule_of result ≡ width_rule }
     ensures local { result.global ≡ false }
 {
-    valued(alloc, "width", "N", help::WIDTH).value_parser(value_parser!(u64).range(
-        1..=MAX_WIDTH as i64,
-    ))
+    valued(alloc, "width", "N", help::WIDTH).value_parser(numbers(1, MAX_WIDTH))
 }
 
 /// The subcommand that lists the owners of root keys.
 pub fn owner<'a>(alloc: Global) -> Result<Command<'a>, AllocError>
-    ensures shape { IfOk result (λ command. shape_of command ≡ owner_shape) }
-    ensures local { IfOk result (λ command. (out-Command command).has_globals ≡ false) }
+    ensures { HasShape owner_shape result }
 {
-    let plain = subcommand(alloc, "owner", help::OWNER_ABOUT, help::OWNER);
-    let with_old = with(plain, needed_path(alloc, "old", help::OLD))?;
-    let with_new = with(with_old, needed_path(alloc, "new", help::NEW))?;
-    with(with(with_new, width(alloc))?, keys(alloc))
+    let plain = Ok(subcommand(alloc, "owner", help::OWNER_ABOUT, help::OWNER));
+    let with_old = with(plain, needed_path(alloc, "old", help::OLD));
+    let with_new = with(with_old, needed_path(alloc, "new", help::NEW));
+    let with_width = with(with_new, width(alloc));
+    with(with_width, keys(alloc))
 }
 
 /// The root keys, with the plans, as options name them.

@@ -1,21 +1,19 @@
 // The subcommand that serves an engine.
-ghost use Rattle.std.specs.Prelude.{◌≡◌, IfOk, false};
+ghost use Rattle.std.specs.Prelude.{IfOk};
 ghost use Rattle.clap.specs.Matches.{found_of};
 ghost use Rattle.clap.specs.Walk.{rows_of};
-ghost use Rattle.clap.specs.Words.{shape_of};
-ghost use Rattle.clap.specs.declared.builder.command.Command.TheViews.{out-Command};
-ghost use Rattle.sq_command.specs.Commands.{served_shape, reported_shape, serve_shape};
+ghost use Rattle.sq_command.specs.Commands.{HasShape, served_shape, reported_shape, serve_shape};
 ghost use Rattle.sq_command.specs.Options.{Asks};
 ghost use Rattle.sq_command.specs.Serve.{AreEngineFilesOf, AreReportsOf, IsEngineLine, LacksEnginePlan};
 ghost use Rattle.sq_command.specs.Line.{LineIsWithin};
 
 use crate::clash::Clash;
-use crate::commands::{file, option, path, subcommand, with};
+use crate::commands::{counted, file, subcommand, with, with_path};
 use crate::help;
 use crate::line::{EngineFiles, EngineReports, Line};
 use crate::options::{main_of, name_of, number_of};
 use crate::tasks::{MAX_PUMPS, PUMPS};
-use clap::{ArgMatches, Command, value_parser};
+use clap::{ArgMatches, Command};
 use std::alloc::{AllocError, Global};
 
 /// The most answers after which the logs are audited and folded.
@@ -29,38 +27,30 @@ const _: () = prove!(FOLD_AFTER == 262_144 && PUMPS == 1);
 
 // The subcommand with its options for numbers.
 fn served<'a>(alloc: Global) -> Result<Command<'a>, AllocError>
-    ensures shape { IfOk result (λ command. shape_of command ≡ served_shape) }
-    ensures local { IfOk result (λ command. (out-Command command).has_globals ≡ false) }
+    ensures { HasShape served_shape result }
 {
-    let plain = subcommand(alloc, "serve", help::SERVE_ABOUT, help::SERVE);
-    let any_pumps = value_parser!(u64).range(1..=MAX_PUMPS as i64);
-    let pumped = with(plain, option(alloc, "pumps", help::PUMPS, any_pumps, "1"))?;
-    let any_answers = value_parser!(u64).range(1..=MAX_FOLD_AFTER as i64);
-    with(
-        pumped,
-        option(alloc, "fold-after", help::FOLD_AFTER, any_answers, "262144"),
-    )
+    let plain = Ok(subcommand(alloc, "serve", help::SERVE_ABOUT, help::SERVE));
+    let pumps = counted(alloc, "pumps", help::PUMPS, 1, MAX_PUMPS, "1");
+    let pumped = with(plain, pumps);
+    let after = help::FOLD_AFTER;
+    let folds = counted(alloc, "fold-after", after, 1, MAX_FOLD_AFTER, "262144");
+    with(pumped, folds)
 }
 
 // The subcommand with its options for reports too.
 fn reported<'a>(alloc: Global) -> Result<Command<'a>, AllocError>
-    ensures shape { IfOk result (λ command. shape_of command ≡ reported_shape) }
-    ensures local { IfOk result (λ command. (out-Command command).has_globals ≡ false) }
+    ensures { HasShape reported_shape result }
 {
-    let accounting = with(
-        served(alloc)?,
-        path(alloc, "summary-out", help::SUMMARY_OUT),
-    )?;
-    with(accounting, path(alloc, "timeline", help::SERVE_TIMELINE))
+    let accounting = with_path(alloc, served(alloc), "summary-out", help::SUMMARY_OUT);
+    with_path(alloc, accounting, "timeline", help::SERVE_TIMELINE)
 }
 
 /// The subcommand that serves an engine.
 pub fn serve<'a>(alloc: Global) -> Result<Command<'a>, AllocError>
-    ensures shape { IfOk result (λ command. shape_of command ≡ serve_shape) }
-    ensures local { IfOk result (λ command. (out-Command command).has_globals ≡ false) }
+    ensures { HasShape serve_shape result }
 {
-    let planned = with(reported(alloc)?, path(alloc, "plan", help::PLAN))?;
-    let filled = with(planned, path(alloc, "rows", help::ROWS))?;
+    let planned = with_path(alloc, reported(alloc), "plan", help::PLAN);
+    let filled = with_path(alloc, planned, "rows", help::ROWS);
     with(filled, file(alloc))
 }
 

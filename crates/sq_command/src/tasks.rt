@@ -1,19 +1,17 @@
 // The subcommands that do something with an input: `run`, `ranges`, `live` and `steps`.
-ghost use Rattle.std.specs.Prelude.{◌≡◌, IfOk, false};
+ghost use Rattle.std.specs.Prelude.{IfOk};
 ghost use Rattle.clap.specs.Matches.{found_of};
 ghost use Rattle.clap.specs.Walk.{rows_of};
-ghost use Rattle.clap.specs.Words.{shape_of};
-ghost use Rattle.clap.specs.declared.builder.command.Command.TheViews.{out-Command};
-ghost use Rattle.sq_command.specs.Commands.{run_shape, ranges_shape, numbered_shape, live_shape, steps_shape};
+ghost use Rattle.sq_command.specs.Commands.{HasShape, run_shape, ranges_shape, numbered_shape, live_shape, steps_shape};
 ghost use Rattle.sq_command.specs.Options.{Asks, LacksPlan};
 ghost use Rattle.sq_command.specs.Line.{IsWorkLine, IsRunTask, IsRangesTask, IsLiveTask, IsStepsTask, IsFormOf, FormClash, RangesClash, LineIsWithin};
 
 use crate::clash::Clash;
-use crate::commands::{flag, option, path, subcommand, with, with_input};
+use crate::commands::{counted, subcommand, with, with_flag, with_input, with_path};
 use crate::help;
 use crate::line::{Form, Line, LiveOptions, Task};
 use crate::options::{input_of, is_given, name_of, number_of};
-use clap::{ArgMatches, Command, value_parser};
+use clap::{ArgMatches, Command};
 use std::alloc::{AllocError, Global};
 
 /// The most turns that a thread of a live run takes.
@@ -29,14 +27,13 @@ pub const PUMPS: u64 = 1;
 
 /// The subcommand that makes the steps of a script.
 pub fn run<'a>(alloc: Global) -> Result<Command<'a>, AllocError>
-    ensures shape { IfOk result (λ command. shape_of command ≡ run_shape) }
-    ensures local { IfOk result (λ command. (out-Command command).has_globals ≡ false) }
+    ensures { HasShape run_shape result }
 {
-    let plain = subcommand(alloc, "run", help::RUN_ABOUT, help::RUN);
-    let echoing = with(plain, flag(alloc, "echo", help::ECHO))?;
-    let stopping = with(echoing, flag(alloc, "strict", help::STRICT))?;
-    let keeping = path(alloc, "rows-out", help::ROWS_OUT);
-    with_input(alloc, with(stopping, keeping)?)
+    let plain = Ok(subcommand(alloc, "run", help::RUN_ABOUT, help::RUN));
+    let echoing = with_flag(alloc, plain, "echo", help::ECHO);
+    let stopping = with_flag(alloc, echoing, "strict", help::STRICT);
+    let keeping = with_path(alloc, stopping, "rows-out", help::ROWS_OUT);
+    with_input(alloc, keeping)
 }
 
 /// The run that options ask for.
@@ -44,27 +41,24 @@ pub fn run_line<'a>(options: &ArgMatches<'a>) -> Result<Line<'a>, Clash>
     ensures line { Asks (IsWorkLine IsRunTask) LacksPlan (rows_of (found_of options.now)) result }
     ensures within { IfOk result LineIsWithin }
 {
+    let input = input_of(options)?;
     let task = Task::Run {
         echoes: is_given(options, "echo"),
         strict: is_given(options, "strict"),
         rows_out: name_of(options, "rows-out"),
     };
-    Ok(Line::Work {
-        task,
-        input: input_of(options)?,
-    })
+    Ok(Line::Work { task, input })
 }
 
 /// The subcommand that lists what moves.
 pub fn ranges<'a>(alloc: Global) -> Result<Command<'a>, AllocError>
-    ensures shape { IfOk result (λ command. shape_of command ≡ ranges_shape) }
-    ensures local { IfOk result (λ command. (out-Command command).has_globals ≡ false) }
+    ensures { HasShape ranges_shape result }
 {
-    let plain = subcommand(alloc, "ranges", help::RANGES_ABOUT, help::RANGES);
-    let with_json = with(plain, flag(alloc, "json", help::JSON))?;
-    let with_svg = with(with_json, flag(alloc, "svg", help::SVG))?;
-    let sizing = flag(alloc, "sizes", help::SIZES);
-    with_input(alloc, with(with_svg, sizing)?)
+    let plain = Ok(subcommand(alloc, "ranges", help::RANGES_ABOUT, help::RANGES));
+    let with_json = with_flag(alloc, plain, "json", help::JSON);
+    let with_svg = with_flag(alloc, with_json, "svg", help::SVG);
+    let sizing = with_flag(alloc, with_svg, "sizes", help::SIZES);
+    with_input(alloc, sizing)
 }
 
 /// The listing that options ask for.
@@ -100,32 +94,25 @@ const _: () = prove!(TURNS == 1_000_000 && PUMPS == 1);
 
 // The subcommand that runs jobs in threads, with its options for numbers.
 fn numbered<'a>(alloc: Global) -> Result<Command<'a>, AllocError>
-    ensures shape { IfOk result (λ command. shape_of command ≡ numbered_shape) }
-    ensures local { IfOk result (λ command. (out-Command command).has_globals ≡ false) }
+    ensures { HasShape numbered_shape result }
 {
-    let plain = subcommand(alloc, "live", help::LIVE_ABOUT, help::LIVE);
-    let any_turns = value_parser!(u64).range(1..=MAX_TURNS as i64);
-    let turns = option(alloc, "turns", help::TURNS, any_turns, "1000000");
-    let with_turns = with(plain, turns)?;
-    let any_pumps = value_parser!(u64).range(1..=MAX_PUMPS as i64);
-    with(
-        with_turns,
-        option(alloc, "pumps", help::PUMPS, any_pumps, "1"),
-    )
+    let plain = Ok(subcommand(alloc, "live", help::LIVE_ABOUT, help::LIVE));
+    let turns = counted(alloc, "turns", help::TURNS, 1, MAX_TURNS, "1000000");
+    let pumps = counted(alloc, "pumps", help::PUMPS, 1, MAX_PUMPS, "1");
+    with(with(plain, turns), pumps)
 }
 
 /// The subcommand that runs jobs in threads.
 pub fn live<'a>(alloc: Global) -> Result<Command<'a>, AllocError>
-    ensures shape { IfOk result (λ command. shape_of command ≡ live_shape) }
-    ensures local { IfOk result (λ command. (out-Command command).has_globals ≡ false) }
+    ensures { HasShape live_shape result }
 {
-    let folding = with(numbered(alloc)?, flag(alloc, "fold", help::FOLD))?;
-    let summing = with(folding, flag(alloc, "summary", help::SUMMARY))?;
-    let accounting = with(summing, path(alloc, "summary-out", help::SUMMARY_OUT))?;
-    let timed = with(accounting, path(alloc, "timeline", help::TIMELINE))?;
-    let replying = with(timed, path(alloc, "replies", help::REPLIES))?;
-    let keeping = path(alloc, "rows-out", help::ROWS_OUT);
-    with_input(alloc, with(replying, keeping)?)
+    let folding = with_flag(alloc, numbered(alloc), "fold", help::FOLD);
+    let summing = with_flag(alloc, folding, "summary", help::SUMMARY);
+    let accounting = with_path(alloc, summing, "summary-out", help::SUMMARY_OUT);
+    let timed = with_path(alloc, accounting, "timeline", help::TIMELINE);
+    let replying = with_path(alloc, timed, "replies", help::REPLIES);
+    let keeping = with_path(alloc, replying, "rows-out", help::ROWS_OUT);
+    with_input(alloc, keeping)
 }
 
 /// The live run that options ask for.
@@ -153,13 +140,10 @@ pub fn live_line<'a>(options: &ArgMatches<'a>) -> Result<Line<'a>, Clash>
 
 /// The subcommand that writes the script of a move.
 pub fn steps<'a>(alloc: Global) -> Result<Command<'a>, AllocError>
-    ensures shape { IfOk result (λ command. shape_of command ≡ steps_shape) }
-    ensures local { IfOk result (λ command. (out-Command command).has_globals ≡ false) }
+    ensures { HasShape steps_shape result }
 {
-    with_input(
-        alloc,
-        subcommand(alloc, "steps", help::STEPS_ABOUT, help::STEPS),
-    )
+    let plain = subcommand(alloc, "steps", help::STEPS_ABOUT, help::STEPS);
+    with_input(alloc, Ok(plain))
 }
 
 /// The script that options ask for.

@@ -1,16 +1,6 @@
-use Rattle.std.proofs.Common.{◌≡◌, ◌∙◌}
-use Rattle.std.proofs.lemmas.Result.{IfOk-weaker}
-use Rattle.clap.specs.Words.{shape_of}
-use Rattle.sq_command.specs.Commands.{demo_shape}
-use Rattle.sq_command.proofs.Arguments.{larger_is}
 use Rattle.sq_command.proofs.demo.demo.Goals as goal
 
-pub returns-clause-shape : goal.returns-clause-shape
-returns-clause-shape c =
-    let staged = c.in_ok-staged.ensures.shape ∙ larger_is _ _ _ _ c.in_ok-worked.ensures.shape c.flag.ensures.rule in
-    IfOk-weaker c.with-2.result _ (λ command. shape_of command ≡ demo_shape) (λ command is. is ∙ larger_is _ _ _ _ staged c.folder.ensures.rule) c.with-2.ensures.shape
-
-pub returns-clause-local : goal.returns-clause-local
-returns-clause-local c =
-    let local = c.in_ok-staged.ensures.local ∙ c.in_ok-worked.ensures.local in
-    IfOk-weaker c.with-2.result _ _ (λ command same. same ∙ local) c.with-2.ensures.local
+pub returns : goal.returns
+returns c =
+    let staged = c.with_flag-staged.ensures _ c.worked.ensures in
+    c.with.ensures _ _ staged c.folder.ensures.rule
