@@ -1,5 +1,5 @@
 -- How an engine that is served changes, step by step.
-use Rattle.std.proofs.Common.{◌≡◌, ⊎_elim, inl, inr, ℕ, ◌+◌, ◌<◌, ◌^◌, Bool, true, List, [], ◌∷◌, ◌++◌, refl, sym, ap, subst, ◌∙◌, append_assoc, append-nil, arith}
+use Rattle.std.proofs.Common.{◌≡◌, ⊎_elim, inl, inr, ℕ, ◌+◌, ◌<◌, ◌^◌, Bool, true, false, List, [], ◌∷◌, ◌++◌, refl, sym, ap, subst, ◌∙◌, append_assoc, append-nil, arith}
 use Rattle.std.specs.Prelude.{sum_by, Option, Some, None, Result, Ok, Err, IfOk, OnErr}
 use Rattle.std.specs.List.{flat_map}
 use Rattle.std.proofs.lemmas.Grind.{flat_map-append}
@@ -30,7 +30,7 @@ use Rattle.sq_service.specs.declared.page_book.PageBook.{PageBook}
 use Rattle.sq_service.specs.Judging.{IsFoundAs, ClosesAs, page_commits, EndsAsFound, JudgesPage}
 use Rattle.sq_service.specs.Rows.{TellsRowsOrSpeaks}
 use Rattle.sq_service.specs.Events.{ServeEvent, EpochServed, PageTurned, RowsTold, GoneOn, HappenEach, page_turned, pages_turned, page_due, HasServed}
-use Rattle.sq_service.specs.Ends.{ClosedEndsBy, ServiceEndsBy, HasEndedServing}
+use Rattle.sq_service.specs.Ends.{ClosedEndsBy, ServiceEndsBy, SoundIsWritten, HasEndedServing}
 use Rattle.sq_service.specs.Steps.{IsWholeEngine, EpochGives, GoesOrLacksMemory, EntersPage, StepGives, first_ending}
 
 happen_append : (first more : List ServeEvent) (old : Standing) (before : ServeDeskValue) (mid : Standing) (between : ServeDeskValue)
@@ -109,6 +109,7 @@ served_ends a b old before mid between ending after one two =
             (sum_by-append page_commits one.judged two.judged) one.committed two.ends.1 fits),
         two.ends.2,
       );
+      written = two.written;
     }
 
 -- and then a step more
@@ -161,8 +162,9 @@ speaks_only book old before after says = goes_on book old before old after (stay
 -- it ends with these events, where no page is due
 pub ends_with : (events : List ServeEvent) (was : PageBook) (old : Standing) (before : ServeDeskValue) (last : Standing) (after : ServeDeskValue)
     (ending : ServeEnding) → pages_turned events ≡ [] → was.due ≡ None
-    → HappenEach events old before last after → ServiceEndsBy was.committed [] last ending → HasEndedServing was old before ending after
-ends_with events was old before last after ending none due happened ends =
+    → HappenEach events old before last after → ServiceEndsBy was.committed [] last ending → SoundIsWritten ending after
+    → HasEndedServing was old before ending after
+ends_with events was old before last after ending none due happened ends written =
     record {
       events = events;
       last = last;
@@ -172,11 +174,39 @@ ends_with events was old before last after ending none due happened ends =
       pages = ap (λ (l : List RestPage). page_due was.due ++ l) none ∙ append-nil (page_due was.due) ∙ ap page_due due;
       sound = All-nil (IsFoundAs verdict.Sound);
       ends = (was.committed, (λ fits. omega arith), ends);
+      written = written;
     }
 
 pub ends_at_once : (was : PageBook) (old : Standing) (before : ServeDeskValue) (ending : ServeEnding) → was.due ≡ None
-    → ServiceEndsBy was.committed [] old ending → HasEndedServing was old before ending before
-ends_at_once was old before ending due ends = ends_with [] was old before old before ending refl due (refl, refl) ends
+    → ServiceEndsBy was.committed [] old ending → SoundIsWritten ending before → HasEndedServing was old before ending before
+ends_at_once was old before ending due ends written = ends_with [] was old before old before ending refl due (refl, refl) ends written
+
+-- a desk that has not stopped
+pub unstopped_is_written : (ending : ServeEnding) (desk : ServeDeskValue) → desk.has_stopped ≡ false → SoundIsWritten ending desk
+unstopped_is_written (Sound families total is_whole) desk still = still
+unstopped_is_written (Unsound defect) desk still = tt
+unstopped_is_written (NoHeader fault) desk still = tt
+unstopped_is_written Memory desk still = tt
+unstopped_is_written Unwritten desk still = tt
+
+-- no ending but a sound one says that all is written
+pub stopped_is_written : (ending : ServeEnding) (desk : ServeDeskValue) → EndsStopped ending → SoundIsWritten ending desk
+stopped_is_written (Sound families total is_whole) desk stopped = absurd stopped
+stopped_is_written (Unsound defect) desk stopped = tt
+stopped_is_written (NoHeader fault) desk stopped = tt
+stopped_is_written Memory desk stopped = tt
+stopped_is_written Unwritten desk stopped = tt
+
+pub memory_is_written : (ending : ServeEnding) (desk : ServeDeskValue) → ending ≡ Memory → SoundIsWritten ending desk
+memory_is_written ending desk memory = subst (λ (e : ServeEnding). SoundIsWritten e desk) (sym memory) tt
+
+found_is_written : (page : RestPage) (ending : ServeEnding) (desk : ServeDeskValue)
+    → EndsAsFound (λ found. IsFoundAs found page) ending → SoundIsWritten ending desk
+found_is_written page (Sound families total is_whole) desk found = absurd found
+found_is_written page (Unsound defect) desk found = tt
+found_is_written page (NoHeader fault) desk found = tt
+found_is_written page Memory desk found = tt
+found_is_written page Unwritten desk found = tt
 
 -- where memory runs out
 pub memory_ends : (committed : ℕ) (rest : List RestPage) (last : Standing) (ending : ServeEnding) → ending ≡ Memory → ServiceEndsBy committed rest last ending
@@ -196,7 +226,7 @@ pub goes_or_ends : (book : PageBook) (old : Standing) (before : ServeDeskValue) 
 goes_or_ends book old before (Ok new) after due gives = goes_on book old before new after gives.0 gives.1
 goes_or_ends book old before (Err ending) after due gives =
     ends_with (GoneOn ∷ []) book old before old after ending refl due (old, after, (stays old old refl, gives.1), (refl, refl))
-    (memory_ends book.committed [] old ending gives.0)
+    (memory_ends book.committed [] old ending gives.0) (memory_is_written ending after gives.0)
 
 -- a page is taken, which is due then
 pub takes_page : (was now : PageBook) (due : PageToAudit) (old : Standing) (before : ServeDeskValue) (new : Standing)
@@ -222,10 +252,11 @@ epoch_alone was now old before (Ok new) after none still committed gives =
 epoch_alone was now old before (Err ending) after none still committed gives =
     ⊎_elim
     (λ same.
-    ends_with [] was old before old after ending refl none (refl, same) (memory_ends was.committed [] old ending gives.0))
+    ends_with [] was old before old after ending refl none (refl, same) (memory_ends was.committed [] old ending gives.0)
+    (memory_is_written ending after gives.0))
     (λ some.
     ends_with (EpochServed some.1 ∷ []) was old before some.0 after ending refl none (some.0, after, some.2, (refl, refl))
-    (memory_ends was.committed [] some.0 ending gives.0))
+    (memory_ends was.committed [] some.0 ending gives.0) (memory_is_written ending after gives.0))
     gives.1
 
 -- what happened in an epoch, behind which other lines were written
@@ -298,6 +329,7 @@ epoch_beside was now due counts old before (Err ending) between after some still
         (λ fits. refl),
         memory_ends (was.committed + sum_by page_commits (due.page ∷ [])) [] went.1 ending gives.0,
       );
+      written = memory_is_written ending after gives.0;
     }
 
 found_ends : (committed : ℕ) (page : RestPage) (last : Standing) (ending : ServeEnding)
@@ -315,6 +347,8 @@ pub epoch_beside_unsound : (was : PageBook) (due : PageToAudit) (old : Standing)
     → EpochGives old before result between → Speaks between after → HasEndedServing was old before ending after
 epoch_beside_unsound was due old before result between after found ending some is same gives says =
     let went = epoch_happened old before result between after gives says in
+    let ends : EndsAsFound (λ found. IsFoundAs found due.page) ending =
+    subst (EndsAsFound (λ found. IsFoundAs found due.page)) (sym same) is in
     record {
       events = went.0;
       last = went.1;
@@ -326,9 +360,9 @@ epoch_beside_unsound was due old before result between after found ending some i
       ends = (
         was.committed,
         (λ fits. omega arith),
-        found_ends was.committed due.page went.1 ending
-            (subst (EndsAsFound (λ found. IsFoundAs found due.page)) (sym same) is),
+        found_ends was.committed due.page went.1 ending ends,
       );
+      written = found_is_written due.page ending after ends;
     }
 
 -- other lines were written twice

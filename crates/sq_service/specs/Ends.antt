@@ -1,5 +1,5 @@
 -- How an engine that is served ends.
-use Rattle.std.specs.Prelude.{◌≡◌, ◌⊎◌, ◌+◌, ◌^◌, ◌<◌, ℕ, List, [], ◌∷◌, ◌++◌, All, sum_by}
+use Rattle.std.specs.Prelude.{◌≡◌, ◌⊎◌, ◌+◌, ◌^◌, ◌<◌, ℕ, false, List, [], ◌∷◌, ◌++◌, All, sum_by}
 use Rattle.sq_ranges.specs.Prelude.{IsSetUp}
 use Rattle.sq_audit.specs.declared.verdict.Verdict.{Verdict}
 use Rattle.sq_audit.specs.declared.verdict.Verdict.TheVariants as verdict
@@ -52,6 +52,14 @@ ServiceEndsBy committed_before rest last (NoHeader fault) = ⊥
 ServiceEndsBy committed_before rest last Memory = Unit {0}
 ServiceEndsBy committed_before rest last Unwritten = Unit {0}
 
+-- where it ends sound, its desk has not stopped, so all that the desk was to write is written
+abbrev pub SoundIsWritten : ServeEnding → ServeDeskValue → Type 0
+SoundIsWritten (Sound families committed is_whole) desk = desk.has_stopped ≡ false
+SoundIsWritten (Unsound defect) desk = Unit {0}
+SoundIsWritten (NoHeader fault) desk = Unit {0}
+SoundIsWritten Memory desk = Unit {0}
+SoundIsWritten Unwritten desk = Unit {0}
+
 -- an engine was served until it ended so
 pub record HasEndedServing (was : PageBook) (old : Standing) (before : ServeDeskValue) (ending : ServeEnding) (after : ServeDeskValue) : Type 0 where
   pub events : List ServeEvent
@@ -64,3 +72,4 @@ pub record HasEndedServing (was : PageBook) (old : Standing) (before : ServeDesk
   pub ends : (total : ℕ)
       × (commits_on_pages was.committed judged < 2 ^ 64 → total ≡ commits_on_pages was.committed judged)
       × ServiceEndsBy total rest last ending
+  pub written : SoundIsWritten ending after

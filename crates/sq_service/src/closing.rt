@@ -1,18 +1,43 @@
 // How an engine that is served is closed.
 ghost use Rattle.std.specs.Prelude.{[]};
 ghost use Rattle.sq_ranges.specs.Prelude.{IsSetUp};
-ghost use Rattle.sq_service.specs.Ends.{ServiceEndsBy, ClosedEndsBy};
+ghost use Rattle.sq_server.specs.Becoming.{desk_value};
+ghost use Rattle.sq_service.specs.Ends.{ServiceEndsBy, ClosedEndsBy, SoundIsWritten};
 
 use crate::page_audit::{audit_closed, count_families};
 use sq_engine::{Closed, Engine};
-use sq_server::ServeEnding;
+use sq_server::{InputEnd, ServeDesk, ServeEnding};
 use std::alloc::Global;
+use std::io::Write;
 use std::sync::Wait;
 use std::thread::Threads;
 
-/// Closes an engine at rest with all jobs answered, and says how it ends. So many jobs were committed on the pages
-/// before, and the input was read to its end, or wasn't.
-pub(crate) fn close<T: Threads + Wait + Sync>(
+/// Closes an engine at rest with all jobs answered, unless its desk has stopped, and says how it ends. So many jobs
+/// were committed on the pages before.
+pub(crate) fn close_unless_stopped<T: Threads + Wait + Sync, W: Write + Drop>(
+    rt: &T,
+    alloc: Global,
+    engine: Engine,
+    desk: &ServeDesk<W>,
+    committed: u64,
+) -> ServeEnding
+    ensures ends { ServiceEndsBy committed [] engine result }
+    ensures written { SoundIsWritten result (desk_value W.contents desk.now) }
+{
+    match desk.stop_ending() {
+        Some(ending) => {
+            drop(engine);
+            ending
+        }
+        None => {
+            let is_whole = desk.end == Some(InputEnd::Whole);
+            close(rt, alloc, engine, committed, is_whole)
+        }
+    }
+}
+
+// Closes an engine, and says how it ends. The input was read to its end, or wasn't.
+fn close<T: Threads + Wait + Sync>(
     rt: &T,
     alloc: Global,
     engine: Engine,

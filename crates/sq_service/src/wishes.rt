@@ -1,16 +1,16 @@
 // What an epoch of an engine that is served ended for.
-ghost use Rattle.std.specs.Prelude.{◌≡◌, None};
+ghost use Rattle.std.specs.Prelude.{◌≡◌, false, None, IsOk};
 ghost use Rattle.sq_server.specs.Becoming.{desk_value};
 ghost use Rattle.sq_service.specs.Steps.{StepGives};
 
-use crate::closing::close;
+use crate::closing::close_unless_stopped;
 use crate::moving::{begin_move, note_rest};
 use crate::page_audit::PageToAudit;
 use crate::page_book::PageBook;
 use crate::rows::tell_rows;
 use sq_engine::Engine;
 use sq_serve::ServeWatch;
-use sq_server::{InputEnd, ServeDesk, ServeEnding, Wish};
+use sq_server::{ServeDesk, ServeEnding, Wish};
 use std::alloc::Global;
 use std::io::Write;
 use std::sync::Wait;
@@ -27,8 +27,9 @@ pub(crate) fn go_on<T: Threads + Wait + Sync, W: Write + Drop, V: ServeWatch>(
     book: &mut PageBook,
 ) -> Result<Engine, ServeEnding>
     requires { book.old.due ≡ None }
-    ensures { StepGives book.old engine (desk_value W.contents desk.old)
+    ensures gives { StepGives book.old engine (desk_value W.contents desk.old)
         book.new result (desk_value W.contents desk.new) }
+    ensures goes_on { IsOk result → (desk_value W.contents desk.old).has_stopped ≡ false }
 {
     if let Some(ending) = desk.stop_ending() {
         drop(engine);
@@ -104,10 +105,7 @@ fn grant<T: Threads + Wait + Sync, W: Write + Drop, V: ServeWatch>(
         Wish::Fold => take_page(rt, alloc, engine, desk, book, true),
         Wish::Move(plan) => begin_move(rt, alloc, engine, plan, desk, watch),
         Wish::Rows(asked) => Ok(tell_rows(rt, alloc, engine, desk, watch, asked)),
-        Wish::Close => {
-            let is_whole = desk.end == Some(InputEnd::Whole);
-            Err(close(rt, alloc, engine, book.committed, is_whole))
-        }
+        Wish::Close => Err(close_unless_stopped(rt, alloc, engine, desk, book.committed)),
     }
 }
 

@@ -21,7 +21,7 @@ returns-in-Ok g c =
     (served_steps was mid c.go_on-engine.new.book c.args.engine flushed c.in-Ok.engine between c.go_on-engine.result
     (dv c.go_on-engine.new.desk)
     (subst (λ (r : Result Standing ServeEnding). StepGives was c.args.engine flushed mid r between) c.in-Ok.is
-    c.go_through_epoch-desk.ensures.gives) c.go_on-engine.ensures)
+    c.go_through_epoch-desk.ensures.gives) c.go_on-engine.ensures.gives)
 
 pub returns-in-Err : goal.returns-in-Err
 returns-in-Err g c =

@@ -2,18 +2,20 @@ use Rattle.sq_server.specs.Becoming.{desk_value}
 use Rattle.sq_service.specs.Events.{GoneOn}
 use Rattle.std.proofs.Common.{[], ◌∷◌, refl}
 use Rattle.sq_engine.proofs.Goings.{stays}
-use Rattle.sq_service.proofs.Served.{ends_at_once, ends_with, stopped_ends, memory_ends, served_steps, speaks_only, speaks_then}
+use Rattle.sq_service.proofs.Served.{ends_at_once, ends_with, stopped_ends, stopped_is_written, memory_ends, memory_is_written, served_steps, speaks_only, speaks_then}
 use Rattle.sq_server.proofs.Desks.{writes_nothing}
 use Rattle.sq_service.proofs.wishes.go_on.Goals as goal
 
-pub returns-in-Some : goal.returns-in-Some
-returns-in-Some g c =
+pub returns-in-Some-clause-gives : goal.returns-in-Some-clause-gives
+returns-in-Some-clause-gives g c =
     let book = c.args.book.now in
-    ends_at_once book c.args.engine (desk_value g.W.Write.contents c.args.desk.now) c.in-Some.ending c.requires
-    (stopped_ends book.committed [] c.args.engine c.in-Some.ending c.in-Some.ensures)
+    let desk = desk_value g.W.Write.contents c.args.desk.now in
+    ends_at_once book c.args.engine desk c.in-Some.ending c.requires
+    (stopped_ends book.committed [] c.args.engine c.in-Some.ending c.in-Some.ensures.stopped)
+    (stopped_is_written c.in-Some.ending desk c.in-Some.ensures.stopped)
 
-pub returns-in-Ok : goal.returns-in-Ok
-returns-in-Ok g c =
+pub returns-in-Ok-clause-gives : goal.returns-in-Ok-clause-gives
+returns-in-Ok-clause-gives g c =
     let book = c.args.book.now in
     let before = desk_value g.W.Write.contents c.args.desk.now in
     let told = desk_value g.W.Write.contents c.note_rest.new.desk in
@@ -23,8 +25,8 @@ returns-in-Ok g c =
     (speaks_only book c.args.engine before flushed (speaks_then before told flushed c.note_rest.ensures.speaks (writes_nothing told flushed c.flush.ensures)))
     c.page_or_wish.ensures
 
-pub returns-in-Err : goal.returns-in-Err
-returns-in-Err g c =
+pub returns-in-Err-clause-gives : goal.returns-in-Err-clause-gives
+returns-in-Err-clause-gives g c =
     let book = c.args.book.now in
     let engine = c.args.engine in
     let before = desk_value g.W.Write.contents c.args.desk.now in
@@ -32,3 +34,4 @@ returns-in-Err g c =
     ends_with (GoneOn ∷ []) book engine before engine told c.in-Err.ending refl c.requires
     (engine, told, (stays engine engine refl, c.note_rest.ensures.speaks), (refl, refl))
     (memory_ends book.committed [] engine c.in-Err.ending c.in-Err.ensures.memory)
+    (memory_is_written c.in-Err.ending told c.in-Err.ensures.memory)

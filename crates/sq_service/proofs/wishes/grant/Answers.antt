@@ -9,7 +9,9 @@ returns-in-Move g c =
 
 pub returns-in-Close : goal.returns-in-Close
 returns-in-Close g c =
-    ends_at_once c.args.book.now c.args.engine (desk_value g.W.Write.contents c.args.desk.now) c.close.result c.requires c.close.ensures
+    let close = c.close_unless_stopped in
+    ends_at_once c.args.book.now c.args.engine (desk_value g.W.Write.contents c.args.desk.now) close.result c.requires close.ensures.ends
+    close.ensures.written
 
 pub returns-in-Rows : goal.returns-in-Rows
 returns-in-Rows g c =

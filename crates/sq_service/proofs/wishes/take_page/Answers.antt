@@ -13,4 +13,4 @@ returns-in-Ok g c =
 
 pub returns-in-Err : goal.returns-in-Err
 returns-in-Err g c =
-    ends_at_once c.args.book.now c.args.engine (desk_value g.W.Write.contents c.args.desk.now) Memory c.requires tt
+    ends_at_once c.args.book.now c.args.engine (desk_value g.W.Write.contents c.args.desk.now) Memory c.requires tt tt
