@@ -1,13 +1,19 @@
 //! What holds of engines that were served. The functions do nothing: each states a law, which the checker proves.
-ghost use Rattle.std.specs.Prelude.{List};
+ghost use Rattle.std.specs.Prelude.{ℕ, Bool, List};
 ghost use Rattle.sq_ranges.specs.Prelude.{OpeningValue};
 ghost use Rattle.sq_engine.specs.declared.closed.Closed.{Closed};
 ghost use Rattle.sq_engine.specs.declared.standing.Standing.{Standing};
 ghost use Rattle.sq_epoch.specs.Exchanges.{Exchange};
+ghost use Rattle.sq_live.specs.declared.outcome.LiveOutcome.TheVariants as outcome;
+ghost use Rattle.sq_live.specs.Outcome.{outcome_line};
+ghost use Rattle.sq_server.specs.declared.ending.ServeEnding.TheVariants.{Sound};
 ghost use Rattle.sq_server.specs.Becoming.{ServeDeskValue};
 ghost use Rattle.sq_server.specs.Written.{WritesEach};
 ghost use Rattle.sq_service.specs.Events.{ServeEvent, HappenEach};
 ghost use Rattle.sq_service.specs.Planned.{IsServedSoundly, EndsServingAsPlanned};
+ghost use Rattle.sq_service.specs.Service.{ServesWriter, GrewByAll};
+
+use std::io::Write;
 
 /// An engine that was served and closed ends as planned, where each page that was taken of it was found sound, and the last one.
 pub fn a_sound_service_ends_where_planned()
@@ -21,4 +27,13 @@ pub fn a_service_writes_each_answer()
     ensures { (old new : Standing) (before after : ServeDeskValue) (events : List ServeEvent)
         → HappenEach events old before new after
         → (exchanges : List Exchange) × WritesEach exchanges before after }
+{}
+
+/// Where an engine that was served ends sound, the line of each answer that its desk was given stands written, once, those of each
+/// partition in their order, other lines between them, and behind all the line of the ending.
+pub fn a_sound_service_wrote_all<W: Write>()
+    ensures { (old new : W) (families committed : ℕ) (is_whole : Bool)
+        → ServesWriter W.contents old new (Sound families committed is_whole)
+        → (exchanges : List Exchange) × GrewByAll exchanges
+        (outcome_line (outcome.Sound families committed)) (W.contents old) (W.contents new) }
 {}
