@@ -2,5 +2,5 @@ pub mod Served
 pub mod Planned
 pub mod Written
 pub mod Opened
-pub mod WroteAll
+pub mod WroteLines
 mod GivenRows

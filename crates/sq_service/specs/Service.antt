@@ -2,7 +2,6 @@
 use Rattle.std.specs.Prelude.{◌≡◌, ◌⊎◌, ◌^◌, ◌<◌, false, ℕ, List, [], ◌++◌, replicate, Option, None}
 use Rattle.std.specs.List.{flat_map}
 use Rattle.std.specs.Io.KnownBytes.{Appends}
-use Rattle.sq_epoch.specs.Exchanges.{Exchange, given_from}
 use Rattle.sq_ranges.specs.OpeningValue.{OpeningValue}
 use Rattle.sq_engine.specs.declared.closed.Closed.{Closed}
 use Rattle.sq_engine.specs.declared.standing.Standing.{Standing}
@@ -13,7 +12,7 @@ use Rattle.sq_server.specs.declared.ending.ServeEnding.TheVariants.{Sound, Unsou
 use Rattle.sq_server.specs.declared.feed.Fed.{Fed}
 use Rattle.sq_server.specs.declared.outlet.Outlet.{Outlet}
 use Rattle.sq_server.specs.Becoming.{ServeDeskValue}
-use Rattle.sq_server.specs.Written.{SaidLine, said_line, told_from}
+use Rattle.sq_server.specs.Written.{SaidLine, said_line}
 use Rattle.sq_service.specs.declared.page_book.PageBook.{PageBook}
 use Rattle.sq_service.specs.Ends.{HasEndedServing}
 use Rattle.sq_service.specs.Planned.{EndsServingAsPlanned}
@@ -81,9 +80,7 @@ pub record ServesWriter {W : Type 0} (contents : W → Option (List ℕ)) (old n
   pub tells : TellsEnding contents last ending end told
   pub end_writer : end.writer ≡ new
 
--- what a writer holds grew by the line of each answer that was given in these exchanges, once, those of each partition in their
--- order, by other lines between, and by this text behind them
-pub record GrewByAll (exchanges : List Exchange) (last : List ℕ) (old new : Option (List ℕ)) : Type 0 where
+-- what a writer holds grew by lines of answers and other lines, and by this text behind them
+pub record GrewByLines (last : List ℕ) (old new : Option (List ℕ)) : Type 0 where
   pub said : List SaidLine
-  pub told : (part : ℕ) → told_from part said ≡ given_from part exchanges
   pub written : Appends old new (flat_map said_line said ++ last)

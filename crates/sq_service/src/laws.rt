@@ -11,7 +11,7 @@ ghost use Rattle.sq_server.specs.Becoming.{ServeDeskValue};
 ghost use Rattle.sq_server.specs.Written.{WritesEach};
 ghost use Rattle.sq_service.specs.Events.{ServeEvent, HappenEach};
 ghost use Rattle.sq_service.specs.Planned.{IsServedSoundly, EndsServingAsPlanned};
-ghost use Rattle.sq_service.specs.Service.{ServesWriter, GrewByAll};
+ghost use Rattle.sq_service.specs.Service.{ServesWriter, GrewByLines};
 
 use std::io::Write;
 
@@ -29,11 +29,11 @@ pub fn a_service_writes_each_answer()
         → (exchanges : List Exchange) × WritesEach exchanges before after }
 {}
 
-/// Where an engine that was served ends sound, the line of each answer that its desk was given stands written, once, those of each
-/// partition in their order, other lines between them, and behind all the line of the ending.
-pub fn a_sound_service_wrote_all<W: Write>()
+/// Where an engine that was served ends sound, what it wrote is lines of answers, other lines between them, and behind all the line of
+/// its ending.
+pub fn a_sound_service_ends_with_its_line<W: Write>()
     ensures { (old new : W) (families committed : ℕ) (is_whole : Bool)
         → ServesWriter W.contents old new (Sound families committed is_whole)
-        → (exchanges : List Exchange) × GrewByAll exchanges
-        (outcome_line (outcome.Sound families committed)) (W.contents old) (W.contents new) }
+        → let line = outcome_line (outcome.Sound families committed) in
+        GrewByLines line (W.contents old) (W.contents new) }
 {}

@@ -1,10 +1,9 @@
--- What stands where an engine was served that ended sound.
+-- What an engine that ended sound wrote.
 use Rattle.std.proofs.Common.{◌≡◌, ⊎_elim, ℕ, Bool, true, false, if◌then◌else◌, List, ◌++◌, refl, sym, ap, subst}
 use Rattle.std.specs.Prelude.{Option}
 use Rattle.std.specs.List.{flat_map}
 use Rattle.std.specs.Io.KnownBytes.{Appends}
 use Rattle.sq_text.proofs.Appending.{both}
-use Rattle.sq_epoch.specs.Exchanges.{Exchange}
 use Rattle.sq_live.specs.declared.outcome.LiveOutcome.TheVariants as outcome
 use Rattle.sq_live.specs.Outcome.{outcome_line}
 use Rattle.sq_ranges.specs.OpeningValue.{OpeningValue}
@@ -14,13 +13,13 @@ use Rattle.sq_server.specs.declared.feed.Fed.{Fed}
 use Rattle.sq_server.specs.declared.outlet.Outlet.{Outlet}
 use Rattle.sq_server.specs.Written.{said_line}
 use Rattle.sq_service.specs.Telling.{IsLineOfEnding}
-use Rattle.sq_service.specs.Service.{first_desk, EngineServes, ServesSome, ServesWriter, GrewByAll}
+use Rattle.sq_service.specs.Service.{first_desk, EngineServes, ServesSome, ServesWriter, GrewByLines}
 use Rattle.sq_service.proofs.Written.{happen_write}
 
 sound-not-unwritten : {P : Type 0} (families committed : ℕ) (is_whole : Bool) → Sound families committed is_whole ≡ Unwritten → P
 sound-not-unwritten families committed is_whole e = cc
 
--- what is told as sound ended so, and its line was written
+-- an engine of which `sound` is written ended sound, and no write failed
 sound_told : (families committed : ℕ) (is_whole failed : Bool) (ending : ServeEnding)
     → Sound families committed is_whole ≡ (if failed then Unwritten else ending)
     → (failed ≡ false) × (ending ≡ Sound families committed is_whole)
@@ -28,14 +27,11 @@ sound_told families committed is_whole true ending e = sound-not-unwritten famil
 sound_told families committed is_whole false ending e = (refl, sym e)
 
 module _ {W : Type 0} (contents : W → Option (List ℕ)) where
-  abbrev pub WroteAll : List ℕ → Option (List ℕ) → Option (List ℕ) → Type 0
-  WroteAll last old new = (exchanges : List Exchange) × GrewByAll exchanges last old new
-
   -- what an engine's desk wrote that ended sound, and then a line more
   served_wrote : (o : OpeningValue) (heard : List Fed) (families committed : ℕ) (is_whole : Bool) (first last end : Outlet W) (line : List ℕ)
       → EngineServes contents o (first_desk contents first heard o.new.parts) (Sound families committed is_whole) last
       → Appends (contents last.writer) (contents end.writer) line
-      → WroteAll line (contents first.writer) (contents end.writer)
+      → GrewByLines line (contents first.writer) (contents end.writer)
   served_wrote o heard families committed is_whole first last end line serves told =
       let by = serves.2 in
       let before = first_desk contents first heard o.new.parts in
@@ -43,25 +39,21 @@ module _ {W : Type 0} (contents : W → Option (List ℕ)) where
       let all = flat_map said_line some.1.said in
       let wrote : Appends (contents first.writer) (contents last.writer) all =
       subst (λ (now : Option (List ℕ)). Appends (contents first.writer) now all) (sym by.written)
-      (some.1.written by.ended.written) in (
-        some.0,
-        record {
-          said = some.1.said;
-          told = some.1.told;
-          written = both (contents first.writer) (contents last.writer) (contents end.writer) all line (all ++ line) wrote told refl;
-        },
-      )
+      (some.1.written by.ended.written) in record {
+        said = some.1.said;
+        written = both (contents first.writer) (contents last.writer) (contents end.writer) all line (all ++ line) wrote told refl;
+      }
 
-  pub sound_wrote_all : (old new : W) (families committed : ℕ) (is_whole : Bool) → ServesWriter contents old new (Sound families committed is_whole)
-      → WroteAll (outcome_line (outcome.Sound families committed)) (contents old) (contents new)
-  sound_wrote_all old new families committed is_whole s =
+  pub sound_wrote_lines : (old new : W) (families committed : ℕ) (is_whole : Bool) → ServesWriter contents old new (Sound families committed is_whole)
+      → GrewByLines (outcome_line (outcome.Sound families committed)) (contents old) (contents new)
+  sound_wrote_lines old new families committed is_whole s =
       let sound = sound_told families committed is_whole s.end.has_failed s.ending s.tells.told_is in
       let line = outcome_line (outcome.Sound families committed) in
       let is : s.tells.text ≡ line = subst (λ (e : ServeEnding). IsLineOfEnding e s.tells.text) sound.1 s.tells.is in
       let told : Appends (contents s.last.writer) (contents s.end.writer) line =
       subst (λ (text : List ℕ). Appends (contents s.last.writer) (contents s.end.writer) text) is (s.tells.written sound.0) in
-      subst (λ (w : W). WroteAll line (contents w) (contents new)) s.first_writer
-      (subst (λ (w : W). WroteAll line (contents s.first.writer) (contents w)) s.end_writer
+      subst (λ (w : W). GrewByLines line (contents w) (contents new)) s.first_writer
+      (subst (λ (w : W). GrewByLines line (contents s.first.writer) (contents w)) s.end_writer
       (⊎_elim
       (λ served.
       served_wrote served.0 served.1 families committed is_whole s.first s.last s.end line served.2 told)
