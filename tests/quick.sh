@@ -54,7 +54,7 @@ hand_over() {
 }
 
 # run_lane LANE: gives the program all cases of a lane, and leaves what it wrote for each. Its name is squall, and program under
-# `rt try`. `--steps 1` leaves out the interpreter, which can't run a program with words.
+# `rt try`. `--steps 1` ends the interpreter, which can't run a program with words, at once.
 run_lane() {
     local own="s/(^|: |\`)program( |:|\$)/\1squall\2/; s/'program'/'squall'/" data
     mapfile -t data < "$1/data"
