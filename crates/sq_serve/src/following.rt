@@ -21,7 +21,7 @@ pub struct Following<A: Read, B: Read> {
 }
 
 /// Where the reading is.
-#[derive(Clone, Copy, Debug, PartialEq, Eq)]
+#[derive(Clone, Copy)]
 pub(crate) enum FollowingPlace {
     /// In the first reader, at the start of a line of it or within one.
     First { at_start: bool },

@@ -9,7 +9,7 @@ use std::io;
 use std::io::Write;
 
 /// What an engine answers to a line that isn't a job, or that asks nothing.
-#[derive(Clone, Copy, Debug, PartialEq, Eq)]
+#[derive(Clone, Copy, Debug)]
 pub enum ServeAnswer {
     /// The line with this number has this fault.
     Fault {
@@ -50,23 +50,31 @@ pub fn write_serve_answer<W: Write>(writer: &mut W, answer: ServeAnswer) -> Resu
     ensures { OnOk result (Appends (W.contents writer.old) (W.contents writer.new)
         (serve_answer_line answer)) }
 {
+    write_answer_line(writer, answer)?;
+    Ok(())
+}
+
+// Writes the line of an answer.
+fn write_answer_line<W: Write>(writer: &mut W, answer: ServeAnswer) -> io::Result<()>
+    ensures { OnOk result (Appends (W.contents writer.old) (W.contents writer.new)
+        (serve_answer_line answer)) }
+{
     match answer {
-        ServeAnswer::Fault { fault, line } => writeln!(writer, "fault {fault} {line}")?,
-        ServeAnswer::Moving { segments } => writeln!(writer, "moving {segments}")?,
-        ServeAnswer::Moved { segments } => writeln!(writer, "moved {segments}")?,
+        ServeAnswer::Fault { fault, line } => writeln!(writer, "fault {fault} {line}"),
+        ServeAnswer::Moving { segments } => writeln!(writer, "moving {segments}"),
+        ServeAnswer::Moved { segments } => writeln!(writer, "moved {segments}"),
         ServeAnswer::Folded {
             families,
             committed,
-        } => writeln!(writer, "folded {families} {committed}")?,
-        ServeAnswer::Rows { count } => writeln!(writer, "rows {count}")?,
-        ServeAnswer::AtRest { unanswered } => write_rest(writer, unanswered)?,
+        } => writeln!(writer, "folded {families} {committed}"),
+        ServeAnswer::Rows { count } => writeln!(writer, "rows {count}"),
+        ServeAnswer::AtRest { unanswered } => write_rest(writer, unanswered),
         ServeAnswer::Progress {
             complete,
             segments,
             unanswered,
-        } => write_progress(writer, complete, segments, unanswered)?,
+        } => write_progress(writer, complete, segments, unanswered),
     }
-    Ok(())
 }
 
 // Writes how many jobs have no answer where nothing moves.

@@ -8,7 +8,7 @@ use sq_schema::{OUT_OF_MEMORY, TxnFault};
 use thiserror::Error;
 
 /// Why a line behind the header asks nothing of an engine.
-#[derive(Clone, Copy, Debug, PartialEq, Eq, Error)]
+#[derive(Clone, Copy, Debug, Error)]
 #[error("{}", meaning(self.number()))]
 pub enum ServeFault {
     /// 126.

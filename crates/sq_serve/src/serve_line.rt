@@ -1,5 +1,5 @@
 // What the lines behind a header ask of an engine.
-ghost use Rattle.std.specs.Prelude.{◌≡◌, true, Ok, Err};
+ghost use Rattle.std.specs.Prelude.{◌≡◌, ◌≢◌, true, Ok, Err};
 ghost use Rattle.sq_plan.specs.Reading.{plan_in};
 ghost use Rattle.sq_text.specs.Steps.{step_of, begins_txn};
 ghost use Rattle.sq_text.specs.Words.{words_of};
@@ -119,10 +119,31 @@ fn job_of(alloc: Global, schema: &Schema, line: &[u8]) -> Result<ServeLine, Serv
     ensures memory { result ≡ Err ServeFault.Memory → begins_txn (words_of line.now) ≡ true }
 {
     match read_step(alloc, schema, line) {
-        Ok(Step::Submit(part, txn)) => Ok(ServeLine::Job { part, txn }),
-        Ok(_) | Err(LineFault::NotAStep) => Err(ServeFault::NotAServeLine),
-        Err(LineFault::TooLong) => Err(ServeFault::TooLong),
-        Err(LineFault::Txn(fault)) => Err(ServeFault::Txn(fault)),
-        Err(LineFault::Memory) => Err(ServeFault::Memory),
+        Ok(step) => job_in(step),
+        Err(fault) => Err(fault_of(fault)),
+    }
+}
+
+// The job that a step submits, if it submits one.
+fn job_in(step: Step) -> Result<ServeLine, ServeFault>
+    ensures job { result ≡ job_of_step (Ok step) }
+    ensures no_memory { result ≢ Err ServeFault.Memory }
+{
+    match step {
+        Step::Submit(part, txn) => Ok(ServeLine::Job { part, txn }),
+        _ => Err(ServeFault::NotAServeLine),
+    }
+}
+
+// The fault of a line that spells no step.
+fn fault_of(fault: LineFault) -> ServeFault
+    ensures fault { Err result ≡ job_of_step (Err fault) }
+    ensures memory { result ≡ ServeFault.Memory → fault ≡ LineFault.Memory }
+{
+    match fault {
+        LineFault::NotAStep => ServeFault::NotAServeLine,
+        LineFault::TooLong => ServeFault::TooLong,
+        LineFault::Txn(fault) => ServeFault::Txn(fault),
+        LineFault::Memory => ServeFault::Memory,
     }
 }

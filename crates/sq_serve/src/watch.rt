@@ -5,7 +5,7 @@ use sq_plan::PartId;
 use std::io;
 
 /// What is done by an engine that is served.
-#[derive(Clone, Copy, Debug, PartialEq, Eq)]
+#[derive(Clone, Copy, Debug)]
 pub enum ServeMark {
     /// A move of so many segments begins.
     MoveBegins {
