@@ -1,5 +1,5 @@
 // Between the lines that come and the epochs of an engine.
-ghost use Rattle.std.specs.Prelude.{◌≡◌, ◌||◌, false, [], ◌∷◌, ◌<◌, length, Ok, IfSome, IfNone, MatchOption};
+ghost use Rattle.std.specs.Prelude.{◌≡◌, ◌||◌, true, false, [], ◌∷◌, ◌<◌, length, Ok, IfSome, IfNone, MatchOption};
 ghost use Rattle.rtrb.specs.Ring.{received};
 ghost use Rattle.sq_serve.specs.declared.serve_line.ServeLine.TheVariants as asks;
 ghost use Rattle.sq_server.specs.declared.feed.Fed.TheVariants as fed;
@@ -166,6 +166,8 @@ impl<W: Write + Drop> ServeDesk<W> {
     /// How it ends where nothing more can be done.
     pub fn stop_ending(&self) -> Option<ServeEnding>
         ensures stopped { IfSome result EndsStopped }
+        ensures stops { IfSome result (λ ending.
+            (desk_value W.contents self.now).has_stopped ≡ true) }
         ensures goes_on { IfNone result ((desk_value W.contents self.now).has_stopped ≡ false) }
     {
         if self.outlet.has_failed {

@@ -103,9 +103,11 @@ module _ (o : OpeningValue) where
 
   happens_sound : (event : ServeEvent) (old : Standing) (before : ServeDeskValue) (new : Standing) (after : ServeDeskValue)
       → Happens event old before new after → All (IsFoundAs Sound) (page_turned event) → CameBySoundPages o old → CameBySoundPages o new
-  happens_sound (EpochServed is_whole) old before new after is sound at =
-      keeps_sound (Running is.served_epoch) new is.goes_on.0
-      (keeps_sound (Running is.epoch) (Running is.served_epoch) is.history (keeps_sound old (Running is.epoch) is.comes.0 at))
+  happens_sound (EpochServed is_whole exchanges) old before new after is sound at =
+      let served = is.0 in
+      keeps_sound (Running served.served_epoch) new served.goes_on.0
+      (keeps_sound (Running served.epoch) (Running served.served_epoch) served.history
+      (keeps_sound old (Running served.epoch) served.comes.0 at))
   happens_sound (PageTurned page) old before new after is sound at =
       takes_sound old new page is.0 (All-head (IsFoundAs Sound) page [] sound) at
   happens_sound RowsTold old before new after is sound at = keeps_sound old new is.0.0 at

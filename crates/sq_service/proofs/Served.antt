@@ -1,6 +1,6 @@
 -- How an engine that is served changes, step by step.
 use Rattle.std.proofs.Common.{◌≡◌, ⊎_elim, inl, inr, ℕ, ◌+◌, ◌<◌, ◌^◌, Bool, true, false, List, [], ◌∷◌, ◌++◌, refl, sym, ap, subst, ◌∙◌, append_assoc, append-nil, arith}
-use Rattle.std.specs.Prelude.{sum_by, Option, Some, None, Result, Ok, Err, IfOk, OnErr}
+use Rattle.std.specs.Prelude.{All, length, sum_by, Option, Some, None, Result, Ok, Err, IfOk, IfErr, OnErr}
 use Rattle.std.specs.List.{flat_map}
 use Rattle.std.proofs.lemmas.Grind.{flat_map-append}
 use Rattle.std.proofs.lemmas.List.Elements.{All-nil, All-cons, All-append}
@@ -29,8 +29,8 @@ use Rattle.sq_service.specs.declared.page_audit.PageToAudit.{PageToAudit}
 use Rattle.sq_service.specs.declared.page_book.PageBook.{PageBook}
 use Rattle.sq_service.specs.Judging.{IsFoundAs, ClosesAs, page_commits, EndsAsFound, JudgesPage}
 use Rattle.sq_service.specs.Rows.{TellsRowsOrSpeaks}
-use Rattle.sq_service.specs.Events.{ServeEvent, EpochServed, PageTurned, RowsTold, GoneOn, HappenEach, page_turned, pages_turned, page_due, HasServed}
-use Rattle.sq_service.specs.Ends.{ClosedEndsBy, ServiceEndsBy, SoundIsWritten, HasEndedServing}
+use Rattle.sq_service.specs.Events.{ServeEvent, EpochServed, PageTurned, RowsTold, GoneOn, Happens, HappenEach, IsServedWhole, page_turned, pages_turned, page_due, HasServed}
+use Rattle.sq_service.specs.Ends.{ClosedEndsBy, ServiceEndsBy, IsCleared, DeskEndsBy, SoundIsWhole, HasEndedServing}
 use Rattle.sq_service.specs.Steps.{IsWholeEngine, EpochGives, GoesOrLacksMemory, EntersPage, StepGives, first_ending}
 
 happen_append : (first more : List ServeEvent) (old : Standing) (before : ServeDeskValue) (mid : Standing) (between : ServeDeskValue)
@@ -73,6 +73,7 @@ served_then a b c old before mid between new after one two =
     record {
       events = one.events ++ two.events;
       happened = happen_append one.events two.events old before mid between new after one.happened two.happened;
+      whole = All-append IsServedWhole one.events two.events one.whole two.whole;
       judged = one.judged ++ two.judged;
       pages =
           pages_through (page_due a.due) (pages_turned one.events) (pages_turned two.events) (pages_turned (one.events ++ two.events))
@@ -84,6 +85,15 @@ served_then a b c old before mid between new after one two =
           (sum_by page_commits (one.judged ++ two.judged)) b.committed c.committed
           (sum_by-append page_commits one.judged two.judged) one.committed two.committed fits;
     }
+
+-- no answer is missing, before and where it ends
+whole_then : (ending : ServeEnding) (first more : List ServeEvent) → All IsServedWhole first → SoundIsWhole ending more
+    → SoundIsWhole ending (first ++ more)
+whole_then (Sound families total is_whole) first more one two = All-append IsServedWhole first more one two
+whole_then (Unsound defect) first more one two = tt
+whole_then (NoHeader fault) first more one two = tt
+whole_then Memory first more one two = tt
+whole_then Unwritten first more one two = tt
 
 -- what was served for a while, and then until it ended
 pub served_ends : (a b : PageBook) (old : Standing) (before : ServeDeskValue) (mid : Standing) (between : ServeDeskValue)
@@ -109,6 +119,7 @@ served_ends a b old before mid between ending after one two =
             (sum_by-append page_commits one.judged two.judged) one.committed two.ends.1 fits),
         two.ends.2,
       );
+      whole = whole_then ending one.events two.events one.whole two.whole;
       written = two.written;
     }
 
@@ -119,14 +130,25 @@ pub served_steps : (a b c : PageBook) (old : Standing) (before : ServeDeskValue)
 served_steps a b c old before mid between (Ok new) after one two = served_then a b c old before mid between new after one two
 served_steps a b c old before mid between (Err ending) after one two = served_ends a b old before mid between ending after one two
 
+pub none_missing : All IsServedWhole []
+none_missing = All-nil IsServedWhole
+
+one_whole : (event : ServeEvent) (events : List ServeEvent) → IsServedWhole event → All IsServedWhole events → All IsServedWhole (event ∷ events)
+one_whole event events first more = All-cons IsServedWhole event events first more
+
+-- other lines alone
+gone_whole : All IsServedWhole (GoneOn ∷ [])
+gone_whole = one_whole GoneOn [] tt none_missing
+
 -- some events, in which no page was taken, and none is judged
 pub no_page_judged : (events : List ServeEvent) (was now : PageBook) (old : Standing) (before : ServeDeskValue) (new : Standing) (after : ServeDeskValue)
     → pages_turned events ≡ [] → now.due ≡ was.due → now.committed ≡ was.committed
-    → HappenEach events old before new after → HasServed was old before now new after
-no_page_judged events was now old before new after none due committed happened =
+    → HappenEach events old before new after → All IsServedWhole events → HasServed was old before now new after
+no_page_judged events was now old before new after none due committed happened whole =
     record {
       events = events;
       happened = happened;
+      whole = whole;
       judged = [];
       pages =
           ap (λ (l : List RestPage). page_due was.due ++ l) none ∙ append-nil (page_due was.due)
@@ -137,13 +159,13 @@ no_page_judged events was now old before new after none due committed happened =
 
 -- nothing happened
 pub not_yet : (book : PageBook) (old : Standing) (before : ServeDeskValue) → HasServed book old before book old before
-not_yet book old before = no_page_judged [] book book old before old before refl refl refl (refl, refl)
+not_yet book old before = no_page_judged [] book book old before old before refl refl refl (refl, refl) none_missing
 
 -- an engine continued, and other lines were written
 pub goes_on : (book : PageBook) (old : Standing) (before : ServeDeskValue) (new : Standing) (after : ServeDeskValue)
     → KeepsHistoryAndJobs old new → Speaks before after → HasServed book old before book new after
 goes_on book old before new after keeps says =
-    no_page_judged (GoneOn ∷ []) book book old before new after refl refl refl (new, after, (keeps, says), (refl, refl))
+    no_page_judged (GoneOn ∷ []) book book old before new after refl refl refl (new, after, (keeps, says), (refl, refl)) gone_whole
 
 -- rows were written as lines, or other lines were
 pub rows_gone : (book : PageBook) (old : Standing) (before : ServeDeskValue) (new : Standing) (after : ServeDeskValue)
@@ -151,7 +173,8 @@ pub rows_gone : (book : PageBook) (old : Standing) (before : ServeDeskValue) (ne
 rows_gone book old before new after is =
     ⊎_elim
     (λ told.
-    no_page_judged (RowsTold ∷ []) book book old before new after refl refl refl (new, after, (is.0, told), (refl, refl)))
+    no_page_judged (RowsTold ∷ []) book book old before new after refl refl refl (new, after, (is.0, told), (refl, refl))
+    (one_whole RowsTold [] tt none_missing))
     (λ says. goes_on book old before new after is.0 says)
     is.1
 
@@ -162,9 +185,9 @@ speaks_only book old before after says = goes_on book old before old after (stay
 -- it ends with these events, where no page is due
 pub ends_with : (events : List ServeEvent) (was : PageBook) (old : Standing) (before : ServeDeskValue) (last : Standing) (after : ServeDeskValue)
     (ending : ServeEnding) → pages_turned events ≡ [] → was.due ≡ None
-    → HappenEach events old before last after → ServiceEndsBy was.committed [] last ending → SoundIsWritten ending after
-    → HasEndedServing was old before ending after
-ends_with events was old before last after ending none due happened ends written =
+    → HappenEach events old before last after → ServiceEndsBy was.committed [] last ending → SoundIsWhole ending events
+    → DeskEndsBy ending after → HasEndedServing was old before ending after
+ends_with events was old before last after ending none due happened ends whole written =
     record {
       events = events;
       last = last;
@@ -174,39 +197,64 @@ ends_with events was old before last after ending none due happened ends written
       pages = ap (λ (l : List RestPage). page_due was.due ++ l) none ∙ append-nil (page_due was.due) ∙ ap page_due due;
       sound = All-nil (IsFoundAs verdict.Sound);
       ends = (was.committed, (λ fits. omega arith), ends);
+      whole = whole;
       written = written;
     }
 
+nothing_whole : (ending : ServeEnding) → SoundIsWhole ending []
+nothing_whole (Sound families total is_whole) = none_missing
+nothing_whole (Unsound defect) = tt
+nothing_whole (NoHeader fault) = tt
+nothing_whole Memory = tt
+nothing_whole Unwritten = tt
+
 pub ends_at_once : (was : PageBook) (old : Standing) (before : ServeDeskValue) (ending : ServeEnding) → was.due ≡ None
-    → ServiceEndsBy was.committed [] old ending → SoundIsWritten ending before → HasEndedServing was old before ending before
-ends_at_once was old before ending due ends written = ends_with [] was old before old before ending refl due (refl, refl) ends written
+    → ServiceEndsBy was.committed [] old ending → DeskEndsBy ending before → HasEndedServing was old before ending before
+ends_at_once was old before ending due ends written =
+    ends_with [] was old before old before ending refl due (refl, refl) ends (nothing_whole ending) written
 
--- a desk that has not stopped
-pub unstopped_is_written : (ending : ServeEnding) (desk : ServeDeskValue) → desk.has_stopped ≡ false → SoundIsWritten ending desk
-unstopped_is_written (Sound families total is_whole) desk still = still
-unstopped_is_written (Unsound defect) desk still = tt
-unstopped_is_written (NoHeader fault) desk still = tt
-unstopped_is_written Memory desk still = tt
-unstopped_is_written Unwritten desk still = tt
+-- an engine was closed whose desk has not stopped, and at which no job waits
+pub closed_at_desk : (ending : ServeEnding) (desk : ServeDeskValue) → desk.has_stopped ≡ false → sum_by length desk.waiting ≡ 0
+    → (ending ≡ Unwritten → ⊥) → DeskEndsBy ending desk
+closed_at_desk (Sound families total is_whole) desk still none written = record { still = still; none_waits = none }
+closed_at_desk (Unsound defect) desk still none written = tt
+closed_at_desk (NoHeader fault) desk still none written = tt
+closed_at_desk Memory desk still none written = tt
+closed_at_desk Unwritten desk still none written = absurd (written refl)
 
--- no ending but a sound one says that all is written
-pub stopped_is_written : (ending : ServeEnding) (desk : ServeDeskValue) → EndsStopped ending → SoundIsWritten ending desk
-stopped_is_written (Sound families total is_whole) desk stopped = absurd stopped
-stopped_is_written (Unsound defect) desk stopped = tt
-stopped_is_written (NoHeader fault) desk stopped = tt
-stopped_is_written Memory desk stopped = tt
-stopped_is_written Unwritten desk stopped = tt
+-- a desk that has stopped
+pub stopped_at_desk : (ending : ServeEnding) (desk : ServeDeskValue) → EndsStopped ending → desk.has_stopped ≡ true → DeskEndsBy ending desk
+stopped_at_desk (Sound families total is_whole) desk stopped stops = absurd stopped
+stopped_at_desk (Unsound defect) desk stopped stops = tt
+stopped_at_desk (NoHeader fault) desk stopped stops = tt
+stopped_at_desk Memory desk stopped stops = tt
+stopped_at_desk Unwritten desk stopped stops = stops
 
-pub memory_is_written : (ending : ServeEnding) (desk : ServeDeskValue) → ending ≡ Memory → SoundIsWritten ending desk
-memory_is_written ending desk memory = subst (λ (e : ServeEnding). SoundIsWritten e desk) (sym memory) tt
+-- no closed engine ends for want of a write
+pub closed_is_written : (committed : ℕ) (closed : Closed) (ending : ServeEnding) → ClosedEndsBy committed closed ending → ending ≡ Unwritten → ⊥
+closed_is_written committed closed ending is unwritten = subst (ClosedEndsBy committed closed) unwritten is
 
-found_is_written : (page : RestPage) (ending : ServeEnding) (desk : ServeDeskValue)
-    → EndsAsFound (λ found. IsFoundAs found page) ending → SoundIsWritten ending desk
-found_is_written page (Sound families total is_whole) desk found = absurd found
-found_is_written page (Unsound defect) desk found = tt
-found_is_written page (NoHeader fault) desk found = tt
-found_is_written page Memory desk found = tt
-found_is_written page Unwritten desk found = tt
+pub memory_at_desk : (ending : ServeEnding) (desk : ServeDeskValue) → ending ≡ Memory → DeskEndsBy ending desk
+memory_at_desk ending desk memory = subst (λ (e : ServeEnding). DeskEndsBy e desk) (sym memory) tt
+
+pub memory_is_whole : (ending : ServeEnding) (events : List ServeEvent) → ending ≡ Memory → SoundIsWhole ending events
+memory_is_whole ending events memory = subst (λ (e : ServeEnding). SoundIsWhole e events) (sym memory) tt
+
+found_is_whole : (page : RestPage) (ending : ServeEnding) (events : List ServeEvent)
+    → EndsAsFound (λ found. IsFoundAs found page) ending → SoundIsWhole ending events
+found_is_whole page (Sound families total is_whole) events found = absurd found
+found_is_whole page (Unsound defect) events found = tt
+found_is_whole page (NoHeader fault) events found = tt
+found_is_whole page Memory events found = tt
+found_is_whole page Unwritten events found = tt
+
+found_at_desk : (page : RestPage) (ending : ServeEnding) (desk : ServeDeskValue)
+    → EndsAsFound (λ found. IsFoundAs found page) ending → DeskEndsBy ending desk
+found_at_desk page (Sound families total is_whole) desk found = absurd found
+found_at_desk page (Unsound defect) desk found = tt
+found_at_desk page (NoHeader fault) desk found = tt
+found_at_desk page Memory desk found = tt
+found_at_desk page Unwritten desk found = absurd found
 
 -- where memory runs out
 pub memory_ends : (committed : ℕ) (rest : List RestPage) (last : Standing) (ending : ServeEnding) → ending ≡ Memory → ServiceEndsBy committed rest last ending
@@ -226,7 +274,15 @@ pub goes_or_ends : (book : PageBook) (old : Standing) (before : ServeDeskValue) 
 goes_or_ends book old before (Ok new) after due gives = goes_on book old before new after gives.0 gives.1
 goes_or_ends book old before (Err ending) after due gives =
     ends_with (GoneOn ∷ []) book old before old after ending refl due (old, after, (stays old old refl, gives.1), (refl, refl))
-    (memory_ends book.committed [] old ending gives.0) (memory_is_written ending after gives.0)
+    (memory_ends book.committed [] old ending gives.0) (memory_is_whole ending (GoneOn ∷ []) gives.0) (memory_at_desk ending after gives.0)
+
+-- a closed engine ends, or continues where a job waits
+pub closed_or_not : (book : PageBook) (old : Standing) (desk : ServeDeskValue) (result : Result Standing ServeEnding) → book.due ≡ None
+    → IfOk result (λ next. next ≡ old) → IfErr result (λ ending. ServiceEndsBy book.committed [] old ending)
+    → IfErr result (λ ending. DeskEndsBy ending desk) → StepGives book old desk book result desk
+closed_or_not book old desk (Ok next) due same ends written =
+    subst (λ (engine : Standing). HasServed book old desk book engine desk) (sym same) (not_yet book old desk)
+closed_or_not book old desk (Err ending) due same ends written = ends_at_once book old desk ending due ends written
 
 -- a page is taken, which is due then
 pub takes_page : (was now : PageBook) (due : PageToAudit) (old : Standing) (before : ServeDeskValue) (new : Standing)
@@ -236,6 +292,7 @@ takes_page was now due old before new none some committed takes =
     record {
       events = PageTurned due.page ∷ [];
       happened = (new, before, (takes, refl), (refl, refl));
+      whole = one_whole (PageTurned due.page) [] tt none_missing;
       judged = [];
       pages = ap (λ (d : Option PageToAudit). page_due d ++ due.page ∷ []) none ∙ ap page_due (sym some);
       sound = All-nil (IsFoundAs verdict.Sound);
@@ -247,16 +304,19 @@ pub epoch_alone : (was now : PageBook) (old : Standing) (before : ServeDeskValue
     → was.due ≡ None → now.due ≡ None → now.committed ≡ was.committed
     → EpochGives old before result after → StepGives was old before now result after
 epoch_alone was now old before (Ok new) after none still committed gives =
-    no_page_judged (EpochServed true ∷ []) was now old before new after refl (still ∙ sym none) committed
-    (new, after, gives, (refl, refl))
+    let event = EpochServed true gives.exchanges in
+    no_page_judged (event ∷ []) was now old before new after refl (still ∙ sym none) committed
+    (new, after, (gives, refl), (refl, refl)) (one_whole event [] refl none_missing)
 epoch_alone was now old before (Err ending) after none still committed gives =
     ⊎_elim
     (λ same.
     ends_with [] was old before old after ending refl none (refl, same) (memory_ends was.committed [] old ending gives.0)
-    (memory_is_written ending after gives.0))
+    (nothing_whole ending) (memory_at_desk ending after gives.0))
     (λ some.
-    ends_with (EpochServed some.1 ∷ []) was old before some.0 after ending refl none (some.0, after, some.2, (refl, refl))
-    (memory_ends was.committed [] some.0 ending gives.0) (memory_is_written ending after gives.0))
+    let events = EpochServed some.1 some.2.exchanges ∷ [] in
+    ends_with events was old before some.0 after ending refl none (some.0, after, (some.2, refl), (refl, refl))
+    (memory_ends was.committed [] some.0 ending gives.0) (memory_is_whole ending events gives.0)
+    (memory_at_desk ending after gives.0))
     gives.1
 
 -- what happened in an epoch, behind which other lines were written
@@ -267,9 +327,9 @@ EpochHappened old before after =
 epoch_happened : (old : Standing) (before : ServeDeskValue) (result : Result Standing ServeEnding) (between after : ServeDeskValue)
     → EpochGives old before result between → Speaks between after → EpochHappened old before after
 epoch_happened old before (Ok new) between after gives says = (
-  EpochServed true ∷ GoneOn ∷ [],
+  EpochServed true gives.exchanges ∷ GoneOn ∷ [],
   new,
-  (new, between, gives, (new, after, (stays new new refl, says), (refl, refl))),
+  (new, between, (gives, refl), (new, after, (stays new new refl, says), (refl, refl))),
   refl,
 )
 epoch_happened old before (Err ending) between after gives says =
@@ -281,9 +341,9 @@ epoch_happened old before (Err ending) between after gives says =
       refl,
     ))
     (λ some. (
-      EpochServed some.1 ∷ GoneOn ∷ [],
+      EpochServed some.1 some.2.exchanges ∷ GoneOn ∷ [],
       some.0,
-      (some.0, between, some.2, (some.0, after, (stays some.0 some.0 refl, says), (refl, refl))),
+      (some.0, between, (some.2, refl), (some.0, after, (stays some.0 some.0 refl, says), (refl, refl))),
       refl,
     ))
     gives.1
@@ -302,10 +362,12 @@ pub epoch_beside : (was now : PageBook) (due : PageToAudit) (counts : PageCounts
     → IsFoundAs verdict.Sound due.page
     → EpochGives old before result between → Speaks between after → StepGives was old before now result after
 epoch_beside was now due counts old before (Ok new) between after some still commits enters sound gives says =
-    let events = EpochServed true ∷ GoneOn ∷ [] in
+    let event = EpochServed true gives.exchanges in
+    let events = event ∷ GoneOn ∷ [] in
     record {
       events = events;
-      happened = (new, between, gives, (new, after, (stays new new refl, says), (refl, refl)));
+      happened = (new, between, (gives, refl), (new, after, (stays new new refl, says), (refl, refl)));
+      whole = one_whole event (GoneOn ∷ []) refl gone_whole;
       judged = due.page ∷ [];
       pages = one_page was due events some refl ∙ ap (λ (d : Option PageToAudit). due.page ∷ page_due d) (sym still);
       sound = All-cons (IsFoundAs verdict.Sound) due.page [] sound (All-nil (IsFoundAs verdict.Sound));
@@ -329,7 +391,8 @@ epoch_beside was now due counts old before (Err ending) between after some still
         (λ fits. refl),
         memory_ends (was.committed + sum_by page_commits (due.page ∷ [])) [] went.1 ending gives.0,
       );
-      written = memory_is_written ending after gives.0;
+      whole = memory_is_whole ending went.0 gives.0;
+      written = memory_at_desk ending after gives.0;
     }
 
 found_ends : (committed : ℕ) (page : RestPage) (last : Standing) (ending : ServeEnding)
@@ -362,7 +425,8 @@ epoch_beside_unsound was due old before result between after found ending some i
         (λ fits. omega arith),
         found_ends was.committed due.page went.1 ending ends,
       );
-      written = found_is_written due.page ending after ends;
+      whole = found_is_whole due.page ending went.0 ends;
+      written = found_at_desk due.page ending after ends;
     }
 
 -- other lines were written twice

@@ -13,7 +13,7 @@ use Rattle.sq_server.specs.Written.{Other, WritesEach}
 use Rattle.std.specs.Io.KnownBytes.{Appends}
 use Rattle.sq_server.proofs.Epochs.{none_written, writes_then, others_said, others_tell_none}
 use Rattle.sq_service.specs.Rows.{TellsRows}
-use Rattle.sq_service.specs.Events.{ServeEvent, EpochServed, PageTurned, RowsTold, GoneOn, Happens, HappenEach}
+use Rattle.sq_service.specs.Events.{ServeEvent, EpochServed, PageTurned, RowsTold, GoneOn, Happens, HappenEach, exchanged, all_exchanged}
 
 -- other lines alone
 speaks_write : (a b : ServeDeskValue) → Speaks a b → WritesEach [] a b
@@ -53,24 +53,20 @@ rows_write engine a b tells =
           ∙ ap (λ (w : List (List AskedTxn)). jobs_waiting w part) (sym says.waiting);
     }
 
--- the exchanges by which a desk wrote what it wrote
-abbrev pub SomeWrite : ServeDeskValue → ServeDeskValue → Type 0
-SomeWrite before after = (exchanges : List Exchange) × WritesEach exchanges before after
-
-same_writes : (a b : ServeDeskValue) → b ≡ a → SomeWrite a b
-same_writes a b same = subst (SomeWrite a) (sym same) ([], none_written a)
+same_writes : (a b : ServeDeskValue) → b ≡ a → WritesEach [] a b
+same_writes a b same = subst (WritesEach [] a) (sym same) (none_written a)
 
 happens_write : (event : ServeEvent) (old : Standing) (before : ServeDeskValue) (new : Standing) (after : ServeDeskValue)
-    → Happens event old before new after → SomeWrite before after
-happens_write (EpochServed is_whole) old before new after is = (is.exchanges, is.writes)
+    → Happens event old before new after → WritesEach (exchanged event) before after
+happens_write (EpochServed is_whole exchanges) old before new after is =
+    subst (λ (e : List Exchange). WritesEach e before after) (sym is.1) is.0.writes
 happens_write (PageTurned page) old before new after is = same_writes before after is.1
-happens_write RowsTold old before new after is = ([], rows_write new before after is.1)
-happens_write GoneOn old before new after is = ([], speaks_write before after is.1)
+happens_write RowsTold old before new after is = rows_write new before after is.1
+happens_write GoneOn old before new after is = speaks_write before after is.1
 
 pub happen_write : (events : List ServeEvent) (old : Standing) (before : ServeDeskValue) (new : Standing) (after : ServeDeskValue)
-    → HappenEach events old before new after → SomeWrite before after
+    → HappenEach events old before new after → WritesEach (all_exchanged events) before after
 happen_write [] old before new after none = same_writes before after none.1
 happen_write (event ∷ events) old before new after went =
-    let first = happens_write event old before went.0 went.1 went.2 in
-    let later = happen_write events went.0 went.1 new after went.3 in
-    (first.0 ++ later.0, writes_then first.0 later.0 before went.1 after first.1 later.1)
+    writes_then (exchanged event) (all_exchanged events) before went.1 after
+    (happens_write event old before went.0 went.1 went.2) (happen_write events went.0 went.1 new after went.3)

@@ -8,12 +8,12 @@ use Rattle.sq_live.specs.declared.outcome.LiveOutcome.TheVariants as outcome
 use Rattle.sq_live.specs.Outcome.{outcome_line}
 use Rattle.sq_ranges.specs.OpeningValue.{OpeningValue}
 use Rattle.sq_server.specs.declared.ending.ServeEnding.{ServeEnding}
-use Rattle.sq_server.specs.declared.ending.ServeEnding.TheVariants.{Sound, Unwritten}
+use Rattle.sq_server.specs.declared.ending.ServeEnding.TheVariants.{Sound, Unsound, NoHeader, Memory, Unwritten}
 use Rattle.sq_server.specs.declared.feed.Fed.{Fed}
 use Rattle.sq_server.specs.declared.outlet.Outlet.{Outlet}
 use Rattle.sq_server.specs.Written.{said_line}
 use Rattle.sq_service.specs.Telling.{IsLineOfEnding}
-use Rattle.sq_service.specs.Service.{first_desk, EngineServes, ServesSome, ServesWriter, GrewByLines}
+use Rattle.sq_service.specs.Service.{first_desk, EngineServes, ServesSome, ServesWriter, WroteAll, SoundWroteAll}
 use Rattle.sq_service.proofs.Written.{happen_write}
 
 sound-not-unwritten : {P : Type 0} (families committed : ℕ) (is_whole : Bool) → Sound families committed is_whole ≡ Unwritten → P
@@ -31,31 +31,50 @@ module _ {W : Type 0} (contents : W → Option (List ℕ)) where
   served_wrote : (o : OpeningValue) (heard : List Fed) (families committed : ℕ) (is_whole : Bool) (first last end : Outlet W) (line : List ℕ)
       → EngineServes contents o (first_desk contents first heard o.new.parts) (Sound families committed is_whole) last
       → Appends (contents last.writer) (contents end.writer) line
-      → GrewByLines line (contents first.writer) (contents end.writer)
+      → WroteAll line (contents first.writer) (contents end.writer)
   served_wrote o heard families committed is_whole first last end line serves told =
       let by = serves.2 in
+      let ended = by.ended in
       let before = first_desk contents first heard o.new.parts in
-      let some = happen_write by.ended.events serves.0 before by.ended.last by.after by.ended.happened in
-      let all = flat_map said_line some.1.said in
+      let writes = happen_write ended.events serves.0 before ended.last by.after ended.happened in
+      let all = flat_map said_line writes.said in
       let wrote : Appends (contents first.writer) (contents last.writer) all =
       subst (λ (now : Option (List ℕ)). Appends (contents first.writer) now all) (sym by.written)
-      (some.1.written by.ended.written) in record {
-        said = some.1.said;
+      (writes.written ended.written.still) in record {
+        opening = o;
+        engine = serves.0;
+        opened = serves.1;
+        events = ended.events;
+        end = ended.last;
+        before = before;
+        after = by.after;
+        happened = ended.happened;
+        whole = ended.whole;
+        cleared = ended.written;
+        writes = writes;
         written = both (contents first.writer) (contents last.writer) (contents end.writer) all line (all ++ line) wrote told refl;
       }
 
-  pub sound_wrote_lines : (old new : W) (families committed : ℕ) (is_whole : Bool) → ServesWriter contents old new (Sound families committed is_whole)
-      → GrewByLines (outcome_line (outcome.Sound families committed)) (contents old) (contents new)
-  sound_wrote_lines old new families committed is_whole s =
+  sound_wrote : (old new : W) (families committed : ℕ) (is_whole : Bool) → ServesWriter contents old new (Sound families committed is_whole)
+      → WroteAll (outcome_line (outcome.Sound families committed)) (contents old) (contents new)
+  sound_wrote old new families committed is_whole s =
       let sound = sound_told families committed is_whole s.end.has_failed s.ending s.tells.told_is in
       let line = outcome_line (outcome.Sound families committed) in
       let is : s.tells.text ≡ line = subst (λ (e : ServeEnding). IsLineOfEnding e s.tells.text) sound.1 s.tells.is in
       let told : Appends (contents s.last.writer) (contents s.end.writer) line =
       subst (λ (text : List ℕ). Appends (contents s.last.writer) (contents s.end.writer) text) is (s.tells.written sound.0) in
-      subst (λ (w : W). GrewByLines line (contents w) (contents new)) s.first_writer
-      (subst (λ (w : W). GrewByLines line (contents s.first.writer) (contents w)) s.end_writer
+      subst (λ (w : W). WroteAll line (contents w) (contents new)) s.first_writer
+      (subst (λ (w : W). WroteAll line (contents s.first.writer) (contents w)) s.end_writer
       (⊎_elim
       (λ served.
       served_wrote served.0 served.1 families committed is_whole s.first s.last s.end line served.2 told)
       (λ none. absurd none.0)
       (subst (λ (e : ServeEnding). ServesSome contents s.first e s.last) sound.1 s.served)))
+
+  pub sound_wrote_all : (old new : W) (ending : ServeEnding) → ServesWriter contents old new ending
+      → SoundWroteAll (contents old) (contents new) ending
+  sound_wrote_all old new (Sound families committed is_whole) s = sound_wrote old new families committed is_whole s
+  sound_wrote_all old new (Unsound defect) s = tt
+  sound_wrote_all old new (NoHeader fault) s = tt
+  sound_wrote_all old new Memory s = tt
+  sound_wrote_all old new Unwritten s = tt

@@ -1,5 +1,5 @@
 -- How an engine that is served ends.
-use Rattle.std.specs.Prelude.{◌≡◌, ◌⊎◌, ◌+◌, ◌^◌, ◌<◌, ℕ, false, List, [], ◌∷◌, ◌++◌, All, sum_by}
+use Rattle.std.specs.Prelude.{◌≡◌, ◌⊎◌, ◌+◌, ◌^◌, ◌<◌, ℕ, true, false, List, [], ◌∷◌, ◌++◌, length, All, sum_by}
 use Rattle.sq_ranges.specs.Prelude.{IsSetUp}
 use Rattle.sq_audit.specs.declared.verdict.Verdict.{Verdict}
 use Rattle.sq_audit.specs.declared.verdict.Verdict.TheVariants as verdict
@@ -13,7 +13,7 @@ use Rattle.sq_server.specs.declared.ending.ServeEnding.TheVariants.{Sound, Unsou
 use Rattle.sq_server.specs.Becoming.{ServeDeskValue}
 use Rattle.sq_service.specs.declared.page_book.PageBook.{PageBook}
 use Rattle.sq_service.specs.Judging.{IsFoundAs, ClosesAs, page_commits}
-use Rattle.sq_service.specs.Events.{ServeEvent, HappenEach, pages_turned, page_due}
+use Rattle.sq_service.specs.Events.{ServeEvent, HappenEach, IsServedWhole, pages_turned, page_due}
 
 -- an engine was closed, and this was found of its last page
 pub record ClosesFound (last : Standing) (found : Verdict) (closed : Closed) : Type 0 where
@@ -52,13 +52,26 @@ ServiceEndsBy committed_before rest last (NoHeader fault) = ⊥
 ServiceEndsBy committed_before rest last Memory = Unit {0}
 ServiceEndsBy committed_before rest last Unwritten = Unit {0}
 
--- where it ends sound, its desk has not stopped, so all that the desk was to write is written
-abbrev pub SoundIsWritten : ServeEnding → ServeDeskValue → Type 0
-SoundIsWritten (Sound families committed is_whole) desk = desk.has_stopped ≡ false
-SoundIsWritten (Unsound defect) desk = Unit {0}
-SoundIsWritten (NoHeader fault) desk = Unit {0}
-SoundIsWritten Memory desk = Unit {0}
-SoundIsWritten Unwritten desk = Unit {0}
+-- a desk has not stopped, so all that it was to write is written; and no job waits
+pub record IsCleared (desk : ServeDeskValue) : Type 0 where
+  pub still : desk.has_stopped ≡ false
+  pub none_waits : sum_by length desk.waiting ≡ 0
+
+-- where it ends sound, its desk is cleared; where an answer can't be written, its desk has stopped
+abbrev pub DeskEndsBy : ServeEnding → ServeDeskValue → Type 0
+DeskEndsBy (Sound families committed is_whole) desk = IsCleared desk
+DeskEndsBy (Unsound defect) desk = Unit {0}
+DeskEndsBy (NoHeader fault) desk = Unit {0}
+DeskEndsBy Memory desk = Unit {0}
+DeskEndsBy Unwritten desk = desk.has_stopped ≡ true
+
+-- where it ends sound, no answer of an epoch is missing
+abbrev pub SoundIsWhole : ServeEnding → List ServeEvent → Type 0
+SoundIsWhole (Sound families committed is_whole) events = All IsServedWhole events
+SoundIsWhole (Unsound defect) events = Unit {0}
+SoundIsWhole (NoHeader fault) events = Unit {0}
+SoundIsWhole Memory events = Unit {0}
+SoundIsWhole Unwritten events = Unit {0}
 
 -- an engine was served until it ended so
 pub record HasEndedServing (was : PageBook) (old : Standing) (before : ServeDeskValue) (ending : ServeEnding) (after : ServeDeskValue) : Type 0 where
@@ -72,4 +85,5 @@ pub record HasEndedServing (was : PageBook) (old : Standing) (before : ServeDesk
   pub ends : (total : ℕ)
       × (commits_on_pages was.committed judged < 2 ^ 64 → total ≡ commits_on_pages was.committed judged)
       × ServiceEndsBy total rest last ending
-  pub written : SoundIsWritten ending after
+  pub whole : SoundIsWhole ending events
+  pub written : DeskEndsBy ending after

@@ -1,20 +1,22 @@
 -- An engine that is served from its opening to its end.
-use Rattle.std.specs.Prelude.{◌≡◌, ◌⊎◌, ◌^◌, ◌<◌, false, ℕ, List, [], ◌++◌, replicate, Option, None}
+use Rattle.std.specs.Prelude.{◌≡◌, ◌⊎◌, ◌^◌, ◌<◌, false, ℕ, List, [], ◌++◌, All, replicate, Option, None}
 use Rattle.std.specs.List.{flat_map}
 use Rattle.std.specs.Io.KnownBytes.{Appends}
 use Rattle.sq_ranges.specs.OpeningValue.{OpeningValue}
 use Rattle.sq_engine.specs.declared.closed.Closed.{Closed}
 use Rattle.sq_engine.specs.declared.standing.Standing.{Standing}
 use Rattle.sq_engine.specs.Engine.{Stands}
-use Rattle.sq_live.specs.Outcome.{stored_count}
+use Rattle.sq_live.specs.declared.outcome.LiveOutcome.TheVariants as outcome
+use Rattle.sq_live.specs.Outcome.{outcome_line, stored_count}
 use Rattle.sq_server.specs.declared.ending.ServeEnding.{ServeEnding}
 use Rattle.sq_server.specs.declared.ending.ServeEnding.TheVariants.{Sound, Unsound, NoHeader, Memory, Unwritten}
 use Rattle.sq_server.specs.declared.feed.Fed.{Fed}
 use Rattle.sq_server.specs.declared.outlet.Outlet.{Outlet}
 use Rattle.sq_server.specs.Becoming.{ServeDeskValue}
-use Rattle.sq_server.specs.Written.{SaidLine, said_line}
+use Rattle.sq_server.specs.Written.{WritesEach, said_line}
 use Rattle.sq_service.specs.declared.page_book.PageBook.{PageBook}
-use Rattle.sq_service.specs.Ends.{HasEndedServing}
+use Rattle.sq_service.specs.Events.{ServeEvent, HappenEach, IsServedWhole, all_exchanged}
+use Rattle.sq_service.specs.Ends.{IsCleared, HasEndedServing}
 use Rattle.sq_service.specs.Planned.{EndsServingAsPlanned}
 use Rattle.sq_service.specs.Telling.{TellsEnding}
 
@@ -80,7 +82,26 @@ pub record ServesWriter {W : Type 0} (contents : W → Option (List ℕ)) (old n
   pub tells : TellsEnding contents last ending end told
   pub end_writer : end.writer ≡ new
 
--- what a writer holds grew by lines of answers and other lines, and by this text behind them
-pub record GrewByLines (last : List ℕ) (old new : Option (List ℕ)) : Type 0 where
-  pub said : List SaidLine
-  pub written : Appends old new (flat_map said_line said ++ last)
+-- what a writer holds grew by what the desk of an engine wrote that was served from its opening on, where no answer is missing and
+-- no job waits: the line of each answer, once, those of each partition in their order, and other lines; and by this text behind them
+pub record WroteAll (last : List ℕ) (old new : Option (List ℕ)) : Type 0 where
+  pub opening : OpeningValue
+  pub engine : Standing
+  pub opened : Stands opening [] engine
+  pub events : List ServeEvent
+  pub end : Standing
+  pub before : ServeDeskValue
+  pub after : ServeDeskValue
+  pub happened : HappenEach events engine before end after
+  pub whole : All IsServedWhole events
+  pub cleared : IsCleared after
+  pub writes : WritesEach (all_exchanged events) before after
+  pub written : Appends old new (flat_map said_line writes.said ++ last)
+
+-- where it ends sound, all is written, and last the line of the ending
+abbrev pub SoundWroteAll : Option (List ℕ) → Option (List ℕ) → ServeEnding → Type 0
+SoundWroteAll old new (Sound families committed is_whole) = WroteAll (outcome_line (outcome.Sound families committed)) old new
+SoundWroteAll old new (Unsound defect) = Unit {0}
+SoundWroteAll old new (NoHeader fault) = Unit {0}
+SoundWroteAll old new Memory = Unit {0}
+SoundWroteAll old new Unwritten = Unit {0}

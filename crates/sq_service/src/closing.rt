@@ -1,8 +1,9 @@
 // How an engine that is served is closed.
-ghost use Rattle.std.specs.Prelude.{[]};
+ghost use Rattle.std.specs.Prelude.{◌≡◌, ◌≢◌, [], length, sum_by, IfOk, IfErr};
 ghost use Rattle.sq_ranges.specs.Prelude.{IsSetUp};
+ghost use Rattle.sq_server.specs.declared.ending.ServeEnding.TheVariants.{Unwritten};
 ghost use Rattle.sq_server.specs.Becoming.{desk_value};
-ghost use Rattle.sq_service.specs.Ends.{ServiceEndsBy, ClosedEndsBy, SoundIsWritten};
+ghost use Rattle.sq_service.specs.Ends.{ServiceEndsBy, ClosedEndsBy, DeskEndsBy};
 
 use crate::page_audit::{audit_closed, count_families};
 use sq_engine::{Closed, Engine};
@@ -12,17 +13,37 @@ use std::io::Write;
 use std::sync::Wait;
 use std::thread::Threads;
 
-/// Closes an engine at rest with all jobs answered, unless its desk has stopped, and says how it ends. So many jobs
-/// were committed on the pages before.
-pub(crate) fn close_unless_stopped<T: Threads + Wait + Sync, W: Write + Drop>(
+/// Closes an engine at rest with all jobs answered, and says how it ends; where a job waits beside its queue, the engine continues.
+/// So many jobs were committed on the pages before.
+pub(crate) fn close_unless_jobs_wait<T: Threads + Wait + Sync, W: Write + Drop>(
+    rt: &T,
+    alloc: Global,
+    engine: Engine,
+    desk: &ServeDesk<W>,
+    committed: u64,
+) -> Result<Engine, ServeEnding>
+    ensures continues { IfOk result (λ next. next ≡ engine) }
+    ensures ends { IfErr result (λ ending. ServiceEndsBy committed [] engine ending) }
+    ensures written { IfErr result (λ ending.
+        DeskEndsBy ending (desk_value W.contents desk.now)) }
+{
+    if desk.sides.waiting() > 0 {
+        return Ok(engine);
+    }
+    Err(close_unless_stopped(rt, alloc, engine, desk, committed))
+}
+
+// Closes an engine, unless its desk has stopped, and says how it ends.
+fn close_unless_stopped<T: Threads + Wait + Sync, W: Write + Drop>(
     rt: &T,
     alloc: Global,
     engine: Engine,
     desk: &ServeDesk<W>,
     committed: u64,
 ) -> ServeEnding
+    requires { sum_by length desk.now.sides ≡ 0 }
     ensures ends { ServiceEndsBy committed [] engine result }
-    ensures written { SoundIsWritten result (desk_value W.contents desk.now) }
+    ensures written { DeskEndsBy result (desk_value W.contents desk.now) }
 {
     match desk.stop_ending() {
         Some(ending) => {
@@ -44,7 +65,8 @@ fn close<T: Threads + Wait + Sync>(
     committed: u64,
     is_whole: bool,
 ) -> ServeEnding
-    ensures { ServiceEndsBy committed [] engine result }
+    ensures ends { ServiceEndsBy committed [] engine result }
+    ensures written { result ≢ Unwritten }
 {
     match engine.close(rt, alloc) {
         Ok(closed) => {

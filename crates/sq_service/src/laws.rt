@@ -1,17 +1,14 @@
 //! What holds of engines that were served. The functions do nothing: each states a law, which the checker proves.
-ghost use Rattle.std.specs.Prelude.{ℕ, Bool, List};
+ghost use Rattle.std.specs.Prelude.{List};
 ghost use Rattle.sq_ranges.specs.Prelude.{OpeningValue};
 ghost use Rattle.sq_engine.specs.declared.closed.Closed.{Closed};
 ghost use Rattle.sq_engine.specs.declared.standing.Standing.{Standing};
-ghost use Rattle.sq_epoch.specs.Exchanges.{Exchange};
-ghost use Rattle.sq_live.specs.declared.outcome.LiveOutcome.TheVariants as outcome;
-ghost use Rattle.sq_live.specs.Outcome.{outcome_line};
-ghost use Rattle.sq_server.specs.declared.ending.ServeEnding.TheVariants.{Sound};
+ghost use Rattle.sq_server.specs.declared.ending.ServeEnding.{ServeEnding};
 ghost use Rattle.sq_server.specs.Becoming.{ServeDeskValue};
 ghost use Rattle.sq_server.specs.Written.{WritesEach};
-ghost use Rattle.sq_service.specs.Events.{ServeEvent, HappenEach};
+ghost use Rattle.sq_service.specs.Events.{ServeEvent, HappenEach, all_exchanged};
 ghost use Rattle.sq_service.specs.Planned.{IsServedSoundly, EndsServingAsPlanned};
-ghost use Rattle.sq_service.specs.Service.{ServesWriter, GrewByLines};
+ghost use Rattle.sq_service.specs.Service.{ServesWriter, SoundWroteAll};
 
 use std::io::Write;
 
@@ -26,14 +23,12 @@ pub fn a_sound_service_ends_where_planned()
 pub fn a_service_writes_each_answer()
     ensures { (old new : Standing) (before after : ServeDeskValue) (events : List ServeEvent)
         → HappenEach events old before new after
-        → (exchanges : List Exchange) × WritesEach exchanges before after }
+        → WritesEach (all_exchanged events) before after }
 {}
 
-/// Where an engine that was served ends sound, what it wrote is lines of answers, other lines between them, and behind all the line of
-/// its ending.
-pub fn a_sound_service_ends_with_its_line<W: Write>()
-    ensures { (old new : W) (families committed : ℕ) (is_whole : Bool)
-        → ServesWriter W.contents old new (Sound families committed is_whole)
-        → let line = outcome_line (outcome.Sound families committed) in
-        GrewByLines line (W.contents old) (W.contents new) }
+/// Where an engine that was served ends sound, each answer of each epoch was given and is written, no job waits, and the line of
+/// its ending is the last.
+pub fn a_sound_service_writes_all<W: Write>()
+    ensures { (old new : W) (ending : ServeEnding) → ServesWriter W.contents old new ending
+        → SoundWroteAll (W.contents old) (W.contents new) ending }
 {}

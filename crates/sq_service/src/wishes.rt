@@ -3,7 +3,7 @@ ghost use Rattle.std.specs.Prelude.{◌≡◌, false, None, IsOk};
 ghost use Rattle.sq_server.specs.Becoming.{desk_value};
 ghost use Rattle.sq_service.specs.Steps.{StepGives};
 
-use crate::closing::close_unless_stopped;
+use crate::closing::close_unless_jobs_wait;
 use crate::moving::{begin_move, note_rest};
 use crate::page_audit::PageToAudit;
 use crate::page_book::PageBook;
@@ -105,7 +105,7 @@ fn grant<T: Threads + Wait + Sync, W: Write + Drop, V: ServeWatch>(
         Wish::Fold => take_page(rt, alloc, engine, desk, book, true),
         Wish::Move(plan) => begin_move(rt, alloc, engine, plan, desk, watch),
         Wish::Rows(asked) => Ok(tell_rows(rt, alloc, engine, desk, watch, asked)),
-        Wish::Close => Err(close_unless_stopped(rt, alloc, engine, desk, book.committed)),
+        Wish::Close => close_unless_jobs_wait(rt, alloc, engine, desk, book.committed),
     }
 }
 

@@ -2,7 +2,7 @@ use Rattle.sq_server.specs.Becoming.{desk_value}
 use Rattle.sq_service.specs.Events.{GoneOn}
 use Rattle.std.proofs.Common.{[], ◌∷◌, refl}
 use Rattle.sq_engine.proofs.Goings.{stays}
-use Rattle.sq_service.proofs.Served.{ends_at_once, ends_with, stopped_ends, stopped_is_written, memory_ends, memory_is_written, served_steps, speaks_only, speaks_then}
+use Rattle.sq_service.proofs.Served.{ends_at_once, ends_with, stopped_ends, stopped_at_desk, memory_ends, memory_is_whole, memory_at_desk, served_steps, speaks_only, speaks_then}
 use Rattle.sq_server.proofs.Desks.{writes_nothing}
 use Rattle.sq_service.proofs.wishes.go_on.Goals as goal
 
@@ -12,7 +12,7 @@ returns-in-Some-clause-gives g c =
     let desk = desk_value g.W.Write.contents c.args.desk.now in
     ends_at_once book c.args.engine desk c.in-Some.ending c.requires
     (stopped_ends book.committed [] c.args.engine c.in-Some.ending c.in-Some.ensures.stopped)
-    (stopped_is_written c.in-Some.ending desk c.in-Some.ensures.stopped)
+    (stopped_at_desk c.in-Some.ending desk c.in-Some.ensures.stopped c.in-Some.ensures.stops)
 
 pub returns-in-Ok-clause-gives : goal.returns-in-Ok-clause-gives
 returns-in-Ok-clause-gives g c =
@@ -34,4 +34,5 @@ returns-in-Err-clause-gives g c =
     ends_with (GoneOn ∷ []) book engine before engine told c.in-Err.ending refl c.requires
     (engine, told, (stays engine engine refl, c.note_rest.ensures.speaks), (refl, refl))
     (memory_ends book.committed [] engine c.in-Err.ending c.in-Err.ensures.memory)
-    (memory_is_written c.in-Err.ending told c.in-Err.ensures.memory)
+    (memory_is_whole c.in-Err.ending (GoneOn ∷ []) c.in-Err.ensures.memory)
+    (memory_at_desk c.in-Err.ending told c.in-Err.ensures.memory)

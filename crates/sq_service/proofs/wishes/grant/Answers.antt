@@ -1,5 +1,5 @@
 use Rattle.sq_server.specs.Becoming.{desk_value}
-use Rattle.sq_service.proofs.Served.{goes_or_ends, ends_at_once, rows_gone}
+use Rattle.sq_service.proofs.Served.{goes_or_ends, closed_or_not, rows_gone}
 use Rattle.sq_service.proofs.wishes.grant.Goals as goal
 
 pub returns-in-Move : goal.returns-in-Move
@@ -9,9 +9,9 @@ returns-in-Move g c =
 
 pub returns-in-Close : goal.returns-in-Close
 returns-in-Close g c =
-    let close = c.close_unless_stopped in
-    ends_at_once c.args.book.now c.args.engine (desk_value g.W.Write.contents c.args.desk.now) close.result c.requires close.ensures.ends
-    close.ensures.written
+    let close = c.close_unless_jobs_wait in
+    closed_or_not c.args.book.now c.args.engine (desk_value g.W.Write.contents c.args.desk.now) close.result c.requires
+    close.ensures.continues close.ensures.ends close.ensures.written
 
 pub returns-in-Rows : goal.returns-in-Rows
 returns-in-Rows g c =
