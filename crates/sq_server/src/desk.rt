@@ -66,7 +66,7 @@ pub struct AskedTxn {
 }
 
 /// How many jobs there were.
-#[derive(Clone, Copy, Debug, PartialEq, Eq)]
+#[derive(Clone, Copy, Debug)]
 pub struct JobCounts {
     pub posted: u64,
     pub answered: u64,
@@ -83,7 +83,7 @@ impl JobCounts {
 }
 
 /// How far a move is.
-#[derive(Clone, Copy, Debug, PartialEq, Eq)]
+#[derive(Clone, Copy, Debug)]
 pub struct MoveProgress {
     /// How many segments move.
     pub segments: u64,
@@ -337,19 +337,24 @@ impl<W: Write + Drop> ServeDesk<W> {
             (desk_value W.contents self.new) }
     {
         match fed {
-            Fed::Line {
-                number,
-                asks: Ok(asks),
-            } => self.take_asked(number, asks),
-            Fed::Line {
-                number,
-                asks: Err(fault),
-            } => {
-                self.take_fault(number, fault);
-                None
-            }
+            Fed::Line { number, asks } => self.take_line(number, asks),
             Fed::End(end) => {
                 self.take_end(end);
+                None
+            }
+        }
+    }
+
+    // Takes what a line asks, or its fault. Gives the job, if it asks for one that can be posted now.
+    fn take_line(&mut self, number: u64, asks: Result<ServeLine, ServeFault>) -> Option<Job>
+        ensures heard { received self.new.feed ≡ received self.old.feed }
+        ensures handles { Handles (fed.Line number asks ∷ []) []
+            (desk_value W.contents self.old) (job_list result) (desk_value W.contents self.new) }
+    {
+        match asks {
+            Ok(asks) => self.take_asked(number, asks),
+            Err(fault) => {
+                self.take_fault(number, fault);
                 None
             }
         }
@@ -376,11 +381,22 @@ impl<W: Write + Drop> ServeDesk<W> {
         ensures handles { Handles (fed.Line line (Ok (asks.Job part txn)) ∷ []) []
             (desk_value W.contents self.old) (job_list result) (desk_value W.contents self.new) }
     {
-        if part >= u64::from(self.sides.parts()) {
+        if part < u64::from(self.sides.parts()) {
+            self.take_job_at(line, part as u8, txn)
+        } else {
+            drop(txn);
             self.say_fault(line, NO_PARTITION);
-            return None;
+            None
         }
-        let at = part as u8;
+    }
+
+    // Takes a job of a partition that there is. Gives it back where no job of that waits.
+    fn take_job_at(&mut self, line: u64, at: u8, txn: Txn) -> Option<Job>
+        requires { at < length self.old.sides }
+        ensures heard { received self.new.feed ≡ received self.old.feed }
+        ensures handles { Handles (fed.Line line (Ok (asks.Job at txn)) ∷ []) []
+            (desk_value W.contents self.old) (job_list result) (desk_value W.contents self.new) }
+    {
         if self.sides.has_jobs(usize::from(at)) {
             self.put_behind(at, AskedTxn { line, txn });
             return None;
@@ -416,7 +432,10 @@ impl<W: Write + Drop> ServeDesk<W> {
             ServeLine::Plan => self.say_plan(),
             ServeLine::Rows => self.want_rows(number, None),
             ServeLine::RowsTo(file) => self.want_rows(number, Some(file)),
-            ServeLine::Job { .. } => self.say_fault(number, ServeFault::NotAServeLine.number()),
+            ServeLine::Job { part: _, txn } => {
+                drop(txn);
+                self.say_fault(number, ServeFault::NotAServeLine.number());
+            }
         }
     }
 
@@ -455,8 +474,18 @@ impl<W: Write + Drop> ServeDesk<W> {
         ensures { Speaks (desk_value W.contents self.old) (desk_value W.contents self.new) }
     {
         if self.moves() {
+            drop(wish);
             self.say_refused(MOVING);
-        } else if self.wish.is_none() {
+        } else {
+            self.put_wish(wish);
+        }
+    }
+
+    // Lets the epoch end for this, or the next one where it ends for something else.
+    fn put_wish(&mut self, wish: Wish)
+        ensures { desk_value W.contents self.new ≡ desk_value W.contents self.old }
+    {
+        if self.wish.is_none() {
             self.wish = Some(wish);
         } else {
             self.next_wish = Some(wish);

@@ -6,7 +6,7 @@ use sq_audit::Defect;
 use sq_text::LocatedFault;
 
 /// How an engine that is served ends.
-#[derive(Clone, Copy, Debug, PartialEq, Eq)]
+#[derive(Clone, Copy, Debug)]
 pub enum ServeEnding {
     /// All jobs are answered, and each page is sound. The input was read to its end, or else broke off.
     Sound {
