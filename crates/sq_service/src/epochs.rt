@@ -1,5 +1,5 @@
 // The epochs of an engine that is served, with the audits beside them.
-ghost use Rattle.std.specs.Prelude.{◌≡◌, None, Some};
+ghost use Rattle.std.specs.Prelude.{◌≡◌, None, Some, Ok};
 ghost use Rattle.std.specs.Thread.{IsSync};
 ghost use Rattle.sq_server.specs.Becoming.{desk_value, Speaks};
 ghost use Rattle.sq_service.specs.Judging.{JudgesPage};
@@ -129,22 +129,23 @@ fn whole_engine(served: Result<EngineServed, Engine>) -> Result<Engine, ServeEnd
     ensures { IsWholeEngine served result }
 {
     match served {
-        Ok(
-            EngineServed {
-                engine,
-                is_whole: true,
-                lacks_threads: false,
-                ..
-            },
-        ) => Ok(engine),
-        Ok(served) => {
-            drop(served);
-            Err(ServeEnding::Memory)
-        }
+        Ok(served) => engine_if_whole(served),
         Err(engine) => {
             drop(engine);
             Err(ServeEnding::Memory)
         }
+    }
+}
+
+// The engine of an epoch that was served, unless an answer or a thread is missing in it.
+fn engine_if_whole(served: EngineServed) -> Result<Engine, ServeEnding>
+    ensures { IsWholeEngine (Ok served) result }
+{
+    if served.is_whole && !served.lacks_threads {
+        Ok(served.engine)
+    } else {
+        drop(served);
+        Err(ServeEnding::Memory)
     }
 }
 

@@ -21,7 +21,7 @@ pub(crate) struct PageToAudit {
 }
 
 /// What a sound page has.
-#[derive(Clone, Copy, Debug, PartialEq, Eq)]
+#[derive(Clone, Copy)]
 pub(crate) struct PageCounts {
     pub(crate) families: u64,
     pub(crate) committed: u64,

@@ -1,5 +1,5 @@
 // The reader of an engine's input.
-ghost use Rattle.std.specs.Prelude.{◌≡◌};
+ghost use Rattle.std.specs.Prelude.{◌≡◌, Ok};
 ghost use Rattle.sq_schema.specs.declared.schema.TheConstants.{MAX_TABLES};
 ghost use Rattle.sq_serve.specs.ServeLines.{serve_line_of, IsServeLine};
 
@@ -163,12 +163,19 @@ fn fed_of(alloc: Global, next: Next, number: u64, piece: &[u8]) -> Fed {
 fn read_asks(alloc: Global, line: &[u8]) -> Result<ServeLine, ServeFault>
     ensures { IsServeLine result (serve_line_of MAX_TABLES line.now) }
 {
-    match read_serve_line(alloc, &largest_schema(), line) {
-        Ok(ServeLine::Job { part, txn }) => match txn.share() {
+    shared(read_serve_line(alloc, &largest_schema(), line)?)
+}
+
+// What a line asks, where copies of its transaction share its operations.
+fn shared(asks: ServeLine) -> Result<ServeLine, ServeFault>
+    ensures { IsServeLine result (Ok asks) }
+{
+    match asks {
+        ServeLine::Job { part, txn } => match txn.share() {
             Ok(txn) => Ok(ServeLine::Job { part, txn }),
             Err(AllocError) => Err(ServeFault::Memory),
         },
-        asks => asks,
+        asks => Ok(asks),
     }
 }
 

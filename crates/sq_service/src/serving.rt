@@ -20,7 +20,7 @@ use std::sync::Wait;
 use std::thread::{Builder, Threads};
 
 /// How an engine is served.
-#[derive(Clone, Copy, Debug, PartialEq, Eq)]
+#[derive(Clone, Copy, Debug)]
 pub struct ServeConfig {
     /// How many pumps there are.
     pub pumps: u32,
@@ -126,14 +126,32 @@ fn serve_handed<T: Threads + Wait + Sync, W: Write + Drop, V: ServeWatch>(
     let read = wait_for(rt, &mut header);
     drop(header);
     match read {
-        Some(Ok(opening)) => serve_opening(rt, alloc, opening, lines, outlet, config, watch),
-        Some(Err(fault)) => {
-            drop(lines);
-            (outlet, ServeEnding::NoHeader(fault))
-        }
+        Some(header) => serve_header(rt, alloc, header, lines, outlet, config, watch),
         None => {
             drop(lines);
             (outlet, ServeEnding::Memory)
+        }
+    }
+}
+
+// Serves the engine of a header, unless that has a fault.
+fn serve_header<T: Threads + Wait + Sync, W: Write + Drop, V: ServeWatch>(
+    rt: &T,
+    alloc: Global,
+    header: Header,
+    lines: Consumer<Fed>,
+    outlet: Outlet<W>,
+    config: ServeConfig,
+    watch: &V,
+) -> (Outlet<W>, ServeEnding)
+    requires { config.pumps ≤ MAX_PUMPS }
+    ensures { ServesSome W.contents outlet result.1 result.0 }
+{
+    match header {
+        Ok(opening) => serve_opening(rt, alloc, opening, lines, outlet, config, watch),
+        Err(fault) => {
+            drop(lines);
+            (outlet, ServeEnding::NoHeader(fault))
         }
     }
 }
