@@ -127,29 +127,61 @@ fn places_of<T: Eprint + Files + AllocGlobal>(
     rt: &T,
     input: EngineInput<'_>,
 ) -> io::Result<Option<Vec<String>>> {
-    let mut places = read_places(rt, input)?;
+    let places = read_places(rt, input)?;
     let outputs = outputs_of(rt, input)?;
-    if !are_files(rt, &outputs)? {
-        return Ok(None);
+    if may_report(rt, &outputs, &places)? {
+        Ok(Some(with_outputs(places, outputs)?))
+    } else {
+        Ok(None)
     }
-    if let Some(conflict) = conflict_among(&outputs, &places) {
-        explain_conflict(rt, conflict);
-        return Ok(None);
+}
+
+// Whether each report would be a file of its own, and none be written over a file at one of these places or over another
+// report; else standard error says which. An error is that memory ran out.
+fn may_report<T: Eprint + Files + AllocGlobal>(
+    rt: &T,
+    outputs: &[Output<'_>],
+    places: &[String],
+) -> io::Result<bool> {
+    if !are_files(rt, outputs)? {
+        return Ok(false);
     }
+    match conflict_among(outputs, places) {
+        Some(conflict) => {
+            explain_conflict(rt, conflict);
+            Ok(false)
+        }
+        None => Ok(true),
+    }
+}
+
+// Places, and behind them those of outputs.
+fn with_outputs(places: Vec<String>, outputs: Vec<Output<'_>>) -> io::Result<Vec<String>> {
+    let mut places = places;
     for output in outputs {
         places.push(output.place)?;
     }
-    Ok(Some(places))
+    Ok(places)
 }
 
 // The places of the files that an engine with this input reads, standard input among them.
 fn read_places<T: Files + AllocGlobal>(rt: &T, input: EngineInput<'_>) -> io::Result<Vec<String>> {
+    let mut places = Vec::new(rt.alloc());
+    add_read_places(rt, input, &mut places)?;
+    Ok(places)
+}
+
+// Adds the places of the files that an engine with this input reads.
+fn add_read_places<T: Files + AllocGlobal>(
+    rt: &T,
+    input: EngineInput<'_>,
+    places: &mut Vec<String>,
+) -> io::Result<()> {
     let names = [
         input.file,
         input.files.map(|files| files.plan),
         input.files.and_then(|files| files.rows),
     ];
-    let mut places = Vec::new(rt.alloc());
     for name in names {
         if let Some(name) = name {
             places.push(place_of(rt, name)?)?;
@@ -158,7 +190,7 @@ fn read_places<T: Files + AllocGlobal>(rt: &T, input: EngineInput<'_>) -> io::Re
     if let Some(place) = place_of_standard_input(rt)? {
         places.push(place)?;
     }
-    Ok(places)
+    Ok(())
 }
 
 // The reports of an engine and their places, with the files beside them that are written first.
@@ -188,16 +220,25 @@ fn output_of<'a, T: Files + AllocGlobal>(
     name: &'a str,
     is_part: bool,
 ) -> io::Result<Output<'a>> {
-    let place = if is_part {
-        let part = part_name(rt.alloc(), name)?;
-        place_of(rt, part.as_str())?
-    } else {
-        place_of(rt, name)?
-    };
+    let place = place_of_output(rt, name, is_part)?;
     Ok(Output {
         option,
         name,
         is_part,
         place,
     })
+}
+
+// The place of the file of this name, or of the one beside it that is written first.
+fn place_of_output<T: Files + AllocGlobal>(
+    rt: &T,
+    name: &str,
+    is_part: bool,
+) -> io::Result<String> {
+    if is_part {
+        let part = part_name(rt.alloc(), name)?;
+        place_of(rt, part.as_str())
+    } else {
+        place_of(rt, name)
+    }
 }

@@ -31,7 +31,7 @@ const LINE_END: u8 = 10;
 const MAX_SIZES_LINE: usize = 65_537;
 
 /// Where the input of an engine comes from.
-#[derive(Clone, Copy, Debug, PartialEq, Eq)]
+#[derive(Clone, Copy, Debug)]
 pub struct EngineInput<'a> {
     /// The files of its plan and of its rows, where they have files of their own.
     pub files: Option<EngineFiles<'a>>,
