@@ -1,5 +1,5 @@
 -- Where each page is sound, and the last one, an engine that was served ends as planned.
-use Rattle.std.proofs.Common.{◌≡◌, ⊎_elim, List, [], ◌∷◌, ◌++◌, map, refl, sym, ap, subst, ◌∙◌, append-nil}
+use Rattle.std.proofs.Common.{◌≡◌, ⊎_elim, ℕ, Bool, List, [], ◌∷◌, ◌++◌, map, refl, sym, ap, subst, ◌∙◌, append-nil}
 use Rattle.std.specs.Prelude.{All}
 use Rattle.std.proofs.lemmas.List.Elements.{All-nil, All-cons, All-head, All-tail}
 use Rattle.sq_plan.specs.PlanValue.{PlanValue}
@@ -163,17 +163,22 @@ module _ (o : OpeningValue) where
       closes_sound last closed found
       (happen_sound events engine before last after happened sound ([], stands, λ pause none. absurd (Contains-nothing pause none)))
 
+  -- an engine that ended sound was closed where it was planned
+  pub ended_planned : (engine : Standing) (before after : ServeDeskValue) (families committed : ℕ) (is_whole : Bool) → Stands o [] engine
+      → (ended : HasEndedServing no_pages engine before (ending.Sound families committed is_whole) after)
+      → EndsServingAsPlanned o ended.ends.2.1
+  ended_planned engine before after families committed is_whole stands ended =
+      let by = ended.ends.2 in
+      let pages : pages_turned ended.events ≡ ended.judged =
+      ended.pages ∙ ap (λ (l : List RestPage). ended.judged ++ l) by.0 ∙ append-nil ended.judged in
+      ends_planned engine ended.last before after ended.events by.1 stands ended.happened
+      (subst (All (IsFoundAs Sound)) (sym pages) ended.sound) by.2
+
   pub sound_planned : (engine : Standing) (before after : ServeDeskValue) (end : ServeEnding)
       → Stands o [] engine → HasEndedServing no_pages engine before end after → SoundAsPlanned o end
   sound_planned engine before after (ending.Sound families committed is_whole) stands ended =
       let by = ended.ends.2 in
-      let pages : pages_turned ended.events ≡ ended.judged =
-      ended.pages ∙ ap (λ (l : List RestPage). ended.judged ++ l) by.0 ∙ append-nil ended.judged in (
-        by.1,
-        ends_planned engine ended.last before after ended.events by.1 stands ended.happened
-            (subst (All (IsFoundAs Sound)) (sym pages) ended.sound) by.2,
-        by.3.families_are,
-      )
+      (by.1, ended_planned engine before after families committed is_whole stands ended, by.3.families_are)
   sound_planned engine before after (ending.Unsound defect) stands ended = tt
   sound_planned engine before after (ending.NoHeader fault) stands ended = tt
   sound_planned engine before after ending.Memory stands ended = tt

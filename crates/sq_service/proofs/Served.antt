@@ -136,7 +136,6 @@ none_missing = All-nil IsServedWhole
 one_whole : (event : ServeEvent) (events : List ServeEvent) → IsServedWhole event → All IsServedWhole events → All IsServedWhole (event ∷ events)
 one_whole event events first more = All-cons IsServedWhole event events first more
 
--- other lines alone
 gone_whole : All IsServedWhole (GoneOn ∷ [])
 gone_whole = one_whole GoneOn [] tt none_missing
 
@@ -222,7 +221,6 @@ closed_at_desk (NoHeader fault) desk still none written = tt
 closed_at_desk Memory desk still none written = tt
 closed_at_desk Unwritten desk still none written = absurd (written refl)
 
--- a desk that has stopped
 pub stopped_at_desk : (ending : ServeEnding) (desk : ServeDeskValue) → EndsStopped ending → desk.has_stopped ≡ true → DeskEndsBy ending desk
 stopped_at_desk (Sound families total is_whole) desk stopped stops = absurd stopped
 stopped_at_desk (Unsound defect) desk stopped stops = tt

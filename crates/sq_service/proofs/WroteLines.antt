@@ -13,8 +13,9 @@ use Rattle.sq_server.specs.declared.feed.Fed.{Fed}
 use Rattle.sq_server.specs.declared.outlet.Outlet.{Outlet}
 use Rattle.sq_server.specs.Written.{said_line}
 use Rattle.sq_service.specs.Telling.{IsLineOfEnding}
-use Rattle.sq_service.specs.Service.{first_desk, EngineServes, ServesSome, ServesWriter, WroteAll, SoundWroteAll}
+use Rattle.sq_service.specs.Service.{first_desk, EngineServes, ServesSome, ServesWriter, SoundService, ServesSoundly}
 use Rattle.sq_service.proofs.Written.{happen_write}
+use Rattle.sq_service.proofs.Planned.{ended_planned}
 
 sound-not-unwritten : {P : Type 0} (families committed : ℕ) (is_whole : Bool) → Sound families committed is_whole ≡ Unwritten → P
 sound-not-unwritten families committed is_whole e = cc
@@ -27,15 +28,16 @@ sound_told families committed is_whole true ending e = sound-not-unwritten famil
 sound_told families committed is_whole false ending e = (refl, sym e)
 
 module _ {W : Type 0} (contents : W → Option (List ℕ)) where
-  -- what an engine's desk wrote that ended sound, and then a line more
-  served_wrote : (o : OpeningValue) (heard : List Fed) (families committed : ℕ) (is_whole : Bool) (first last end : Outlet W) (line : List ℕ)
+  -- what the desk of an engine wrote that ended sound, and then the line of its ending
+  served_wrote : (o : OpeningValue) (heard : List Fed) (families committed : ℕ) (is_whole : Bool) (first last end : Outlet W)
       → EngineServes contents o (first_desk contents first heard o.new.parts) (Sound families committed is_whole) last
-      → Appends (contents last.writer) (contents end.writer) line
-      → WroteAll line (contents first.writer) (contents end.writer)
-  served_wrote o heard families committed is_whole first last end line serves told =
+      → Appends (contents last.writer) (contents end.writer) (outcome_line (outcome.Sound families committed))
+      → SoundService families committed is_whole (contents first.writer) (contents end.writer)
+  served_wrote o heard families committed is_whole first last end serves told =
       let by = serves.2 in
       let ended = by.ended in
       let before = first_desk contents first heard o.new.parts in
+      let line = outcome_line (outcome.Sound families committed) in
       let writes = happen_write ended.events serves.0 before ended.last by.after ended.happened in
       let all = flat_map said_line writes.said in
       let wrote : Appends (contents first.writer) (contents last.writer) all =
@@ -44,37 +46,35 @@ module _ {W : Type 0} (contents : W → Option (List ℕ)) where
         opening = o;
         engine = serves.0;
         opened = serves.1;
-        events = ended.events;
-        end = ended.last;
         before = before;
+        none_waited = refl;
         after = by.after;
-        happened = ended.happened;
-        whole = ended.whole;
-        cleared = ended.written;
+        ended = ended;
+        planned = ended_planned o serves.0 before by.after families committed is_whole serves.1 ended;
         writes = writes;
         written = both (contents first.writer) (contents last.writer) (contents end.writer) all line (all ++ line) wrote told refl;
       }
 
   sound_wrote : (old new : W) (families committed : ℕ) (is_whole : Bool) → ServesWriter contents old new (Sound families committed is_whole)
-      → WroteAll (outcome_line (outcome.Sound families committed)) (contents old) (contents new)
+      → SoundService families committed is_whole (contents old) (contents new)
   sound_wrote old new families committed is_whole s =
       let sound = sound_told families committed is_whole s.end.has_failed s.ending s.tells.told_is in
       let line = outcome_line (outcome.Sound families committed) in
       let is : s.tells.text ≡ line = subst (λ (e : ServeEnding). IsLineOfEnding e s.tells.text) sound.1 s.tells.is in
       let told : Appends (contents s.last.writer) (contents s.end.writer) line =
       subst (λ (text : List ℕ). Appends (contents s.last.writer) (contents s.end.writer) text) is (s.tells.written sound.0) in
-      subst (λ (w : W). WroteAll line (contents w) (contents new)) s.first_writer
-      (subst (λ (w : W). WroteAll line (contents s.first.writer) (contents w)) s.end_writer
+      subst (λ (w : W). SoundService families committed is_whole (contents w) (contents new)) s.first_writer
+      (subst (λ (w : W). SoundService families committed is_whole (contents s.first.writer) (contents w)) s.end_writer
       (⊎_elim
       (λ served.
-      served_wrote served.0 served.1 families committed is_whole s.first s.last s.end line served.2 told)
+      served_wrote served.0 served.1 families committed is_whole s.first s.last s.end served.2 told)
       (λ none. absurd none.0)
       (subst (λ (e : ServeEnding). ServesSome contents s.first e s.last) sound.1 s.served)))
 
-  pub sound_wrote_all : (old new : W) (ending : ServeEnding) → ServesWriter contents old new ending
-      → SoundWroteAll (contents old) (contents new) ending
-  sound_wrote_all old new (Sound families committed is_whole) s = sound_wrote old new families committed is_whole s
-  sound_wrote_all old new (Unsound defect) s = tt
-  sound_wrote_all old new (NoHeader fault) s = tt
-  sound_wrote_all old new Memory s = tt
-  sound_wrote_all old new Unwritten s = tt
+  pub serves_soundly : (old new : W) (ending : ServeEnding) → ServesWriter contents old new ending
+      → ServesSoundly (contents old) (contents new) ending
+  serves_soundly old new (Sound families committed is_whole) s = sound_wrote old new families committed is_whole s
+  serves_soundly old new (Unsound defect) s = tt
+  serves_soundly old new (NoHeader fault) s = tt
+  serves_soundly old new Memory s = tt
+  serves_soundly old new Unwritten s = tt

@@ -1,5 +1,5 @@
 -- An engine that is served from its opening to its end.
-use Rattle.std.specs.Prelude.{◌≡◌, ◌⊎◌, ◌^◌, ◌<◌, false, ℕ, List, [], ◌++◌, All, replicate, Option, None}
+use Rattle.std.specs.Prelude.{◌≡◌, ◌⊎◌, ◌^◌, ◌<◌, Bool, false, ℕ, List, [], ◌++◌, replicate, Option, None}
 use Rattle.std.specs.List.{flat_map}
 use Rattle.std.specs.Io.KnownBytes.{Appends}
 use Rattle.sq_ranges.specs.OpeningValue.{OpeningValue}
@@ -15,8 +15,8 @@ use Rattle.sq_server.specs.declared.outlet.Outlet.{Outlet}
 use Rattle.sq_server.specs.Becoming.{ServeDeskValue}
 use Rattle.sq_server.specs.Written.{WritesEach, said_line}
 use Rattle.sq_service.specs.declared.page_book.PageBook.{PageBook}
-use Rattle.sq_service.specs.Events.{ServeEvent, HappenEach, IsServedWhole, all_exchanged}
-use Rattle.sq_service.specs.Ends.{IsCleared, HasEndedServing}
+use Rattle.sq_service.specs.Events.{all_exchanged}
+use Rattle.sq_service.specs.Ends.{HasEndedServing}
 use Rattle.sq_service.specs.Planned.{EndsServingAsPlanned}
 use Rattle.sq_service.specs.Telling.{TellsEnding}
 
@@ -82,26 +82,25 @@ pub record ServesWriter {W : Type 0} (contents : W → Option (List ℕ)) (old n
   pub tells : TellsEnding contents last ending end told
   pub end_writer : end.writer ≡ new
 
--- what a writer holds grew by what the desk of an engine wrote that was served from its opening on, where no answer is missing and
--- no job waits: the line of each answer, once, those of each partition in their order, and other lines; and by this text behind them
-pub record WroteAll (last : List ℕ) (old new : Option (List ℕ)) : Type 0 where
+-- an engine was served from its opening on, and ended sound with these totals, closed where it was planned: no answer is missing, and
+-- no job waits. What a writer holds grew by the line of each answer, once, those of each partition in their order, by other lines, and
+-- last by the line of this ending
+pub record SoundService (families committed : ℕ) (is_whole : Bool) (old new : Option (List ℕ)) : Type 0 where
   pub opening : OpeningValue
   pub engine : Standing
   pub opened : Stands opening [] engine
-  pub events : List ServeEvent
-  pub end : Standing
   pub before : ServeDeskValue
+  pub none_waited : before.waiting ≡ replicate opening.new.parts []
   pub after : ServeDeskValue
-  pub happened : HappenEach events engine before end after
-  pub whole : All IsServedWhole events
-  pub cleared : IsCleared after
-  pub writes : WritesEach (all_exchanged events) before after
-  pub written : Appends old new (flat_map said_line writes.said ++ last)
+  pub ended : HasEndedServing no_pages engine before (Sound families committed is_whole) after
+  pub planned : EndsServingAsPlanned opening ended.ends.2.1
+  pub writes : WritesEach (all_exchanged ended.events) before after
+  pub written : Appends old new (flat_map said_line writes.said ++ outcome_line (outcome.Sound families committed))
 
--- where it ends sound, all is written, and last the line of the ending
-abbrev pub SoundWroteAll : Option (List ℕ) → Option (List ℕ) → ServeEnding → Type 0
-SoundWroteAll old new (Sound families committed is_whole) = WroteAll (outcome_line (outcome.Sound families committed)) old new
-SoundWroteAll old new (Unsound defect) = Unit {0}
-SoundWroteAll old new (NoHeader fault) = Unit {0}
-SoundWroteAll old new Memory = Unit {0}
-SoundWroteAll old new Unwritten = Unit {0}
+-- a sound ending means that the service was a sound one
+abbrev pub ServesSoundly : Option (List ℕ) → Option (List ℕ) → ServeEnding → Type 0
+ServesSoundly old new (Sound families committed is_whole) = SoundService families committed is_whole old new
+ServesSoundly old new (Unsound defect) = Unit {0}
+ServesSoundly old new (NoHeader fault) = Unit {0}
+ServesSoundly old new Memory = Unit {0}
+ServesSoundly old new Unwritten = Unit {0}

@@ -13,8 +13,8 @@ use std::io::Write;
 use std::sync::Wait;
 use std::thread::Threads;
 
-/// Closes an engine at rest with all jobs answered, and says how it ends; where a job waits beside its queue, the engine continues.
-/// So many jobs were committed on the pages before.
+/// Closes an engine at rest, and says how it ends; where a job waits beside its queue, the engine continues. So many jobs were
+/// committed on the pages before.
 pub(crate) fn close_unless_jobs_wait<T: Threads + Wait + Sync, W: Write + Drop>(
     rt: &T,
     alloc: Global,
@@ -66,7 +66,7 @@ fn close<T: Threads + Wait + Sync>(
     is_whole: bool,
 ) -> ServeEnding
     ensures ends { ServiceEndsBy committed [] engine result }
-    ensures written { result ≢ Unwritten }
+    ensures not_unwritten { result ≢ Unwritten }
 {
     match engine.close(rt, alloc) {
         Ok(closed) => {

@@ -8,7 +8,7 @@ ghost use Rattle.sq_server.specs.Becoming.{ServeDeskValue};
 ghost use Rattle.sq_server.specs.Written.{WritesEach};
 ghost use Rattle.sq_service.specs.Events.{ServeEvent, HappenEach, all_exchanged};
 ghost use Rattle.sq_service.specs.Planned.{IsServedSoundly, EndsServingAsPlanned};
-ghost use Rattle.sq_service.specs.Service.{ServesWriter, SoundWroteAll};
+ghost use Rattle.sq_service.specs.Service.{ServesWriter, ServesSoundly};
 
 use std::io::Write;
 
@@ -26,9 +26,9 @@ pub fn a_service_writes_each_answer()
         → WritesEach (all_exchanged events) before after }
 {}
 
-/// Where an engine that was served ends sound, each answer of each epoch was given and is written, no job waits, and the line of
-/// its ending is the last.
+/// Where an engine that was served ends sound, it was closed where it was planned, each answer of each epoch was given and is
+/// written, no job waits, and the line of its ending is the last.
 pub fn a_sound_service_writes_all<W: Write>()
     ensures { (old new : W) (ending : ServeEnding) → ServesWriter W.contents old new ending
-        → SoundWroteAll (W.contents old) (W.contents new) ending }
+        → ServesSoundly (W.contents old) (W.contents new) ending }
 {}

@@ -26,6 +26,7 @@ use Rattle.sq_live.specs.declared.ending.LiveEnding.{LiveEnding}
 use Rattle.sq_live.specs.Live.{RunsLive, ending_status}
 use Rattle.sq_server.specs.declared.ending.ServeEnding.{ServeEnding}
 use Rattle.sq_server.specs.Ending.{serve_status}
+use Rattle.sq_service.specs.Service.{ServesSoundly}
 use Rattle.sq_explain.specs.Meanings.{Explains}
 use Rattle.sq_command.specs.declared.line.Plans.{Plans}
 use Rattle.sq_command.specs.declared.line.Form.{Form}
@@ -126,16 +127,18 @@ EndsOwners keys width before now status =
     (option_append (Some (plan_lines old new)) (Some (widest_config width))) before now) exit_status status)
     ⊎ (status ≡ 2)
 
--- the status is the one of how an engine ended, or 2, where a file can't be read or there was no memory for it
-abbrev pub EndsEngine : ℕ → Type 0
-EndsEngine status = (status ≡ 2) ⊎ ((ending : ServeEnding) × (status ≡ serve_status ending))
+-- the status is the one of some ending of an engine, and where that ending is sound, so was the service; or it is 2, where a file
+-- can't be read or there was no memory for it
+abbrev pub EndsEngine : Option (List ℕ) → Option (List ℕ) → ℕ → Type 0
+EndsEngine before now status =
+    ((ending : ServeEnding) × ServesSoundly before now ending × (status ≡ serve_status ending)) ⊎ (status ≡ 2)
 
 -- what a line asks for was done with what the reader or the files give, unless a file can't be read, and ended with this status
 abbrev pub EndsLine : Line → Option (List ℕ) → Option (List ℕ) → Option (List ℕ) → ℕ → Type 0
 EndsLine (Work task input) known before now status = EndsMain task input.plans input.file known before now status
 EndsLine (Owner keys plans width) known before now status = EndsOwners keys.items width before now status
 EndsLine (Demo demo folder) known before now status = EndsDemo folder.now before now status
-EndsLine (Serve pumps fold_after files file reports) known before now status = EndsEngine status
+EndsLine (Serve pumps fold_after files file reports) known before now status = EndsEngine before now status
 EndsLine (Explain number) known before now status = EndsAs (Explains number before now) explain_status status
 
 -- the words have no fault, and what their subcommand asks for ended with this status

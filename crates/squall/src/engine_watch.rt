@@ -136,8 +136,8 @@ fn places_of<T: Eprint + Files + AllocGlobal>(
     }
 }
 
-// Whether each report would be a file of its own, and none be written over a file at one of these places or over another
-// report; else standard error says which. An error is that memory ran out.
+// Whether each report would be a file of its own, written over no other report and over no file at one of these places. Where one
+// wouldn't, standard error says which. An error is that memory ran out.
 fn may_report<T: Eprint + Files + AllocGlobal>(
     rt: &T,
     outputs: &[Output<'_>],

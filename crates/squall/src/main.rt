@@ -187,7 +187,7 @@ where
     }
 }
 
-// Does what the words of a command line ask for, and gives the exit status.
+// Does what the words of a command line ask for. Gives the writer back, and the exit status.
 fn obey<
     T: Threads
         + Wait
@@ -203,15 +203,16 @@ fn obey<
         + 'static,
     S: AsStr,
     R: Read,
-    W: Write,
+    W: Write + Drop,
     G: Watch,
->(rt: &T, words: &[S], reader: &mut R, writer: &mut W, watch: &G, streams: Streams<'_>) -> u8
+>(rt: &T, words: &[S], reader: &mut R, writer: W, watch: &G, streams: Streams<'_>) -> (W, u8)
 where
     T::File: Send + 'static,
     T::Reader: Send + 'static,
-    ensures { EndsWith (map S.text words.now) (R.remaining reader.old) (W.contents writer.old)
-        (W.contents writer.new) result }
+    ensures { EndsWith (map S.text words.now) (R.remaining reader.old) (W.contents writer)
+        (W.contents result.0) result.1 }
 {
+    let mut writer = writer;
     match line_of(rt.alloc(), words) {
         Ok(Line::Work { task, input }) => {
             let assignment = Assignment {
@@ -221,13 +222,16 @@ where
                 watch,
                 streams,
             };
-            assignment.carry_out(reader, writer)
+            let status = assignment.carry_out(reader, &mut writer);
+            (writer, status)
         }
         Ok(Line::Owner { keys, plans, width }) => {
-            owners(rt, writer, plans, width, &keys, streams.is_closed)
+            let status = owners(rt, &mut writer, plans, width, &keys, streams.is_closed);
+            (writer, status)
         }
         Ok(Line::Demo { demo, folder }) => {
-            write_demo(rt, writer, demo, folder, streams.is_closed)
+            let status = write_demo(rt, &mut writer, demo, folder, streams.is_closed);
+            (writer, status)
         }
         Ok(
             Line::Serve {
@@ -246,8 +250,11 @@ where
             };
             serve_engine(rt, writer, input, config, streams)
         }
-        Ok(Line::Explain { number }) => explanation(rt, writer, number, streams.is_closed),
-        Err(error) => print_usage(rt, &error, streams.columns),
+        Ok(Line::Explain { number }) => {
+            let status = explanation(rt, &mut writer, number, streams.is_closed);
+            (writer, status)
+        }
+        Err(error) => (writer, print_usage(rt, &error, streams.columns)),
     }
 }
 
@@ -258,7 +265,7 @@ fn main(rt: HostRuntime) -> ExitCode {
     };
     let is_closed = Cell::new(false);
     let output = PipeEnd::new(io::writer(&rt), &is_closed);
-    let Ok(mut writer) = BufWriter::with_capacity(rt.alloc(), WRITE_SIZE, output) else {
+    let Ok(writer) = BufWriter::with_capacity(rt.alloc(), WRITE_SIZE, output) else {
         return ExitCode::from(refuse_for_memory(&rt));
     };
     let streams = Streams {
@@ -267,12 +274,12 @@ fn main(rt: HostRuntime) -> ExitCode {
         is_closed: &is_closed,
     };
     let mut reader = rt.reader();
-    let status = if rt.stderr().is_terminal() {
+    let (writer, status) = if rt.stderr().is_terminal() {
         // It shows how far a live run is.
         let progress = Progress::new(&rt);
-        obey(&rt, &words, &mut reader, &mut writer, &progress, streams)
+        obey(&rt, &words, &mut reader, writer, &progress, streams)
     } else {
-        obey(&rt, &words, &mut reader, &mut writer, &OpenGate, streams)
+        obey(&rt, &words, &mut reader, writer, &OpenGate, streams)
     };
     // A failed write has left bytes, which a buffer that is dropped would write.
     let (_unbuffered, _unwritten) = writer.into_parts();

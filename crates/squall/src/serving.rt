@@ -42,15 +42,15 @@ pub struct EngineInput<'a> {
 }
 
 /// Serves an engine whose input is the file that is named, if one is, and then standard input, and reports what it did, where
-/// that is wanted. Says on standard error what a fault that ends it means. Gives the exit status, which is 2 where a file can't be
-/// read or written.
+/// that is wanted. Says on standard error what a fault that ends it means. Gives the writer back, and the exit status, which is 2
+/// where a file can't be read or written.
 pub fn serve_engine<T, W>(
     rt: &T,
-    writer: &mut W,
+    writer: W,
     input: EngineInput<'_>,
     config: ServeConfig,
     streams: Streams<'_>,
-) -> u8
+) -> (W, u8)
 where
     T: Threads
         + Wait
@@ -66,34 +66,38 @@ where
         + 'static,
     T::File: Send + 'static,
     T::Reader: Send + 'static,
-    W: Write,
+    W: Write + Drop,
     requires { config.pumps ≤ MAX_PUMPS }
-    ensures { EndsEngine result }
+    ensures { EndsEngine (W.contents writer) (W.contents result.0) result.1 }
 {
     let watch = match EngineWatch::new(rt, input) {
         Ok(watch) => watch,
-        Err(status) => return status,
+        Err(status) => return (writer, status),
     };
-    let status = serve_watched(rt, writer, input, config, streams, &watch);
-    if watch.report(input) { status } else { REFUSED }
+    let (writer, status) = serve_watched(rt, writer, input, config, streams, &watch);
+    if watch.report(input) {
+        (writer, status)
+    } else {
+        (writer, REFUSED)
+    }
 }
 
 // Serves an engine with who watches it.
 fn serve_watched<T, W, V: ServeWatch>(
     rt: &T,
-    writer: &mut W,
+    writer: W,
     input: EngineInput<'_>,
     config: ServeConfig,
     streams: Streams<'_>,
     watch: &V,
-) -> u8
+) -> (W, u8)
 where
     T: Threads + Wait + Sync + Print + Eprint + Files + AllocGlobal + Input + Copy + Send + 'static,
     T::File: Send + 'static,
     T::Reader: Send + 'static,
-    W: Write,
+    W: Write + Drop,
     requires { config.pumps ≤ MAX_PUMPS }
-    ensures { EndsEngine result }
+    ensures { EndsEngine (W.contents writer) (W.contents result.0) result.1 }
 {
     let Some(name) = input.file else {
         say_wait(rt, input, streams);
@@ -104,7 +108,7 @@ where
             let main = Following::new(file, rt.reader());
             serve_parts(rt, writer, main, input.files, config, streams, watch)
         }
-        Err(error) => refuse_file(rt, name, &error),
+        Err(error) => (writer, refuse_file(rt, name, &error)),
     }
 }
 
@@ -125,20 +129,20 @@ fn say_wait(rt: &impl Eprint, input: EngineInput<'_>, streams: Streams<'_>) {
 // Serves an engine with this main input, whose plan and rows may have files of their own.
 fn serve_parts<T, I, W, V>(
     rt: &T,
-    writer: &mut W,
+    writer: W,
     main: I,
     files: Option<EngineFiles<'_>>,
     config: ServeConfig,
     streams: Streams<'_>,
     watch: &V,
-) -> u8
+) -> (W, u8)
 where
     T: Threads + Wait + Sync + Print + Eprint + Files + AllocGlobal + Copy + Send + 'static,
     I: Read + Send + Drop + 'static,
-    W: Write,
+    W: Write + Drop,
     V: ServeWatch,
     requires { config.pumps ≤ MAX_PUMPS }
-    ensures { EndsEngine result }
+    ensures { EndsEngine (W.contents writer) (W.contents result.0) result.1 }
 {
     let Some(files) = files else {
         let input = PlansWatched::new(*rt, main, 1);
@@ -151,30 +155,30 @@ where
             let input = Cursor::new(text).chain(PlansWatched::new(*rt, main, number));
             serve_input(rt, writer, input, config, streams, watch)
         }
-        Err(status) => status,
+        Err(status) => (writer, status),
     }
 }
 
 // Serves an engine with an input.
 fn serve_input<T, I, W, V>(
     rt: &T,
-    writer: &mut W,
+    writer: W,
     input: I,
     config: ServeConfig,
     streams: Streams<'_>,
     watch: &V,
-) -> u8
+) -> (W, u8)
 where
     T: Threads + Wait + Sync + Eprint + AllocGlobal + Copy + Send + 'static,
     I: Read + Send + Drop + 'static,
-    W: Write,
+    W: Write + Drop,
     V: ServeWatch,
     requires { config.pumps ≤ MAX_PUMPS }
-    ensures { EndsEngine result }
+    ensures { EndsEngine (W.contents writer) (W.contents result.0) result.1 }
 {
-    let (_writer, ending) = serve(rt, rt.alloc(), input, writer, config, watch);
+    let (writer, ending) = serve(rt, rt.alloc(), input, writer, config, watch);
     explain_engine(rt, ending, streams);
-    ending.status()
+    (writer, ending.status())
 }
 
 // Says on standard error what the ending of an engine means, unless it is sound.

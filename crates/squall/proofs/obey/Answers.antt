@@ -8,5 +8,5 @@ returns-in-Ok-Owner g c =
     inl (record {
       line = Owner c.in-Ok-Owner.keys c.in-Ok-Owner.plans c.in-Ok-Owner.width;
       comes = rw c.in-Ok-Owner.field-0-is at c.in-Ok-Owner.ensures.comes;
-      ends = subst (λ (keys : List ℕ). EndsOwners keys c.in-Ok-Owner.width (g.W.Write.contents c.args.writer.now) (g.W.Write.contents c.owners.new.writer) c.owners.result) c.deref.ensures.value c.owners.ensures;
+      ends = subst (λ (keys : List ℕ). EndsOwners keys c.in-Ok-Owner.width (g.W.Write.contents c.args.writer) (g.W.Write.contents c.owners-status.new.writer) c.owners-status.result) c.deref.ensures.value c.owners-status.ensures;
     })

@@ -14,4 +14,4 @@ returns-in-Some-clause-written g c =
 pub returns-in-None-clause-written : goal.returns-in-None-clause-written
 returns-in-None-clause-written g c =
     closed_at_desk c.close.result (desk_value g.W.Write.contents c.args.desk.now) c.in-None.ensures.goes_on c.requires
-    c.close.ensures.written
+    c.close.ensures.not_unwritten
