@@ -7,14 +7,8 @@ use sq_store::VecStore;
 use std::alloc::Global;
 use std::test::Fail;
 
-// The destination, at which the first transaction that waits gets this number.
-fn destination_at(alloc: Global, next: u64) -> Result<PartCore<VecStore>, Fail> {
-    let opening = opening(alloc, "config 1 64 1\n")?;
-    let store = VecStore::new(alloc);
-    let mut part = PartCore::open_at(alloc, &opening, PartId::new(1), store, next)?;
-    part.start();
-    Ok(part)
-}
+// The last number that a transaction can get.
+const LAST: u64 = 18_446_744_073_709_551_614;
 
 // The leaf that a transaction waits for, if it waits.
 fn leaf_of(outcome: Outcome) -> Option<u64> {
@@ -32,18 +26,35 @@ fn waits(alloc: Global, part: &mut PartCore<VecStore>, root: u64) -> Result<bool
     Ok(leaf.is_some() && leaf == root.checked_sub(4))
 }
 
-// Whether the first transactions that wait for the root keys 5 and 6 have these arrival numbers.
-fn have_arrived(part: &PartCore<VecStore>, five: Option<u64>, six: Option<u64>) -> bool {
-    Root::new(5).and_then(|root| part.arrival(root)) == five
-        && Root::new(6).and_then(|root| part.arrival(root)) == six
+// The arrival number of the first transaction that waits for a root key, if one does.
+fn arrival(part: &PartCore<VecStore>, root: u64) -> Option<u64> {
+    part.arrival(Root::new(root)?)
 }
 
+// A root key, and the arrival numbers of those that wait for the root keys 5 and 6, once a transaction waits for it.
+const ARRIVALS: [(u64, Option<u64>, Option<u64>); 2] = [
+    (5, Some(LAST), None),
+    (6, Some(0), Some(1)),
+];
+
+// Whether transactions wait for these root keys, and get these numbers.
+fn wait_in_turn(alloc: Global, part: &mut PartCore<VecStore>) -> Result<bool, Fail> {
+    for (root, five, six) in &ARRIVALS {
+        if !waits(alloc, part, *root)? || arrival(part, 5) != *five || arrival(part, 6) != *six {
+            return Ok(false);
+        }
+    }
+    Ok(true)
+}
+
+// The first transaction that waits at the destination gets the last number.
 #[test]
 fn numbers_begin_anew_where_none_is_left(rt: HostRuntime) -> Result<(), Fail> {
-    let last = 18_446_744_073_709_551_614;
-    let mut part = destination_at(rt.alloc(), last)?;
-    for (root, five, six) in [(5, Some(last), None), (6, Some(0), Some(1))] {
-        assert!(rt; waits(rt.alloc(), &mut part, root)? && have_arrived(&part, five, six));
-    }
+    let alloc = rt.alloc();
+    let opening = opening(alloc, "config 1 64 1\n")?;
+    let store = VecStore::new(alloc);
+    let mut part = PartCore::open_at(alloc, &opening, PartId::new(1), store, LAST)?;
+    part.start();
+    assert!(rt; wait_in_turn(alloc, &mut part)?);
     Ok(())
 }

@@ -4,7 +4,7 @@ use sq_lines::LineReader;
 use sq_model::Step;
 use sq_plan::{PartId, Plan};
 use sq_ranges::{Opening, Recon, SegId};
-use sq_schema::{Family, Root, RowKey, Schema, Table, Txn};
+use sq_schema::{Family, Root, Row, RowKey, Schema, Table, Txn};
 use sq_text::{read_header, read_step};
 use sq_tree::NodeId;
 use std::alloc::Global;
@@ -54,18 +54,22 @@ pub fn opening(alloc: Global, lines: &str) -> Result<Opening, Fail> {
 
 /// Whether these families have the root keys.
 pub fn have(families: &[Family], roots: &[u64]) -> bool {
-    families
-        .iter()
-        .map(|family| family.root().number())
-        .eq(roots.iter().copied())
+    for (family, root) in families.iter().zip(roots) {
+        if family.root().number() != *root {
+            return false;
+        }
+    }
+    families.len() == roots.len()
+}
+
+// The row of a table at a key, if there is one.
+fn row_at(table: &Table, root: u64, key: RowKey) -> Option<&Row> {
+    table.rows(Root::new(root)?)?.get(key)
 }
 
 /// Whether the table has this number and note at a key, or no row.
 pub fn has(table: &Table, root: u64, key: RowKey, want: Option<(i64, &[u8])>) -> bool {
-    let found = Root::new(root)
-        .and_then(|root| table.rows(root))
-        .and_then(|rows| rows.get(key));
-    match (found, want) {
+    match (row_at(table, root, key), want) {
         (None, None) => true,
         (Some(row), Some((number, note))) => row.number() == number && row.note() == note,
         _ => false,

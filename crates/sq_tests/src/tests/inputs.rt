@@ -61,9 +61,12 @@ const READS: [(usize, &[(usize, Recalled<'static>)]); 3] = [
 
 // Whether this is recalled of these lines.
 fn are_told<R: Read>(reader: &Recalling<R>, lines: &[(usize, Recalled<'_>)]) -> bool {
-    lines
-        .iter()
-        .all(|(number, line)| reader.line(*number) == *line)
+    for (number, line) in lines {
+        if reader.line(*number) != *line {
+            return false;
+        }
+    }
+    true
 }
 
 #[test]
@@ -75,8 +78,8 @@ fn the_lines_of_the_last_read_are_told(rt: HostRuntime) -> Result<(), Fail> {
     };
     let mut reader = Recalling::new(rt.alloc(), input);
     let mut bytes = [0; 6];
-    for (count, lines) in READS {
-        assert!(rt; reader.read(&mut bytes)? == count && are_told(&reader, lines));
+    for (count, lines) in &READS {
+        assert!(rt; reader.read(&mut bytes)? == *count && are_told(&reader, lines));
     }
     Ok(())
 }

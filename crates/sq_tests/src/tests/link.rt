@@ -47,19 +47,24 @@ fn is_chunk(chunk: &Chunk, number: u32) -> bool {
     let [family] = chunk.families() else {
         return false;
     };
-    let seven = family.rows().get(RowKey::ROOT).map(Row::number);
+    let Some(row) = family.rows().get(RowKey::ROOT) else {
+        return false;
+    };
     note.number == u64::from(number)
         && note.src.number() == 3
         && note.dst.number() == 5
         && family.root().number() == u64::from(number)
-        && seven == Some(7 * i64::from(number))
+        && row.number() == 7 * i64::from(number)
 }
 
 // Whether these are the chunks of the numbers from this one on.
 fn are_chunks(chunks: &[Chunk], first: u32) -> bool {
-    (first..u32::MAX)
-        .zip(chunks)
-        .all(|(number, chunk)| is_chunk(chunk, number))
+    for (number, chunk) in (first..u32::MAX).zip(chunks) {
+        if !is_chunk(chunk, number) {
+            return false;
+        }
+    }
+    true
 }
 
 // The chunks of the numbers below this one.
@@ -153,26 +158,33 @@ fn carry<R: Wait>(rt: &R, alloc: Global, capacity: u32, room: u32) -> Result<Car
 // place.
 fn are_in_order(carried: &Carried, capacity: u32, room: u32) -> bool {
     let came = room.min(capacity);
+    let Some(unsent) = &carried.unsent else {
+        return false;
+    };
     carried.received.len() == came as usize
         && carried.left.len() == (capacity - came) as usize
         && are_chunks(&carried.received, 0)
         && are_chunks(&carried.left, came)
-        && carried
-            .unsent
-            .as_ref()
-            .is_some_and(|chunk| is_chunk(chunk, capacity))
+        && is_chunk(unsent, capacity)
 }
 
 // How many chunks more than one a link holds, and how many are received.
 const SIZES: [(u8, u32); 7] = [(0, 2), (1, 3), (2, 4), (6, 8), (63, 65), (1, 1), (63, 0)];
 
+// Whether all come in their order through such a link.
+fn come_in_order<R: Wait>(rt: &R, alloc: Global, capacity: u32, room: u32) -> Result<bool, Fail>
+    requires { 0 < capacity }
+{
+    let carried = carry(rt, alloc, capacity, room)?;
+    Ok(are_in_order(&carried, capacity, room))
+}
+
 #[test]
 fn as_many_as_the_link_holds(rt: HostRuntime) -> Result<(), Fail> {
-    for (more, room) in SIZES {
-        let capacity = u32::from(more) + 1;
-        let carried = carry(&rt, rt.alloc(), capacity, room)?;
+    for (more, room) in &SIZES {
+        let capacity = u32::from(*more) + 1;
         assert!(rt;
-            are_in_order(&carried, capacity, room),
+            come_in_order(&rt, rt.alloc(), capacity, *room)?,
             "{room} of {capacity}"
         );
     }

@@ -47,8 +47,8 @@ fn rewritten(alloc: Global, text: &str) -> Result<String, Fail> {
 
 #[test]
 fn written(rt: HostRuntime) -> Result<(), Fail> {
-    for (text, wanted) in WRITTEN {
-        assert_eq!(rt; rewritten(rt.alloc(), text)?.as_str(), wanted);
+    for (text, wanted) in &WRITTEN {
+        assert_eq!(rt; rewritten(rt.alloc(), text)?.as_str(), *wanted);
     }
     Ok(())
 }

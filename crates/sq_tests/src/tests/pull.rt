@@ -293,12 +293,30 @@ fn first_wrong<R: Wait>(
     Ok(None)
 }
 
+// The same in a fresh setting.
+fn first_wrong_between<R: Wait>(
+    rt: &R,
+    alloc: Global,
+    plans: (&str, &str),
+    stage: u64,
+    capacity: usize,
+    story: Story,
+) -> Result<Option<(Call, Answer)>, Fail>
+    requires { 0 < capacity }
+{
+    let mut setting = Setting::opened(alloc, plans.0, plans.1, stage, capacity)?;
+    first_wrong(rt, &mut setting, story)
+}
+
 #[test]
 fn stories(rt: HostRuntime) -> Result<(), Fail> {
-    for (old, new, stage, more, story) in STORIES {
-        let mut setting = Setting::opened(rt.alloc(), old, new, stage, usize::from(more) + 1)?;
-        let wrong = first_wrong(&rt, &mut setting, story)?;
-        assert!(rt; wrong.is_none(), "{wrong:?} of {story:?}");
+    for (old, new, stage, more, story) in &STORIES {
+        let capacity = usize::from(*more) + 1;
+        let wrong = first_wrong_between(&rt, rt.alloc(), (old, new), *stage, capacity, story)?;
+        assert!(rt;
+            wrong.is_none(),
+            "{wrong:?} in stage {stage} to {new} with {capacity}"
+        );
     }
     Ok(())
 }

@@ -38,8 +38,8 @@ fn claims_the_rest(tree: &StatusTree, seat: &mut TreeSeat) -> bool
     requires { (seat.old.tree ≡ tree.now) × (seat.old.view.first ≡ true) }
     ensures { (seat.new.tree ≡ tree.now) × (seat.new.view.first ≡ true) }
 {
-    for (pull, want) in CLAIMS {
-        if tree.claim_any(seat, pull).map(NodeId::number) != want {
+    for (pull, want) in &CLAIMS {
+        if tree.claim_any(seat, *pull).map(NodeId::number) != *want {
             return false;
         }
     }
@@ -107,22 +107,47 @@ fn join_two(tree: &StatusTree, seat: &mut TreeSeat, one: TreeSeat, other: TreeSe
 
 // Whether what was won at a node leads to this status, each of its steps once.
 fn lead_to(wins: &[(NodeId, Status)], node: NodeId, status: Status) -> bool {
-    let count = wins.iter().filter(|won| won.0 == node).count();
-    let has = |step| wins.contains(&(node, step));
+    let count = count_at(wins, node);
     match status {
         Status::Free => count == 0,
-        Status::Split => count == 1 && has(Status::Split),
-        Status::Claimed(pull) => count == 1 && has(Status::Claimed(pull)),
+        Status::Split | Status::Claimed(_) => count == 1 && wins.contains(&(node, status)),
         Status::Partial(pull) => {
-            count == 2 && has(Status::Claimed(pull)) && has(Status::Partial(pull))
+            count == 2
+                && wins.contains(&(node, Status::Claimed(pull)))
+                && wins.contains(&(node, status))
         }
         Status::Complete(pull) => {
             count == 3
-                && has(Status::Claimed(pull))
-                && has(Status::Partial(pull))
-                && has(Status::Complete(pull))
+                && wins.contains(&(node, Status::Claimed(pull)))
+                && wins.contains(&(node, Status::Partial(pull)))
+                && wins.contains(&(node, status))
         }
     }
+}
+
+// How many steps were won at a node.
+fn count_at(wins: &[(NodeId, Status)], node: NodeId) -> usize {
+    let mut count: usize = 0;
+    for (at, _) in wins {
+        if *at == node {
+            count = count.saturating_add(1);
+        }
+    }
+    count
+}
+
+// How many nodes were split, and how many were completed.
+fn count_last_steps(wins: &[(NodeId, Status)]) -> (usize, usize) {
+    let mut splits: usize = 0;
+    let mut completes: usize = 0;
+    for (_, status) in wins {
+        match status {
+            Status::Split => splits = splits.saturating_add(1),
+            Status::Complete(_) => completes = completes.saturating_add(1),
+            _ => {}
+        }
+    }
+    (splits, completes)
 }
 
 // One step of one thread: which one, and at which node, follows from the round. Where it is won, the status that it
@@ -240,11 +265,8 @@ fn four_threads_agree_with_what_they_won(rt: HostRuntime) -> Result<(), Fail> {
             let status = statuses[node.index()];
             assert!(rt; lead_to(&wins, node, status), "{node:?} is {status:?}");
         }
-        let splits = wins.iter().filter(|won| won.1 == Status::Split).count();
-        let completes = wins
-            .iter()
-            .filter(|won| matches!(won.1, Status::Complete(_)));
-        assert!(rt; splits >= 15 && completes.count() >= 16);
+        let (splits, completes) = count_last_steps(&wins);
+        assert!(rt; splits >= 15 && completes >= 16);
     }
     Ok(())
 }

@@ -21,10 +21,16 @@ fn last_answer(
     alloc: Global,
     store: &mut VecStore,
     commands: Vec<StoreCommand>,
-) -> Result<Option<StoreAnswer>, Fail> {
-    match run_store(alloc, store, commands) {
-        Ok(mut answers) => Ok(answers.pop()),
-        Err(_) => Err("no room for the answers")?,
+) -> Result<StoreAnswer, Fail> {
+    let mut answers = run_store(alloc, store, commands)?;
+    Ok(answers.pop().ok_or("no command")?)
+}
+
+// The families of an answer that has some.
+fn families_of(answer: StoreAnswer) -> Result<Vec<Family>, Fail> {
+    match answer {
+        StoreAnswer::Taken(cut) => Ok(cut?.families),
+        _ => Err("nothing is taken")?,
     }
 }
 
@@ -32,17 +38,14 @@ fn last_answer(
 fn taken(alloc: Global, store: &mut VecStore) -> Result<Vec<Family>, Fail> {
     let mut commands = puts(alloc, &[7, 4, 9])?;
     commands.push(StoreCommand::Take(Extent { lo: 4, hi: 9 }, 64))?;
-    match last_answer(alloc, store, commands)? {
-        Some(StoreAnswer::Taken(Ok(cut))) => Ok(cut.families),
-        _ => Err("nothing is taken")?,
-    }
+    families_of(last_answer(alloc, store, commands)?)
 }
 
 fn is_given(alloc: Global, store: &mut VecStore, families: Vec<Family>) -> Result<bool, Fail> {
     let mut commands = Vec::new(alloc);
     commands.push(StoreCommand::Give(families))?;
     let answer = last_answer(alloc, store, commands)?;
-    Ok(matches!(answer, Some(StoreAnswer::Given(Ok(())))))
+    Ok(matches!(answer, StoreAnswer::Given(Ok(()))))
 }
 
 #[test]

@@ -227,10 +227,21 @@ fn input_of(alloc: Global, script: &[u8]) -> Result<Vec<u8>, Fail> {
     Ok(input)
 }
 
+// How many lines end.
+fn count_ends(text: &[u8]) -> usize {
+    let mut count: usize = 0;
+    for byte in text {
+        if *byte == b'\n' {
+            count = count.saturating_add(1);
+        }
+    }
+    count
+}
+
 // Whether the lines of a script that ended are answered where a read fails behind it, and the fault belongs to the line behind
 // them.
 fn is_answered(alloc: Global, script: &[u8]) -> Result<bool, Fail> {
-    let ended = script.iter().filter(|byte| **byte == b'\n').count();
+    let ended = count_ends(script);
     let input = input_of(alloc, script)?;
     let (output, ending) = run_failing(alloc, &input, 4096)?;
     let line = u32::try_from(ended).unwrap_or(u32::MAX);
@@ -261,24 +272,14 @@ fn readers_that_fail_in_a_header(rt: HostRuntime) -> Result<(), Fail> {
     Ok(())
 }
 
-// A reader that never ends.
-#[derive(Drop)]
-struct Endless;
-
-impl Read for Endless {
-    fn read(&mut self, buf: &mut [u8]) -> io::Result<usize> {
-        buf.fill(b'a');
-        Ok(buf.len())
-    }
-}
-
 #[test]
 fn readers_without_end(rt: HostRuntime) -> Result<(), Fail> {
     let header =
         "old {\"version\":1,\"partitions\":1,\"ranges\":[[0,4294967296,0]]}\nnew {\"version\":1,\"partitions\":1,\"ranges\":[[0,4294967296,0]]}\nconfig 1 64 1\nprepare 0\n";
-    let (output, ending) = run_of(rt.alloc(), &mut Endless)?;
+    let (output, ending) = run_of(rt.alloc(), &mut io::repeat(b'a'))?;
     assert!(rt; ending.status() == 2 && output.as_slice() == b"fault 231\n".as_slice());
-    let (output, ending) = run_of(rt.alloc(), &mut header.as_bytes().chain(Endless))?;
+    let mut endless = header.as_bytes().chain(io::repeat(b'a'));
+    let (output, ending) = run_of(rt.alloc(), &mut endless)?;
     assert!(rt; ending == Ending::Fault(InputFault::TooLong.at(InputLine::Later(5))));
     assert!(rt; output.as_slice() == b"ok\nfault 122\n".as_slice());
     Ok(())
@@ -298,43 +299,44 @@ fn run_narrowly(
     (ending, writer.got)
 }
 
-// Each call that fails ends the run, after the first of what it writes otherwise.
+// Whether it fails, and the writer got the first of what is written otherwise.
+fn fails_narrowly(alloc: Global, input: &[u8], calls: usize, output: &[u8]) -> bool {
+    let (ending, got) = run_narrowly(alloc, input, calls);
+    ending == Err(WriteFault) && output.starts_with(&got)
+}
+
+// Each call that fails ends the run.
 #[test]
 fn writers_that_fail(rt: HostRuntime) {
     let fault = b"fault 101\n".as_slice();
     for calls in 0..5 {
-        let (ending, got) = run_narrowly(rt.alloc(), b"old {\n", calls);
         assert!(rt;
-            ending == Err(WriteFault) && fault.starts_with(&got),
+            fails_narrowly(rt.alloc(), b"old {\n", calls, fault),
             "after {calls}"
         );
     }
     let (ending, got) = run_narrowly(rt.alloc(), b"old {\n", 5);
     assert!(rt; ending.is_ok() && got.as_slice() == fault);
     for calls in 0..100 {
-        let (ending, got) = run_narrowly(rt.alloc(), INPUT, calls);
         assert!(rt;
-            ending == Err(WriteFault) && OUTPUT.starts_with(&got),
+            fails_narrowly(rt.alloc(), INPUT, calls, OUTPUT),
             "after {calls}"
         );
     }
     assert!(rt; WriteFault.number() == 124);
 }
 
-// The same of each call of a run, until one needs no more calls.
+// The same of each call of a run, up to the first that needs no more calls.
 #[test]
 fn writers_that_fail_at_each_call(rt: HostRuntime) -> Result<(), Fail> {
-    let input = input_of(rt.alloc(), SCRIPT)?;
+    let alloc = rt.alloc();
+    let input = input_of(alloc, SCRIPT)?;
     for calls in 0..100 {
-        let (ending, got) = run_narrowly(rt.alloc(), &input, calls);
-        if ending == Ok(Ending::Done) {
-            assert!(rt; got.as_slice() == ANSWERS);
+        if !fails_narrowly(alloc, &input, calls, ANSWERS) {
+            let (ending, got) = run_narrowly(alloc, &input, calls);
+            assert!(rt; ending == Ok(Ending::Done) && got.as_slice() == ANSWERS);
             return Ok(());
         }
-        assert!(rt;
-            ending == Err(WriteFault) && ANSWERS.starts_with(&got),
-            "after {calls}"
-        );
     }
     Err("no run went through")?
 }
