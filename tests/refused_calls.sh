@@ -26,7 +26,7 @@
 # A step that answered 222 changed nothing: made once more it answers as it was to, and so do all later ones, with the same
 # dump. Of a list at most one step is refused, and the rest is what the rules say of the script without it.
 #
-# `nodes` and `two_stages` are runs that crates/sq_thread_tests makes by hand. Where an allocation of a tree, of a link, or of what a
+# The runs of `nodes` and `two_stages` are made by hand. Where an allocation of a tree, of a link, or of what a
 # run opens with (its trees, links, queues, nodes and pumps) is refused, it is opened once more. A step whose allocation is refused
 # answers so, and its work is done at a later turn. A gathering, a fold and a next stage whose allocation is refused hand all back,
 # and are called once more with what came back; and so do the taking and the audit of a page, and the calls of an engine. So what
@@ -66,7 +66,7 @@ make_program() {
     for file in "$tests"/programs/refused_calls/*.rt.txt; do
         cp "$file" "$room/crates/refused_calls/src/$(basename "$file" .txt)"
     done
-    cp "$top"/crates/sq_thread_tests/src/tests/{run,text}.rt "$room/crates/refused_calls/src/"
+    cp "$top/crates/sq_thread_tests/src/tests/text.rt" "$room/crates/refused_calls/src/"
 }
 
 # make_inputs CALL RUN RANGES: makes the inputs of a call on a stored run, or on none.

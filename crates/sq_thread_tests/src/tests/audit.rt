@@ -5,13 +5,14 @@ use super::node::PAIR;
 use super::run::{TestRun, read_opening, two_jobs};
 use sq_audit::{Job, Verdict, audit};
 use sq_gather::Gathered;
+use sq_node::Receipt;
 use sq_ranges::Extent;
 use sq_runs::RunStore;
 use sq_schema::{Family, Root, Row, RowKey, Rows};
 use sq_store::{FamilyStore, StoreAnswer, StoreCommand, run_store};
 use std::alloc::Global;
+use std::process::Abort;
 use std::sync::Wait;
-use std::test::Fail;
 use std::thread::Threads;
 
 // The first commits, and the second aborts.
@@ -20,13 +21,11 @@ const FIRST: &str = "txn 0 1 5 get 0 0";
 const SECOND: &str = "txn 0 2 9 check 0 0 99";
 
 // What is gathered of the run, in which partition 0 answers both.
-fn worked<R: Wait>(rt: &R, alloc: Global) -> Result<Gathered, Fail> {
-    let mut run = TestRun::opened(alloc, PAIR, 1)?;
-    run.post(rt, alloc, FIRST)?;
-    run.post(rt, alloc, SECOND)?;
-    for _turn in 0..4 {
-        run.turn(rt, 0)?;
-    }
+fn worked<R: Wait + Abort>(rt: &R, alloc: Global) -> Gathered {
+    let mut run = TestRun::opened(rt, alloc, PAIR, 1);
+    run.post(rt, alloc, FIRST);
+    run.post(rt, alloc, SECOND);
+    run.turns(rt, 4, &[0]);
     run.gathered(rt, alloc)
 }
 
@@ -49,44 +48,53 @@ enum Change {
 }
 
 // A family of root key 5 that opens with this number.
-fn opened(alloc: Global, number: i64) -> Result<Family, Fail> {
-    let root = Root::new(5).ok_or("no root key")?;
+fn opened<R: Abort>(rt: &R, alloc: Global, number: i64) -> Family {
+    let root = Root::new(5).expect(rt, "no root key");
     let mut rows = Rows::new(alloc);
-    rows.insert(RowKey::ROOT, Row::new(number, Vec::new(alloc)))?;
-    Ok(Family::opened(alloc, root, rows)?)
+    let inserted = rows.insert(RowKey::ROOT, Row::new(number, Vec::new(alloc)));
+    inserted.expect(rt, "no memory for a row");
+    Family::opened(alloc, root, rows).expect(rt, "no memory for a family")
 }
 
 // Takes the family of root key 5 out of the store of partition 0.
-fn take_family(stores: &mut [RunStore]) -> Result<Family, Fail> {
+fn take_family<R: Abort>(rt: &R, stores: &mut [RunStore]) -> Family {
     let Some(store) = stores.first_mut() else {
-        return Err("no store")?;
+        rt.panic("no store")
     };
-    let mut cut = store.take(Extent { lo: 5, hi: 6 }, 1000)?;
-    Ok(cut.families.pop().ok_or("no family")?)
+    let cut = store.take(Extent { lo: 5, hi: 6 }, 1000);
+    let mut cut = cut.expect(rt, "no memory for families");
+    cut.families.pop().expect(rt, "no family")
 }
 
 // Puts a family into the store of a partition.
-fn put_family(
+fn put_family<R: Abort>(
+    rt: &R,
     alloc: Global,
     stores: &mut [RunStore],
     part: usize,
     family: Family,
-) -> Result<(), Fail> {
+) {
     let Some(store) = stores.get_mut(part) else {
-        return Err("no store")?;
+        rt.panic("no store")
     };
-    let mut families = Vec::new(alloc);
-    families.push(family)?;
-    let mut commands = Vec::new(alloc);
-    commands.push(StoreCommand::Give(families))?;
-    match run_store(alloc, store, commands)?.as_slice() {
-        [StoreAnswer::Given(Ok(()))] => Ok(()),
-        _ => Err("the family isn't given")?,
-    }
+    let answers = run_store(alloc, store, gives(rt, alloc, family));
+    let answers = answers.expect(rt, "no memory for answers");
+    assert!(rt; is_given(&answers), "the family isn't given");
+}
+
+// The command that gives a family, alone.
+fn gives<R: Abort>(rt: &R, alloc: Global, family: Family) -> Vec<StoreCommand> {
+    let families = vec![in alloc; family].expect(rt, "no memory for a family");
+    vec![in alloc; StoreCommand::Give(families)].expect(rt, "no memory for a command")
+}
+
+// Whether it is answered, and was given.
+fn is_given(answers: &[StoreAnswer]) -> bool {
+    matches!(answers, [StoreAnswer::Given(Ok(()))])
 }
 
 // Makes a change.
-fn make(alloc: Global, gathered: &mut Gathered, change: Change) -> Result<(), Fail> {
+fn make<R: Abort>(rt: &R, alloc: Global, gathered: &mut Gathered, change: Change) {
     let Gathered {
         stores,
         receipts,
@@ -94,38 +102,52 @@ fn make(alloc: Global, gathered: &mut Gathered, change: Change) -> Result<(), Fa
     } = gathered;
     match change {
         Change::Nothing => {}
-        Change::FamilyOut => drop(take_family(stores)?),
-        Change::FamilyTwice => put_family(alloc, stores, 1, opened(alloc, 10)?)?,
+        Change::FamilyOut => drop(take_family(rt, stores)),
+        Change::FamilyTwice => put_family(rt, alloc, stores, 1, opened(rt, alloc, 10)),
         Change::FamilyOpened(number) => {
-            drop(take_family(stores)?);
-            put_family(alloc, stores, 0, opened(alloc, number)?)?;
+            drop(take_family(rt, stores));
+            put_family(rt, alloc, stores, 0, opened(rt, alloc, number));
         }
         Change::FamilyMoved => {
-            let family = take_family(stores)?;
-            put_family(alloc, stores, 1, family)?;
+            let family = take_family(rt, stores);
+            put_family(rt, alloc, stores, 1, family);
         }
-        Change::ReceiptId(id) => {
-            receipts.first_mut().ok_or("no receipt")?.id = id;
-        }
-        Change::ReceiptOut(at) if at < receipts.len() => drop(receipts.remove(at)),
-        Change::ReceiptOut(_) => return Err("no receipt")?,
+        Change::ReceiptId(id) => set_first_id(rt, receipts, id),
+        Change::ReceiptOut(at) => take_receipt(rt, receipts, at),
     }
-    Ok(())
+}
+
+fn set_first_id<R: Abort>(rt: &R, receipts: &mut [Receipt], id: u64) {
+    let Some(first) = receipts.first_mut() else {
+        rt.panic("no receipt")
+    };
+    first.id = id;
+}
+
+fn take_receipt<R: Abort>(rt: &R, receipts: &mut Vec<Receipt>, at: usize) {
+    assert!(rt; at < receipts.len(), "no receipt");
+    drop(receipts.remove(at));
 }
 
 // The number of the defect that an audit finds, if it finds one.
-fn defect_of<R: Threads + Sync>(
+fn defect_of<R: Threads + Abort + Sync>(
     rt: &R,
     alloc: Global,
     gathered: &Gathered,
     jobs: &[Job],
-) -> Result<Option<u16>, Fail>
+) -> Option<u16>
     requires { IdsDiffer jobs.now }
 {
-    let opening = read_opening(alloc, PAIR)?;
-    match audit(rt, &opening, gathered, jobs)? {
-        Verdict::Sound => Ok(None),
-        Verdict::Unsound(defect) => Ok(Some(defect.number())),
+    let opening = read_opening(rt, alloc, PAIR);
+    let verdict = audit(rt, &opening, gathered, jobs);
+    defect_told(verdict.expect(rt, "no memory for an audit"))
+}
+
+/// The number of the defect that a verdict tells, if it tells one.
+pub fn defect_told(verdict: Verdict) -> Option<u16> {
+    match verdict {
+        Verdict::Sound => None,
+        Verdict::Unsound(defect) => Some(defect.number()),
     }
 }
 
@@ -143,22 +165,21 @@ const DEFECTS: [(Change, Option<u16>); 9] = [
 ];
 
 // The number of the defect that is found once this is changed.
-fn defect_after<R: Threads + Wait + Sync>(
+fn defect_after<R: Threads + Wait + Abort + Sync>(
     rt: &R,
     alloc: Global,
     change: Change,
-) -> Result<Option<u16>, Fail> {
-    let jobs = two_jobs(alloc, FIRST, SECOND)?;
-    let mut gathered = worked(rt, alloc)?;
-    make(alloc, &mut gathered, change)?;
+) -> Option<u16> {
+    let jobs = two_jobs(rt, alloc, FIRST, SECOND);
+    let mut gathered = worked(rt, alloc);
+    make(rt, alloc, &mut gathered, change);
     defect_of(rt, alloc, &gathered, &jobs)
 }
 
 #[test]
-fn each_change_has_its_defect(rt: HostRuntime) -> Result<(), Fail> {
-    for (change, want) in DEFECTS {
-        let found = defect_after(&rt, rt.alloc(), change)?;
-        assert!(rt; found == want, "{change:?}");
+fn each_change_has_its_defect(rt: HostRuntime) {
+    for (change, want) in &DEFECTS {
+        let found = defect_after(&rt, rt.alloc(), *change);
+        assert!(rt; found == *want, "{change:?}");
     }
-    Ok(())
 }

@@ -39,7 +39,7 @@ fn number(who: WorkerId) -> u64 {
 }
 
 /// At what a recorder ends its worker.
-#[derive(Clone, Copy, Debug, PartialEq, Eq)]
+#[derive(Clone, Copy, PartialEq, Eq)]
 pub enum RecorderEnd {
     /// Where it asks for this step.
     Asked(NodeStep),

@@ -8,7 +8,6 @@ use sq_tree::NodeId;
 use std::alloc::Global;
 use std::process::Abort;
 use std::sync::Wait;
-use std::test::Fail;
 
 /// Two partitions, between which root keys 4 to 7 move in one segment, and a row of root key 5.
 pub const PAIR: &str = r#"old {"version":1,"partitions":2,"ranges":[[0,4294967296,0]]}
@@ -34,76 +33,67 @@ receipt 5 0 commit 9 10/-
 ";
 
 // A transaction that waits pulls its leaf, and is answered once its rows came.
-fn pulls_its_leaf<R: Wait + Abort>(rt: &R, alloc: Global, run: &mut TestRun) -> Result<(), Fail> {
-    run.post(rt, alloc, "txn 1 9 5 get 0 0")?;
-    for part in [0, 1, 0, 1] {
-        run.turn(rt, part)?;
-    }
+fn pulls_its_leaf<R: Wait + Abort>(rt: &R, alloc: Global, run: &mut TestRun) {
+    run.post(rt, alloc, "txn 1 9 5 get 0 0");
+    run.turn_each(rt, &[0, 1, 0, 1]);
     assert_eq!(rt;
-        run.text_of_receipts(alloc, 1)?.as_str(),
+        run.text_of_receipts(rt, alloc, 1).as_str(),
         "receipt 5 0 commit 9 10/-\n"
     );
     for part in [0, 1] {
-        assert!(rt; run.steps(rt, part)? == [Stepped::Nothing; 8], "{part}");
+        assert!(rt; run.steps(rt, part) == [Stepped::Nothing; 8], "{part}");
     }
-    Ok(())
 }
 
 // One of another partition is posted on.
-fn is_posted_on<R: Wait + Abort>(rt: &R, alloc: Global, run: &mut TestRun) -> Result<(), Fail> {
-    run.post(rt, alloc, "txn 1 10 9 get 0 0")?;
-    for part in [1, 0] {
-        run.turn(rt, part)?;
-    }
+fn is_posted_on<R: Wait + Abort>(rt: &R, alloc: Global, run: &mut TestRun) {
+    run.post(rt, alloc, "txn 1 10 9 get 0 0");
+    run.turn_each(rt, &[1, 0]);
     assert_eq!(rt;
-        run.text_of_receipts(alloc, 0)?.as_str(),
+        run.text_of_receipts(rt, alloc, 0).as_str(),
         "receipt 9 0 commit 10 none\n"
     );
-    Ok(())
 }
 
 #[test]
-fn a_pull_of_one_leaf(rt: HostRuntime) -> Result<(), Fail> {
+fn a_pull_of_one_leaf(rt: HostRuntime) {
     let alloc = rt.alloc();
-    let mut run = TestRun::opened(alloc, PAIR, 1)?;
-    pulls_its_leaf(&rt, alloc, &mut run)?;
-    is_posted_on(&rt, alloc, &mut run)?;
-    assert!(rt; run.turn_pump(&rt, 0)? == won(32)?);
-    assert_eq!(rt; run.text(&rt, alloc)?.as_str(), PULLED);
-    Ok(())
+    let mut run = TestRun::opened(&rt, alloc, PAIR, 1);
+    pulls_its_leaf(&rt, alloc, &mut run);
+    is_posted_on(&rt, alloc, &mut run);
+    assert!(rt; run.turn_pump(&rt, 0) == won(&rt, 32));
+    assert_eq!(rt; run.text(&rt, alloc).as_str(), PULLED);
 }
 
 // The pump won a node of the first segment.
-fn won(node: u64) -> Result<PumpTurn, Fail> {
-    let seg = SegId::new(0).ok_or("no segment")?;
-    Ok(PumpTurn::Won(seg, NodeId::new(node).ok_or("no node")?))
+fn won<R: Abort>(rt: &R, node: u64) -> PumpTurn {
+    let seg = SegId::new(0).expect(rt, "no segment");
+    PumpTurn::Won(seg, NodeId::new(node).expect(rt, "no node"))
 }
 
 // A job that finds no row at the root key 9 of partition 0, whose log doesn't grow by it.
 const CHECK: &str = "txn 0 1 9 check 0 0 1";
 
 // A run whose queue of jobs to partition 0 is full: it has 4,096 places, and one more job comes back.
-fn full_of_jobs<R: Wait>(rt: &R, alloc: Global) -> Result<TestRun, Fail> {
-    let run = TestRun::opened(alloc, PAIR, 0)?;
+fn full_of_jobs<R: Wait + Abort>(rt: &R, alloc: Global) -> TestRun {
+    let run = TestRun::opened(rt, alloc, PAIR, 0);
     for _job in 0..4096 {
-        run.post(rt, alloc, CHECK)?;
+        run.post(rt, alloc, CHECK);
     }
-    if run.has_posted(rt, alloc, CHECK)? {
-        return Err("there are more places")?;
-    }
-    Ok(run)
+    let has_posted = run.has_posted(rt, alloc, CHECK);
+    assert!(rt; !has_posted, "there are more places");
+    run
 }
 
 // A job that comes back doesn't count as posted: once those in the queue are answered, all are.
 #[test]
-fn a_job_that_comes_back_is_not_counted(rt: HostRuntime) -> Result<(), Fail> {
-    let mut run = full_of_jobs(&rt, rt.alloc())?;
+fn a_job_that_comes_back_is_not_counted(rt: HostRuntime) {
+    let mut run = full_of_jobs(&rt, rt.alloc());
     for _turn in 0..4096 {
         assert!(rt; !run.is_answered());
-        run.turn(&rt, 0)?;
+        run.turn(&rt, 0);
     }
     assert!(rt; run.receipts() == 4096 && run.is_answered());
-    Ok(())
 }
 
 // The jobs 2 to 4, as partition 0 answers them behind those that were in its queue.
@@ -115,49 +105,45 @@ receipt 9 2 commit 4 none
 // Jobs of another partition that find its queue full stay in their order, however often they are tried, and go once there
 // is room.
 #[test]
-fn jobs_that_find_a_full_queue_are_kept(rt: HostRuntime) -> Result<(), Fail> {
+fn jobs_that_find_a_full_queue_are_kept(rt: HostRuntime) {
     let alloc = rt.alloc();
-    let mut run = full_of_jobs(&rt, alloc)?;
+    let mut run = full_of_jobs(&rt, alloc);
     for id in 2..5 {
-        run.post(&rt, alloc, &format!(in alloc; "txn 1 {id} 9 get 0 0")?)?;
+        let line = format!(in alloc; "txn 1 {id} 9 get 0 0");
+        run.post(&rt, alloc, &line.expect(&rt, "no memory for a line"));
     }
-    for _turn in 0..5 {
-        run.turn(&rt, 1)?;
-    }
-    for _turn in 0..4099 {
-        run.turn(&rt, 0)?;
-        run.turn(&rt, 1)?;
-    }
+    run.turns(&rt, 5, &[1]);
+    run.turns(&rt, 4099, &[0, 1]);
     assert!(rt; run.receipts() == 4099 && run.is_answered());
-    assert!(rt; run.text_of_receipts(alloc, 0)?.as_str().ends_with(IN_ORDER));
-    Ok(())
+    let text = run.text_of_receipts(&rt, alloc, 0);
+    assert!(rt; text.as_str().ends_with(IN_ORDER));
 }
 
 // Whether these jobs have just these ids, and behind them so many have the id 1.
 fn are_left(jobs: &[Txn], ids: &[u64], behind: usize) -> bool {
-    jobs.len().saturating_sub(ids.len()) == behind
-        && jobs.iter().zip(ids).all(|(job, id)| job.id() == *id)
-        && jobs.iter().skip(ids.len()).all(|job| job.id() == 1)
+    for (place, job) in jobs.iter().enumerate() {
+        if job.id() != ids.get(place).copied().unwrap_or(1) {
+            return false;
+        }
+    }
+    jobs.len().checked_sub(ids.len()) == Some(behind)
 }
 
 // No job is left out of what is gathered: of partition 0 those that partition 1 has to post on, and those that fill its queue; of
 // partition 1 the one that waits there, and the one that it didn't take.
 #[test]
-fn all_jobs_left_are_gathered(rt: HostRuntime) -> Result<(), Fail> {
+fn all_jobs_left_are_gathered(rt: HostRuntime) {
     let alloc = rt.alloc();
-    let mut run = full_of_jobs(&rt, alloc)?;
-    for line in JOBS_LEFT {
-        run.post(&rt, alloc, line)?;
+    let mut run = full_of_jobs(&rt, alloc);
+    for line in &JOBS_LEFT {
+        run.post(&rt, alloc, line);
     }
-    for _turn in 0..3 {
-        run.turn(&rt, 1)?;
-    }
-    match run.gathered(&rt, alloc)?.left.as_slice() {
+    run.turns(&rt, 3, &[1]);
+    match run.gathered(&rt, alloc).left.as_slice() {
         [first, second] => {
             assert!(rt; are_left(first, &[2, 4], 4096) && are_left(second, &[3, 5], 0));
-            Ok(())
         }
-        _ => Err("there are two partitions")?,
+        _ => rt.panic("there are two partitions"),
     }
 }
 
@@ -171,13 +157,12 @@ const JOBS_LEFT: [&str; 4] = [
 
 // What goes to a partition that isn't there comes back, and isn't counted.
 #[test]
-fn what_goes_to_no_partition_comes_back(rt: HostRuntime) -> Result<(), Fail> {
+fn what_goes_to_no_partition_comes_back(rt: HostRuntime) {
     let alloc = rt.alloc();
-    let run = TestRun::opened(alloc, PAIR, 0)?;
-    assert!(rt; !run.has_posted(&rt, alloc, "txn 2 1 9 get 0 0")?);
-    assert!(rt; !run.has_requested(&rt, 2, NO_SEGMENT)?);
+    let run = TestRun::opened(&rt, alloc, PAIR, 0);
+    assert!(rt; !run.has_posted(&rt, alloc, "txn 2 1 9 get 0 0"));
+    assert!(rt; !run.has_requested(&rt, 2, NO_SEGMENT));
     assert!(rt; run.is_answered());
-    Ok(())
 }
 
 // A request that names no segment.
@@ -188,34 +173,28 @@ const NO_SEGMENT: Request = Request {
 };
 
 // How many places the queue of requests to a partition has left. It is full then.
-fn places_left<R: Wait>(rt: &R, run: &TestRun, part: u8) -> Result<u64, Fail> {
+fn places_left<R: Wait + Abort>(rt: &R, run: &TestRun, part: u8) -> u64 {
     for taken in 0..1000 {
-        if !run.has_requested(rt, part, NO_SEGMENT)? {
-            return Ok(taken);
+        if !run.has_requested(rt, part, NO_SEGMENT) {
+            return taken;
         }
     }
-    Err("the queue isn't full")?
+    rt.panic("the queue isn't full")
 }
 
 // A queue of requests holds 256. The pull of a node that finds it full is tried again until there is room.
 #[test]
-fn a_request_that_finds_a_full_queue_is_kept(rt: HostRuntime) -> Result<(), Fail> {
+fn a_request_that_finds_a_full_queue_is_kept(rt: HostRuntime) {
     let alloc = rt.alloc();
-    let mut run = TestRun::opened(alloc, PAIR, 0)?;
-    assert!(rt; places_left(&rt, &run, 0)? == 256);
-    run.post(&rt, alloc, "txn 1 9 5 get 0 0")?;
-    for _turn in 0..3 {
-        run.turn(&rt, 1)?;
-    }
-    for _turn in 0..260 {
-        run.turn(&rt, 1)?;
-        run.turn(&rt, 0)?;
-    }
+    let mut run = TestRun::opened(&rt, alloc, PAIR, 0);
+    assert!(rt; places_left(&rt, &run, 0) == 256);
+    run.post(&rt, alloc, "txn 1 9 5 get 0 0");
+    run.turns(&rt, 3, &[1]);
+    run.turns(&rt, 260, &[1, 0]);
     assert_eq!(rt;
-        run.text_of_receipts(alloc, 1)?.as_str(),
+        run.text_of_receipts(&rt, alloc, 1).as_str(),
         "receipt 5 0 commit 9 10/-\n"
     );
-    Ok(())
 }
 
 // Three partitions; each gives four root keys to another one.
@@ -233,40 +212,33 @@ const PULLS: [(u8, &str, [u64; 3]); 3] = [
 
 // The request of a pull goes to the partition that its segment leaves, and to no other.
 #[test]
-fn a_request_goes_to_the_source_alone(rt: HostRuntime) -> Result<(), Fail> {
+fn a_request_goes_to_the_source_alone(rt: HostRuntime) {
     let alloc = rt.alloc();
-    for (part, line, left) in PULLS {
-        let mut run = TestRun::opened(alloc, ROUND, 0)?;
-        run.post(&rt, alloc, line)?;
+    for (part, line, left) in &PULLS {
+        let mut run = TestRun::opened(&rt, alloc, ROUND, 0);
+        run.post(&rt, alloc, line);
         // The turn of the partition takes this one, and leaves there what comes behind it.
-        run.request(&rt, part, NO_SEGMENT)?;
-        run.turn(&rt, usize::from(part))?;
-        for (to, places) in (0u8..3).zip(&left) {
-            assert!(rt; places_left(&rt, &run, to)? == *places, "{line} to {to}");
+        run.request(&rt, *part, NO_SEGMENT);
+        run.turn(&rt, usize::from(*part));
+        for (to, places) in (0u8..3).zip(left) {
+            assert!(rt; places_left(&rt, &run, to) == *places, "{line} to {to}");
         }
     }
-    Ok(())
 }
 
 // As many transactions wait as may: the next one goes back into its queue, and waits once another was resumed.
 #[test]
-fn a_job_that_is_refused_is_taken_again(rt: HostRuntime) -> Result<(), Fail> {
+fn a_job_that_is_refused_is_taken_again(rt: HostRuntime) {
     let alloc = rt.alloc();
-    let mut run = TestRun::opened(alloc, PAIR, 0)?;
+    let mut run = TestRun::opened(&rt, alloc, PAIR, 0);
     for id in 0..1025 {
-        let line = format!(in alloc; "txn 1 {id} 5 get 0 0")?;
-        run.post(&rt, alloc, &line)?;
+        let line = format!(in alloc; "txn 1 {id} 5 get 0 0");
+        run.post(&rt, alloc, &line.expect(&rt, "no memory for a line"));
     }
-    for _turn in 0..1025 {
-        run.turn(&rt, 1)?;
-    }
+    run.turns(&rt, 1025, &[1]);
     assert!(rt; run.receipts() == 0);
-    for _turn in 0..1030 {
-        run.turn(&rt, 0)?;
-        run.turn(&rt, 1)?;
-    }
+    run.turns(&rt, 1030, &[0, 1]);
     assert!(rt; run.receipts() == 1025 && run.all_commit());
-    Ok(())
 }
 
 // Requests that no claim made, or that name no node of a segment that leaves there: whom they go to, and the segment, the
@@ -280,24 +252,21 @@ const WRONG: [(u8, u64, u64, u32); 5] = [
 ];
 
 // The run after these requests and five turns of each node.
-fn after_wrong_requests<R: Wait>(rt: &R, alloc: Global) -> Result<TestRun, Fail> {
-    let mut run = TestRun::opened(alloc, PAIR, 1)?;
-    for (part, seg, node, pull) in WRONG {
-        run.request(rt, part, Request { seg, node, pull })?;
+fn after_wrong_requests<R: Wait + Abort>(rt: &R, alloc: Global) -> TestRun {
+    let mut run = TestRun::opened(rt, alloc, PAIR, 1);
+    for (part, seg, node, pull) in &WRONG {
+        let (seg, node, pull) = (*seg, *node, *pull);
+        run.request(rt, *part, Request { seg, node, pull });
     }
-    for _turn in 0..5 {
-        run.turn(rt, 0)?;
-        run.turn(rt, 1)?;
-    }
-    Ok(run)
+    run.turns(rt, 5, &[0, 1]);
+    run
 }
 
 #[test]
-fn wrong_requests_change_nothing(rt: HostRuntime) -> Result<(), Fail> {
+fn wrong_requests_change_nothing(rt: HostRuntime) {
     let alloc = rt.alloc();
-    let text = after_wrong_requests(&rt, alloc)?.text(&rt, alloc)?;
+    let text = after_wrong_requests(&rt, alloc).text(&rt, alloc);
     assert_eq!(rt; text.as_str(), "at 0 5 0 0.0=10/-\n");
-    Ok(())
 }
 
 // Once the pump claimed the whole segment, and node 0 began it.
@@ -308,24 +277,18 @@ node 1 Partial(0)
 ";
 
 #[test]
-fn a_repeated_request_begins_its_node_once(rt: HostRuntime) -> Result<(), Fail> {
+fn a_repeated_request_begins_its_node_once(rt: HostRuntime) {
     let alloc = rt.alloc();
-    let mut run = after_wrong_requests(&rt, alloc)?;
-    assert!(rt; run.turn_pump(&rt, 0)? == won(1)?);
+    let mut run = after_wrong_requests(&rt, alloc);
+    assert!(rt; run.turn_pump(&rt, 0) == won(&rt, 1));
+    let request = Request {
+        seg: 0,
+        node: 1,
+        pull: 0,
+    };
     for _time in 0..2 {
-        run.request(
-            &rt,
-            0,
-            Request {
-                seg: 0,
-                node: 1,
-                pull: 0,
-            },
-        )?;
+        run.request(&rt, 0, request);
     }
-    for _turn in 0..3 {
-        run.turn(&rt, 0)?;
-    }
-    assert_eq!(rt; run.text(&rt, alloc)?.as_str(), BEGUN);
-    Ok(())
+    run.turns(&rt, 3, &[0]);
+    assert_eq!(rt; run.text(&rt, alloc).as_str(), BEGUN);
 }

@@ -1,16 +1,15 @@
 // Pages of a run at rest, and pages that are made unsound.
-ghost use Rattle.std.specs.Prelude.{IfOk};
 ghost use Rattle.sq_audit.specs.Answers.{IdsDiffer};
 
+use super::audit::defect_told;
 use super::run::{TestRun, read_opening, two_jobs};
 use super::text::text_of;
-use sq_audit::Verdict;
 use sq_gather::Gathered;
 use sq_node::Receipt;
 use sq_page::{Page, Paged, audit_page, take_page};
 use std::alloc::Global;
+use std::process::Abort;
 use std::sync::Wait;
-use std::test::Fail;
 use std::thread::Threads;
 
 // Two partitions, between which nothing moves.
@@ -28,40 +27,35 @@ const ABORT: &str = "txn 0 1 5 check 0 0 99";
 const COMMIT: &str = "txn 1 2 12 add 0 0 1";
 
 // What is gathered of the run, in which each partition answers a job.
-fn worked<R: Wait>(rt: &R, alloc: Global) -> Result<Gathered, Fail> {
-    let mut run = TestRun::opened(alloc, AT_REST, 0)?;
-    run.post(rt, alloc, ABORT)?;
-    run.post(rt, alloc, COMMIT)?;
-    run.turn(rt, 0)?;
-    run.turn(rt, 1)?;
+fn worked<R: Wait + Abort>(rt: &R, alloc: Global) -> Gathered {
+    let mut run = TestRun::opened(rt, alloc, AT_REST, 0);
+    run.post(rt, alloc, ABORT);
+    run.post(rt, alloc, COMMIT);
+    run.turn_each(rt, &[0, 1]);
     run.gathered(rt, alloc)
 }
 
 // A page of it, and what the page leaves.
-fn paged<R: Threads + Wait + Sync>(rt: &R, alloc: Global) -> Result<Paged, Fail>
-    ensures { IfOk result (λ paged. IdsDiffer paged.page.jobs.items) }
+fn paged<R: Threads + Wait + Abort + Sync>(rt: &R, alloc: Global) -> Paged
+    ensures { IdsDiffer result.page.jobs.items }
 {
-    let jobs = two_jobs(alloc, ABORT, COMMIT)?;
-    let gathered = worked(rt, alloc)?;
-    if !gathered.links.is_empty() {
-        return Err("something moves")?;
-    }
+    let jobs = two_jobs(rt, alloc, ABORT, COMMIT);
+    let gathered = worked(rt, alloc);
+    assert!(rt; gathered.links.is_empty(), "something moves");
     match take_page(rt, alloc, gathered, jobs) {
-        Ok(paged) => Ok(paged),
-        Err(_) => Err("no memory")?,
+        Ok(paged) => paged,
+        Err(_) => rt.panic("no memory for a page"),
     }
 }
 
 // The number of the defect that the audit of a page finds, if it finds one.
-fn defect_of<R: Threads + Sync>(rt: &R, alloc: Global, page: &Page) -> Result<Option<u16>, Fail>
+fn defect_of<R: Threads + Abort + Sync>(rt: &R, alloc: Global, page: &Page) -> Option<u16>
     requires { IdsDiffer page.now.jobs.items }
 {
-    let opening = read_opening(alloc, AT_REST)?;
+    let opening = read_opening(rt, alloc, AT_REST);
     let (schema, plan, config) = (opening.schema(), opening.new_plan(), opening.config());
-    match audit_page(rt, alloc, schema, plan, config, page)? {
-        Verdict::Sound => Ok(None),
-        Verdict::Unsound(defect) => Ok(Some(defect.number())),
-    }
+    let verdict = audit_page(rt, alloc, schema, plan, config, page);
+    defect_told(verdict.expect(rt, "no memory for an audit"))
 }
 
 // The page has the family with a log and the one that the abort names, as they were, and both receipts.
@@ -78,13 +72,14 @@ at 1 12 0 0.0=4/-
 ";
 
 #[test]
-fn a_page_has_what_receipts_name(rt: HostRuntime) -> Result<(), Fail> {
+fn a_page_has_what_receipts_name(rt: HostRuntime) {
     let alloc = rt.alloc();
-    let Paged { page, left } = paged(&rt, alloc)?;
-    assert_eq!(rt; text_of(alloc, &page.run)?.as_str(), PAGE);
-    assert_eq!(rt; text_of(alloc, &left)?.as_str(), LEFT);
+    let Paged { page, left } = paged(&rt, alloc);
+    let text = text_of(alloc, &page.run).expect(&rt, "no memory for lines");
+    assert_eq!(rt; text.as_str(), PAGE);
+    let text = text_of(alloc, &left).expect(&rt, "no memory for lines");
+    assert_eq!(rt; text.as_str(), LEFT);
     assert_eq!(rt; page.jobs.len(), 2);
-    Ok(())
 }
 
 // What is changed of a page: whether the receipt of the abort is taken out, and which id the receipt of the commit has.
@@ -95,22 +90,24 @@ struct Change {
 }
 
 // Makes a change.
-fn make(receipts: &mut Vec<Receipt>, change: Change) -> Result<(), Fail> {
-    receipts.last_mut().ok_or("no receipt")?.id = change.commit_id;
+fn make<R: Abort>(rt: &R, receipts: &mut Vec<Receipt>, change: Change) {
+    let Some(last) = receipts.last_mut() else {
+        rt.panic("no receipt")
+    };
+    last.id = change.commit_id;
     if change.abort_out && !receipts.is_empty() {
         drop(receipts.remove(0));
     }
-    Ok(())
 }
 
 // The number of the defect that is found once this is changed.
-fn defect_after<R: Threads + Wait + Sync>(
+fn defect_after<R: Threads + Wait + Abort + Sync>(
     rt: &R,
     alloc: Global,
     change: Change,
-) -> Result<Option<u16>, Fail> {
-    let Page { mut run, jobs } = paged(rt, alloc)?.page;
-    make(&mut run.receipts, change)?;
+) -> Option<u16> {
+    let Page { mut run, jobs } = paged(rt, alloc).page;
+    make(rt, &mut run.receipts, change);
     defect_of(rt, alloc, &Page { run, jobs })
 }
 
@@ -147,10 +144,9 @@ const DEFECTS: [(Change, Option<u16>); 4] = [
 ];
 
 #[test]
-fn the_least_defect_of_a_page_is_told(rt: HostRuntime) -> Result<(), Fail> {
-    for (change, want) in DEFECTS {
-        let found = defect_after(&rt, rt.alloc(), change)?;
-        assert!(rt; found == want, "{change:?}");
+fn the_least_defect_of_a_page_is_told(rt: HostRuntime) {
+    for (change, want) in &DEFECTS {
+        let found = defect_after(&rt, rt.alloc(), *change);
+        assert!(rt; found == *want, "{change:?}");
     }
-    Ok(())
 }

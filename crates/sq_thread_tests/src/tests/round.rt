@@ -2,11 +2,11 @@
 use super::run::TestRun;
 use sq_driver::OpenGate;
 use sq_runs::RunStore;
-use sq_schema::{Root, Row, RowKey};
+use sq_schema::{Root, RowKey};
 use sq_store::FamilyStore;
 use std::alloc::Global;
+use std::process::Abort;
 use std::sync::Wait;
-use std::test::Fail;
 use std::thread::Threads;
 
 const HEADER: &str =
@@ -36,32 +36,33 @@ row 19 0 0 0 -
 "#;
 
 // The run of these partitions, in which one was added to the number of each root key ten times, while all of them moved.
-fn worked<R: Threads + Wait + Sync>(rt: &R, alloc: Global) -> Result<TestRun, Fail> {
-    let mut run = TestRun::opened(alloc, HEADER, 2)?;
+fn worked<R: Threads + Wait + Abort + Sync>(rt: &R, alloc: Global) -> TestRun {
+    let mut run = TestRun::opened(rt, alloc, HEADER, 2);
     for id in 0..200_u64 {
         let key = id % 20;
         let part = key / 5;
-        let line = format!(in alloc; "txn {part} {id} {key} add 0 0 1")?;
-        run.post(rt, alloc, &line)?;
+        let line = format!(in alloc; "txn {part} {id} {key} add 0 0 1");
+        run.post(rt, alloc, &line.expect(rt, "no memory for a line"));
     }
     run.work(rt, 2_000_000, &OpenGate);
-    Ok(run)
+    run
 }
 
-// Whether a store has a root key with ten transactions in its log, and with the number 10.
-fn has_ten(store: &RunStore, key: u64) -> bool {
-    let family = Root::new(key).and_then(|root| store.get(root));
-    family.is_some_and(|family| {
-        family.log().len() == 10 && family.rows().get(RowKey::ROOT).map(Row::number) == Some(10)
-    })
+// The number of a root key, and how many transactions are in its log, where a store has it.
+fn number_and_log(store: &RunStore, key: u64) -> Option<(i64, usize)> {
+    let family = store.get(Root::new(key)?)?;
+    let row = family.rows().get(RowKey::ROOT)?;
+    Some((row.number(), family.log().len()))
 }
 
-// How many root keys are so at their new owner, the partition behind the old one.
+// How many root keys have the number 10 and ten transactions in their log at their new owner, the partition behind the old one.
 fn count_moved(stores: &[RunStore]) -> usize {
     let mut count = 0_usize;
     for key in 0..20_u64 {
         let home = (key as usize / 5 + 1) % 4;
-        if stores.get(home).is_some_and(|store| has_ten(store, key)) {
+        if let Some(store) = stores.get(home)
+            && number_and_log(store, key) == Some((10, 10))
+        {
             count = count.saturating_add(1);
         }
     }
@@ -69,9 +70,8 @@ fn count_moved(stores: &[RunStore]) -> usize {
 }
 
 #[test]
-fn each_root_key_moves_with_its_ten_transactions(rt: HostRuntime) -> Result<(), Fail> {
+fn each_root_key_moves_with_its_ten_transactions(rt: HostRuntime) {
     let alloc = rt.alloc();
-    let gathered = worked(&rt, alloc)?.gathered(&rt, alloc)?;
+    let gathered = worked(&rt, alloc).gathered(&rt, alloc);
     assert_eq!(rt; count_moved(&gathered.stores), 20);
-    Ok(())
 }

@@ -1,66 +1,97 @@
 // Runs, made by hand or by their workers.
-ghost use Rattle.std.specs.Prelude.{◌≡◌, ◌≤◌, IfOk};
+ghost use Rattle.std.specs.Prelude.{◌≡◌, ◌≤◌, All};
 ghost use Rattle.sq_pull.specs.declared.numbers.TheConstants.{MAX_PUMPS};
 ghost use Rattle.sq_node.specs.Prelude.{IsNodeOf};
+ghost use Rattle.sq_driver.specs.Pumps.{HasAllSeats};
 ghost use Rattle.sq_gather.specs.Gathered.{AreAllOf};
 ghost use Rattle.sq_audit.specs.Answers.{IdsDiffer};
 
 use super::text::{receipts_text, text_of};
 use sq_audit::Job;
-use sq_driver::{Gate, drive, drive_pump, run_workers};
+use sq_driver::{Gate, OpenGate, drive, drive_pump, run_workers};
 use sq_gather::{Gathered, gather};
 use sq_lines::LineReader;
 use sq_model::Step;
-use sq_node::{Fabric, Node, RunParts, Stepped};
+use sq_node::{Fabric, Node, Receipt, RunParts, Stepped};
 use sq_plan::PartId;
 use sq_pull::{Pump, PumpTurn, Request};
 use sq_ranges::Opening;
 use sq_schema::{Reply, Schema};
 use sq_text::{read_header, read_step};
 use std::alloc::{AllocError, Global};
+use std::process::Abort;
 use std::sync::Wait;
-use std::test::Fail;
 use std::thread::Threads;
 
+// More turns than any worker takes.
+const TURNS: u64 = 1_000_000_000_000;
+
 // The schema of 8 tables.
-fn schema() -> Result<Schema, Fail> {
-    Ok(Schema::new(8).ok_or("8 tables are a schema")?)
+fn schema() -> Schema {
+    Schema::new(8).unwrap()
 }
 
 /// The opening of a header.
-pub fn read_opening(alloc: Global, header: &str) -> Result<Opening, Fail> {
-    let mut lines = LineReader::new(alloc, header.as_bytes())?;
-    Ok(read_header(alloc, schema()?, &mut lines)?)
+pub fn read_opening<R: Abort>(rt: &R, alloc: Global, header: &str) -> Opening {
+    let mut lines = LineReader::new(alloc, header.as_bytes()).expect(rt, "no memory for lines");
+    read_header(alloc, schema(), &mut lines).expect(rt, "no header")
 }
 
 /// The job of a line, which names its partition.
-pub fn job(alloc: Global, line: &str) -> Result<Job, Fail> {
-    match read_step(alloc, &schema()?, line.as_bytes())? {
-        Step::Submit(part, txn) if part < 256 => Ok(Job {
+pub fn job<R: Abort>(rt: &R, alloc: Global, line: &str) -> Job {
+    let step = read_step(alloc, &schema(), line.as_bytes()).expect(rt, "no step");
+    submitted(step).expect(rt, "no transaction")
+}
+
+// The job that a step submits.
+fn submitted(step: Step) -> Option<Job> {
+    match step {
+        Step::Submit(part, txn) if part < 256 => Some(Job {
             part: PartId::new(part as u8),
             txn,
         }),
-        _ => Err("no transaction")?,
+        _ => None,
     }
 }
 
 /// The jobs of two lines, whose ids differ.
-pub fn two_jobs(alloc: Global, first: &str, second: &str) -> Result<Vec<Job>, Fail>
-    ensures { IfOk result (λ jobs. IdsDiffer jobs.items) }
+pub fn two_jobs<R: Abort>(rt: &R, alloc: Global, first: &str, second: &str) -> Vec<Job>
+    ensures { IdsDiffer result.items }
 {
-    let first = job(alloc, first)?;
-    let second = job(alloc, second)?;
-    if first.txn.id() == second.txn.id() {
-        return Err("two jobs have one id")?;
-    }
-    let mut jobs = Vec::with_capacity(alloc, 2)?;
+    let mut jobs = Vec::with_capacity(alloc, 2).expect(rt, "no memory for jobs");
+    let first = job(rt, alloc, first);
+    let second = job(rt, alloc, second);
+    assert!(rt; first.txn.id() != second.txn.id(), "two jobs have one id");
     jobs.push_reserved(first);
     jobs.push_reserved(second);
-    Ok(jobs)
+    jobs
 }
 
-/// A run: what its nodes share, all nodes and all pumps.
-#[derive(Drop)]
+/// How many receipts nodes have.
+pub fn count_receipts(nodes: &[Node]) -> usize {
+    let mut count: usize = 0;
+    for node in nodes {
+        count = count.saturating_add(node.receipts().len());
+    }
+    count
+}
+
+/// Runs workers until all are idle. How many receipts their nodes have then.
+pub fn work_to_end<R: Threads + Wait + Sync>(
+    rt: &R,
+    fabric: &Fabric,
+    mut nodes: Vec<Node>,
+    mut pumps: Vec<Pump>,
+) -> usize
+    requires nodes { All (IsNodeOf fabric.now) nodes.items }
+    requires pumps { All (HasAllSeats fabric.now) pumps.items }
+{
+    run_workers(rt, fabric, &mut nodes, &mut pumps, TURNS, &OpenGate);
+    count_receipts(&nodes)
+}
+
+/// A run: what its nodes share, all nodes and all pumps. It is let go in a function of its own, so that each way out of a test
+/// calls that one.
 pub struct TestRun {
     fabric: Fabric,
     nodes: Vec<Node>,
@@ -68,25 +99,35 @@ pub struct TestRun {
     ghost whole: { AreAllOf fabric nodes.items pumps.items },
 }
 
+impl Drop for TestRun {
+    fn drop(self) {
+        let TestRun {
+            fabric: _,
+            nodes: _,
+            pumps: _,
+        } = self;
+    }
+}
+
 impl TestRun {
     /// The run of a header, with this many pumps.
-    pub fn opened(alloc: Global, header: &str, pumps: u32) -> Result<TestRun, Fail>
+    pub fn opened<R: Abort>(rt: &R, alloc: Global, header: &str, pumps: u32) -> TestRun
         requires { pumps ≤ MAX_PUMPS }
     {
-        let opening = read_opening(alloc, header)?;
-        Ok(TestRun::of(alloc, &opening, pumps)?)
+        let opening = read_opening(rt, alloc, header);
+        TestRun::of(alloc, &opening, pumps).expect(rt, "no memory for a run")
     }
 
-    /// The run of an opening, with this many pumps.
-    pub fn of(alloc: Global, opening: &Opening, pumps: u32) -> Result<TestRun, AllocError>
+    // The run of an opening, with this many pumps.
+    fn of(alloc: Global, opening: &Opening, pumps: u32) -> Result<TestRun, AllocError>
         requires { pumps ≤ MAX_PUMPS }
     {
         let parts = Fabric::open(alloc, opening, pumps)?;
         Ok(TestRun::new(parts))
     }
 
-    /// The run of these parts, which are all.
-    pub fn new(run: RunParts) -> TestRun
+    // The run of these parts, which are all.
+    fn new(run: RunParts) -> TestRun
         requires { AreAllOf run.fabric run.nodes.items run.pumps.items }
     {
         let RunParts {
@@ -102,32 +143,26 @@ impl TestRun {
     }
 
     /// Posts the transaction of a line to the partition that the line names.
-    pub fn post<R: Wait>(&self, rt: &R, alloc: Global, line: &str) -> Result<(), Fail> {
-        if self.has_posted(rt, alloc, line)? {
-            Ok(())
-        } else {
-            Err("no such partition, or its queue is full")?
-        }
+    pub fn post<R: Wait + Abort>(&self, rt: &R, alloc: Global, line: &str) {
+        let has_posted = self.has_posted(rt, alloc, line);
+        assert!(rt; has_posted, "no such partition, or its queue is full");
     }
 
     /// The same, and whether there is such a partition, whose queue had room for it.
-    pub fn has_posted<R: Wait>(&self, rt: &R, alloc: Global, line: &str) -> Result<bool, Fail> {
-        let Job { part, txn } = job(alloc, line)?;
-        Ok(self.fabric.post(rt, part, txn).is_ok())
+    pub fn has_posted<R: Wait + Abort>(&self, rt: &R, alloc: Global, line: &str) -> bool {
+        let Job { part, txn } = job(rt, alloc, line);
+        self.fabric.post(rt, part, txn).is_ok()
     }
 
     /// Asks a partition to begin a node of a segment for a pull.
-    pub fn request<R: Wait>(&self, rt: &R, part: u8, request: Request) -> Result<(), Fail> {
-        if self.has_requested(rt, part, request)? {
-            Ok(())
-        } else {
-            Err("no such partition, or its queue is full")?
-        }
+    pub fn request<R: Wait + Abort>(&self, rt: &R, part: u8, request: Request) {
+        let has_requested = self.has_requested(rt, part, request);
+        assert!(rt; has_requested, "no such partition, or its queue is full");
     }
 
     /// The same, and whether there is such a partition, whose queue had room for it.
-    pub fn has_requested<R: Wait>(&self, rt: &R, part: u8, request: Request) -> Result<bool, Fail> {
-        Ok(self.fabric.request(rt, PartId::new(part), request).is_ok())
+    pub fn has_requested<R: Wait>(&self, rt: &R, part: u8, request: Request) -> bool {
+        self.fabric.request(rt, PartId::new(part), request).is_ok()
     }
 
     /// Whether as many jobs were answered as were posted.
@@ -136,64 +171,63 @@ impl TestRun {
     }
 
     /// Sends what is pending at the node of a partition, and makes each of its steps once.
-    pub fn turn<R: Wait>(&mut self, rt: &R, part: usize) -> Result<(), Fail> {
-        if part >= self.nodes.len() {
-            return Err("no such partition")?;
-        }
+    pub fn turn<R: Wait + Abort>(&mut self, rt: &R, part: usize) {
+        assert!(rt; part < self.nodes.len(), "no such partition");
         turn_once(rt, &self.fabric, &mut self.nodes[part]);
-        Ok(())
+    }
+
+    /// The same of each of these partitions, in their order.
+    pub fn turn_each<R: Wait + Abort>(&mut self, rt: &R, parts: &[usize]) {
+        for part in parts {
+            self.turn(rt, *part);
+        }
+    }
+
+    /// The same so many times.
+    pub fn turns<R: Wait + Abort>(&mut self, rt: &R, times: u64, parts: &[usize]) {
+        for _time in 0..times {
+            self.turn_each(rt, parts);
+        }
     }
 
     /// Drives the node of a partition.
-    pub fn drive<R: Wait, G: Gate>(
-        &mut self,
-        rt: &R,
-        part: usize,
-        turns: u64,
-        gate: &G,
-    ) -> Result<(), Fail> {
-        if part >= self.nodes.len() {
-            return Err("no such partition")?;
-        }
+    pub fn drive<R: Wait + Abort, G: Gate>(&mut self, rt: &R, part: usize, turns: u64, gate: &G) {
+        assert!(rt; part < self.nodes.len(), "no such partition");
         drive(rt, &self.fabric, &mut self.nodes[part], turns, gate);
-        Ok(())
     }
 
     /// The outcomes of the steps of a partition's node, in their order.
-    pub fn steps<R: Wait>(&mut self, rt: &R, part: usize) -> Result<[Stepped; 8], Fail> {
-        if part >= self.nodes.len() {
-            return Err("no such partition")?;
-        }
-        Ok(make_steps(rt, &self.fabric, &mut self.nodes[part]))
+    pub fn steps<R: Wait + Abort>(&mut self, rt: &R, part: usize) -> [Stepped; 8] {
+        assert!(rt; part < self.nodes.len(), "no such partition");
+        make_steps(rt, &self.fabric, &mut self.nodes[part])
     }
 
     /// A turn of the pump of a number.
-    pub fn turn_pump<R: Wait>(&mut self, rt: &R, number: usize) -> Result<PumpTurn, Fail> {
-        if number >= self.pumps.len() {
-            return Err("no such pump")?;
-        }
+    pub fn turn_pump<R: Wait + Abort>(&mut self, rt: &R, number: usize) -> PumpTurn {
+        assert!(rt; number < self.pumps.len(), "no such pump");
         let shared = self.fabric.shared();
-        Ok(self.pumps[number].turn(rt, &shared)?)
+        let turn = self.pumps[number].turn(rt, &shared);
+        turn.expect(rt, "no memory for a claim")
     }
 
     /// Drives the pump of a number.
-    pub fn drive_pump<R: Wait, G: Gate>(
+    pub fn drive_pump<R: Wait + Abort, G: Gate>(
         &mut self,
         rt: &R,
         number: usize,
         turns: u64,
         gate: &G,
-    ) -> Result<(), Fail> {
-        if number >= self.pumps.len() {
-            return Err("no such pump")?;
-        }
+    ) {
+        assert!(rt; number < self.pumps.len(), "no such pump");
         drive_pump(rt, &self.fabric, &mut self.pumps[number], turns, gate);
-        Ok(())
     }
 
     /// Whether the pump of a number is done.
     pub fn is_pump_done(&self, number: usize) -> bool {
-        self.pumps.get(number).is_some_and(|pump| pump.is_done())
+        match self.pumps.get(number) {
+            Some(pump) => pump.is_done(),
+            None => false,
+        }
     }
 
     /// Runs all workers.
@@ -209,31 +243,29 @@ impl TestRun {
     }
 
     /// The receipts of the node of a partition, in lines.
-    pub fn text_of_receipts(&self, alloc: Global, part: usize) -> Result<String, Fail> {
-        let node = self.nodes.get(part).ok_or("no such partition")?;
-        receipts_text(alloc, node.receipts())
+    pub fn text_of_receipts<R: Abort>(&self, rt: &R, alloc: Global, part: usize) -> String {
+        assert!(rt; part < self.nodes.len(), "no such partition");
+        let text = receipts_text(alloc, self.nodes[part].receipts());
+        text.expect(rt, "no memory for lines")
     }
 
     /// How many receipts all nodes have.
     pub fn receipts(&self) -> usize {
-        let mut count: usize = 0;
-        for node in &self.nodes {
-            count = count.saturating_add(node.receipts().len());
-        }
-        count
+        count_receipts(&self.nodes)
     }
 
     /// Whether all receipts are of commits.
     pub fn all_commit(&self) -> bool {
-        self.nodes.iter().all(|node| {
-            node.receipts()
-                .iter()
-                .all(|receipt| matches!(receipt.reply, Reply::Committed(_)))
-        })
+        for node in &self.nodes {
+            if !are_commits(node.receipts()) {
+                return false;
+            }
+        }
+        true
     }
 
-    /// What is gathered of it. Where there is no memory for it, it comes back.
-    pub fn gather<R: Wait>(self, rt: &R, alloc: Global) -> Result<Gathered, TestRun> {
+    /// What is gathered of it.
+    pub fn gathered<R: Wait + Abort>(self, rt: &R, alloc: Global) -> Gathered {
         let TestRun {
             fabric,
             nodes,
@@ -244,25 +276,24 @@ impl TestRun {
             nodes,
             pumps,
         };
-        match gather(rt, alloc, run) {
-            Ok(gathered) => Ok(gathered),
-            Err(run) => Err(TestRun::new(run)),
-        }
-    }
-
-    /// What is gathered of it.
-    pub fn gathered<R: Wait>(self, rt: &R, alloc: Global) -> Result<Gathered, Fail> {
-        match self.gather(rt, alloc) {
-            Ok(gathered) => Ok(gathered),
-            Err(_) => Err("no memory")?,
-        }
+        let outcome = gather(rt, alloc, run);
+        outcome.ok().expect(rt, "no memory for what is gathered")
     }
 
     /// The same, in lines.
-    pub fn text<R: Wait>(self, rt: &R, alloc: Global) -> Result<String, Fail> {
-        let gathered = self.gathered(rt, alloc)?;
-        text_of(alloc, &gathered)
+    pub fn text<R: Wait + Abort>(self, rt: &R, alloc: Global) -> String {
+        let gathered = self.gathered(rt, alloc);
+        text_of(alloc, &gathered).expect(rt, "no memory for lines")
     }
+}
+
+fn are_commits(receipts: &[Receipt]) -> bool {
+    for receipt in receipts {
+        if !matches!(receipt.reply, Reply::Committed(_)) {
+            return false;
+        }
+    }
+    true
 }
 
 // Sends what is pending at a node, and makes each of its steps once.

@@ -1,41 +1,44 @@
 // Stages that continue with what the one before left.
-ghost use Rattle.std.specs.Prelude.{◌≤◌, IfOk, All};
-ghost use Rattle.sq_pull.specs.declared.numbers.TheConstants.{MAX_PUMPS};
+ghost use Rattle.std.specs.Prelude.{IfOk, All};
 ghost use Rattle.sq_node.specs.NodeState.{IsNodeOf};
 ghost use Rattle.sq_driver.specs.Pumps.{HasAllSeats};
 
 use super::node::PAIR;
-use super::run::{TestRun, job, read_opening};
-use sq_driver::{OpenGate, run_workers};
+use super::run::{TestRun, job, read_opening, work_to_end};
+use sq_driver::OpenGate;
 use sq_node::{Fabric, RunParts};
+use sq_ranges::Opening;
 use sq_runs::RunStore;
 use sq_schema::Txn;
-use std::alloc::Global;
+use std::alloc::{AllocError, Global};
+use std::process::Abort;
 use std::test::Fail;
 
 // For each of two partitions the jobs that were left at it: at the first more than its queue has places for.
-fn many_left(alloc: Global) -> Result<Vec<Vec<Txn>>, Fail> {
+fn many_left<R: Abort>(rt: &R, alloc: Global) -> Result<Vec<Vec<Txn>>, AllocError> {
     let mut jobs = Vec::new(alloc);
     for _job in 0..5000 {
-        jobs.push(job(alloc, "txn 0 1 9 check 0 0 1")?.txn)?;
+        jobs.push(job(rt, alloc, "txn 0 1 9 check 0 0 1").txn)?;
     }
     Ok(vec![in alloc; jobs, Vec::new(alloc)]?)
 }
 
 // The families of each of two partitions, which have none.
-fn no_families(alloc: Global) -> Result<Vec<RunStore>, Fail> {
+fn no_families(alloc: Global) -> Result<Vec<RunStore>, AllocError> {
     Ok(vec![in alloc; RunStore::new(alloc), RunStore::new(alloc)]?)
 }
 
-// A stage that continues with these, with this many pumps.
-fn resumed(alloc: Global, pumps: u32) -> Result<RunParts, Fail>
-    requires { pumps ≤ MAX_PUMPS }
+// The stage of an opening that continues with these, with one pump.
+fn begun(
+    alloc: Global,
+    opening: &Opening,
+    stores: Vec<RunStore>,
+    left: Vec<Vec<Txn>>,
+) -> Result<RunParts, Fail>
     ensures nodes { IfOk result (λ stage. All (IsNodeOf stage.fabric) stage.nodes.items) }
     ensures pumps { IfOk result (λ stage. All (HasAllSeats stage.fabric) stage.pumps.items) }
 {
-    let opening = read_opening(alloc, PAIR)?;
-    let (stores, left) = (no_families(alloc)?, many_left(alloc)?);
-    let Ok(stage) = Fabric::resumed(alloc, &opening, 0, stores, left, Vec::new(alloc), pumps) else {
+    let Ok(stage) = Fabric::resumed(alloc, opening, 0, stores, left, Vec::new(alloc), 1) else {
         return Err("the stage doesn't begin")?;
     };
     Ok(stage)
@@ -44,20 +47,15 @@ fn resumed(alloc: Global, pumps: u32) -> Result<RunParts, Fail>
 // Each of the jobs that were left is answered, once, and the workers end then.
 #[test]
 fn jobs_that_were_left_are_answered(rt: HostRuntime) -> Result<(), Fail> {
-    let mut stage = resumed(rt.alloc(), 1)?;
-    run_workers(
-        &rt,
-        &stage.fabric,
-        &mut stage.nodes,
-        &mut stage.pumps,
-        1_000_000_000_000,
-        &OpenGate,
-    );
-    let mut receipts: usize = 0;
-    for node in &stage.nodes {
-        receipts = receipts.saturating_add(node.receipts().len());
-    }
-    assert_eq!(rt; receipts, 5000);
+    let alloc = rt.alloc();
+    let opening = read_opening(&rt, alloc, PAIR);
+    let left = many_left(&rt, alloc)?;
+    let RunParts {
+        fabric,
+        nodes,
+        pumps,
+    } = begun(alloc, &opening, no_families(alloc)?, left)?;
+    assert_eq!(rt; work_to_end(&rt, &fabric, nodes, pumps), 5000);
     Ok(())
 }
 
@@ -76,10 +74,9 @@ at 1 2 0 0.0=1/-
 
 // The workers of a stage that isn't the last one end once its segments are complete, long before their turns are over.
 #[test]
-fn the_workers_of_a_first_stage_end(rt: HostRuntime) -> Result<(), Fail> {
+fn the_workers_of_a_first_stage_end(rt: HostRuntime) {
     let alloc = rt.alloc();
-    let mut run = TestRun::opened(alloc, STAGED, 1)?;
+    let mut run = TestRun::opened(&rt, alloc, STAGED, 1);
     run.work(&rt, 1_000_000_000_000, &OpenGate);
-    assert!(rt; run.text(&rt, alloc)?.as_str().starts_with(FIRST_STAGE));
-    Ok(())
+    assert!(rt; run.text(&rt, alloc).as_str().starts_with(FIRST_STAGE));
 }

@@ -5,42 +5,80 @@ use sq_node::Receipt;
 use sq_plan::PartId;
 use sq_runs::RunStore;
 use sq_store::FamilyStore;
-use sq_text::{write_answer, write_at, write_way};
+use sq_text::{WriteFault, write_answer, write_at, write_way};
 use sq_tree::{NODES, NodeId, Status};
 use std::alloc::Global;
 use std::io::Write;
-use std::test::Fail;
 
 /// All that is gathered: the families of each partition; for each link the notes of its chunks, and then the chunks
 /// under way; for each segment the nodes that aren't free; the receipts.
-pub fn text_of(alloc: Global, gathered: &Gathered) -> Result<String, Fail> {
+pub fn text_of(alloc: Global, gathered: &Gathered) -> Result<String, WriteFault> {
     let mut text = Vec::new(alloc);
-    for (part, store) in (0..u8::MAX).zip(&gathered.stores) {
-        write_store(&mut text, PartId::new(part), store)?;
+    write_gathered(&mut text, gathered)?;
+    as_text(text)
+}
+
+/// Receipts, in lines.
+pub fn receipts_text(alloc: Global, receipts: &[Receipt]) -> Result<String, WriteFault> {
+    let mut text = Vec::new(alloc);
+    write_receipts(&mut text, receipts)?;
+    as_text(text)
+}
+
+fn as_text(bytes: Vec<u8>) -> Result<String, WriteFault> {
+    match String::from_utf8(bytes) {
+        Ok(text) => Ok(text),
+        Err(_) => Err(WriteFault),
     }
-    for link in &gathered.links {
-        write_link(&mut text, link)?;
+}
+
+fn write_gathered(text: &mut Vec<u8>, gathered: &Gathered) -> Result<(), WriteFault> {
+    write_stores(text, &gathered.stores)?;
+    write_links(text, &gathered.links)?;
+    write_trees(text, &gathered.statuses)?;
+    write_receipts(text, &gathered.receipts)
+}
+
+// The families of each partition.
+fn write_stores(text: &mut Vec<u8>, stores: &[RunStore]) -> Result<(), WriteFault> {
+    for (part, store) in (0..u8::MAX).zip(stores) {
+        write_store(text, PartId::new(part), store)?;
     }
-    for statuses in &gathered.statuses {
-        write_statuses(&mut text, statuses)?;
-    }
-    write_receipts(alloc, &mut text, &gathered.receipts)?;
-    Ok(String::from_utf8(text)?)
+    Ok(())
 }
 
 // The families of a partition, as a dump has them.
-fn write_store(text: &mut Vec<u8>, part: PartId, store: &RunStore) -> Result<(), Fail> {
+fn write_store(text: &mut Vec<u8>, part: PartId, store: &RunStore) -> Result<(), WriteFault> {
     let mut at = 0;
     for _family in 0..store.len() {
-        let family = store.walk(at).ok_or("fewer families than are counted")?;
+        // There are as many as are counted.
+        let Some(family) = store.walk(at) else {
+            return Err(WriteFault);
+        };
         write_at(text, part, family)?;
         at = family.root().number() + 1;
     }
     Ok(())
 }
 
+// Each link.
+fn write_links(text: &mut Vec<u8>, links: &[ClosedLink]) -> Result<(), WriteFault> {
+    for link in links {
+        write_link(text, link)?;
+    }
+    Ok(())
+}
+
 // The notes of a link, and its chunks under way, as a dump has them.
-fn write_link(text: &mut Vec<u8>, link: &ClosedLink) -> Result<(), Fail> {
+fn write_link(text: &mut Vec<u8>, link: &ClosedLink) -> Result<(), WriteFault> {
+    write_notes(text, link)?;
+    for chunk in &link.under_way {
+        write_way(text, &chunk.note(), chunk.families())?;
+    }
+    Ok(())
+}
+
+fn write_notes(text: &mut Vec<u8>, link: &ClosedLink) -> Result<(), WriteFault> {
     for note in &link.notes {
         let (src, dst, number) = (note.src.number(), note.dst.number(), note.number);
         let (seg, node) = (note.seg.number(), note.node.number());
@@ -50,50 +88,48 @@ fn write_link(text: &mut Vec<u8>, link: &ClosedLink) -> Result<(), Fail> {
             "note {src} {dst} {number} {seg} {node} {lo} {hi} {last}"
         )?;
     }
-    for chunk in &link.under_way {
-        write_way(text, &chunk.note(), chunk.families())?;
+    Ok(())
+}
+
+// The tree of each segment.
+fn write_trees(text: &mut Vec<u8>, trees: &[[Status; NODES]]) -> Result<(), WriteFault> {
+    for statuses in trees {
+        write_statuses(text, statuses)?;
     }
     Ok(())
 }
 
 // The nodes of a tree that aren't free.
-fn write_statuses(text: &mut Vec<u8>, statuses: &[Status; NODES]) -> Result<(), Fail> {
+fn write_statuses(text: &mut Vec<u8>, statuses: &[Status; NODES]) -> Result<(), WriteFault> {
     for (node, status) in NodeId::all().iter().zip(statuses) {
-        if *status != Status::Free {
-            let number = node.number();
-            writeln!(text, "node {number} {status:?}")?;
-        }
+        write_status(text, node.number(), *status)?;
     }
+    Ok(())
+}
+
+// A node, unless it is free.
+fn write_status(text: &mut Vec<u8>, node: u64, status: Status) -> Result<(), WriteFault> {
+    if status == Status::Free {
+        return Ok(());
+    }
+    writeln!(text, "node {node} {status:?}")?;
     Ok(())
 }
 
 // Receipts, each with its root key and its position before the line of its answer.
-fn write_receipts(alloc: Global, text: &mut Vec<u8>, receipts: &[Receipt]) -> Result<(), Fail> {
+fn write_receipts(text: &mut Vec<u8>, receipts: &[Receipt]) -> Result<(), WriteFault> {
     for receipt in receipts {
-        let (root, position) = (receipt.root.number(), receipt.position);
-        let answer = answer_text(alloc, receipt)?;
-        write!(text, "receipt {root} {position} {answer}")?;
+        write_receipt(text, receipt)?;
     }
     Ok(())
 }
 
-/// Receipts, in lines.
-pub fn receipts_text(alloc: Global, receipts: &[Receipt]) -> Result<String, Fail> {
-    let mut text = Vec::new(alloc);
-    write_receipts(alloc, &mut text, receipts)?;
-    Ok(String::from_utf8(text)?)
-}
-
-/// The line of what a transaction was answered.
-pub fn answer_text(alloc: Global, receipt: &Receipt) -> Result<String, Fail> {
-    let mut text = Vec::new(alloc);
-    let reply = receipt.reply.clone()?;
-    write_answer(
-        &mut text,
-        &Answer::Replied {
-            id: receipt.id,
-            reply,
-        },
-    )?;
-    Ok(String::from_utf8(text)?)
+fn write_receipt(text: &mut Vec<u8>, receipt: &Receipt) -> Result<(), WriteFault> {
+    let (root, position) = (receipt.root.number(), receipt.position);
+    write!(text, "receipt {root} {position} ")?;
+    let id = receipt.id;
+    match receipt.reply.clone() {
+        Ok(reply) => write_answer(text, &Answer::Replied { id, reply }),
+        Err(_) => Err(WriteFault),
+    }
 }
