@@ -1,7 +1,7 @@
 // The caller of an engine that docs/guide/library.md shows.
 use sq_audit::Verdict;
 use sq_engine::Closed;
-use sq_examples::engine::go_there_and_back;
+use sq_examples::engine::{ThereAndBack, go_there_and_back};
 use sq_lines::LineReader;
 use sq_plan::Plan;
 use sq_ranges::Opening;
@@ -9,7 +9,7 @@ use sq_schema::{Root, RowKey, Schema};
 use sq_store::FamilyStore;
 use sq_text::read_header;
 use std::alloc::Global;
-use std::test::Fail;
+use std::process::Abort;
 
 // Two partitions and ten root keys, with the number 0 each, between which nothing moves.
 const AT_REST: &str = r#"old {"version":1,"partitions":2,"ranges":[[0,5,0],[5,4294967296,1]]}
@@ -31,28 +31,34 @@ row 9 0 0 0 -
 const THERE: &[u8] = br#"{"version":1,"partitions":2,"ranges":[[0,2,0],[2,4294967296,1]]}"#;
 
 // The opening of a header.
-fn read_opening(alloc: Global, header: &str) -> Result<Opening, Fail> {
-    let schema = Schema::new(8).ok_or("8 tables are a schema")?;
-    let mut lines = LineReader::new(alloc, header.as_bytes())?;
-    Ok(read_header(alloc, schema, &mut lines)?)
+fn read_opening<R: Abort>(rt: &R, alloc: Global, header: &str) -> Opening {
+    let schema = Schema::new(8).unwrap();
+    let mut lines = LineReader::new(alloc, header.as_bytes()).expect(rt, "no memory for lines");
+    read_header(alloc, schema, &mut lines).expect(rt, "it is a header")
 }
 
 // Each of two threads has 1,000 jobs answered, which add 1 to the number of a root key, to each of ten in turn.
 #[test]
-fn has_each_job_answered(rt: HostRuntime) -> Result<(), Fail> {
+fn has_each_job_answered(rt: HostRuntime) {
     let alloc = rt.alloc();
-    let opening = read_opening(alloc, AT_REST)?;
-    let there = Plan::read(alloc, THERE).ok().ok_or("it is a plan")?;
+    let opening = read_opening(&rt, alloc, AT_REST);
+    let there = Plan::read(alloc, THERE).expect(&rt, "it is a plan");
     let end = go_there_and_back(&rt, alloc, opening, there);
-    let (came, heard) = end.ok_or("it comes back")?;
-    assert_eq!(rt; heard, (1_000, 1_000));
-    assert_eq!(rt; came.verdict, Verdict::Sound);
-    assert_eq!(rt; came.last_verdict, Verdict::Sound);
+    let end = end.expect(&rt, "it comes back");
+    assert_good_end(&rt, &end);
+}
+
+// All jobs were answered, both pages are sound, and each root key has its number at its owner.
+fn assert_good_end<R: Abort>(rt: &R, end: &(ThereAndBack, (u64, u64))) {
+    let (came, heard) = end;
+    assert_eq!(*rt; *heard, (1_000, 1_000));
+    assert_eq!(*rt; came.verdict, Verdict::Sound);
+    assert_eq!(*rt; came.last_verdict, Verdict::Sound);
     for root in 0..10 {
         let part = if root < 5 { 0 } else { 1 };
-        assert_eq!(rt; number_at(&came.closed, part, root), Some(200), "of {root}");
+        let number = number_at(&came.closed, part, root);
+        assert_eq!(*rt; number, Some(200), "of {root}");
     }
-    Ok(())
 }
 
 // The number of a root key in the store of a partition.
