@@ -8,12 +8,12 @@ use sq_node::{Fabric, Node, RunParts};
 use sq_pull::Pump;
 use sq_ranges::Opening;
 use sq_trial::{JobSource, PARTS, PlanChoice, ROOTS, Workload, opening_at};
-use std::alloc::Global;
+use std::alloc::{AllocError, Global};
+use std::process::Abort;
 use std::sync::Wait;
 use std::sync::atomic::{AtomicU64, Ordering};
-use std::test::Fail;
 use std::thread;
-use std::thread::{Threads, join_mut};
+use std::thread::Threads;
 
 // How many runs there are, with how many answers their gate ends each, and how many jobs it is offered at most.
 const RUNS: u64 = 20;
@@ -47,43 +47,37 @@ impl Gate for EnoughGate {
     }
 }
 
-// The workers of a run.
-#[derive(Drop)]
-struct Workers {
-    nodes: Vec<Node>,
-    pumps: Vec<Pump>,
-}
-
-impl Workers {
-    // Drives them until their gate ends them.
-    fn run<R: Threads + Wait + Sync>(&mut self, rt: &R, fabric: &Fabric, gate: &EnoughGate)
-        requires { AreAllOf fabric.now self.old.nodes.items self.old.pumps.items }
-        ensures { AreAllOf fabric.now self.new.nodes.items self.new.pumps.items }
-    {
-        run_workers(rt, fabric, &mut self.nodes, &mut self.pumps, TURNS, gate);
-    }
-}
-
-// A run at rest, and its workers.
-fn opened(alloc: Global, opening: &Opening) -> Result<(Fabric, Workers), Fail>
-    ensures { IfOk result (λ run. AreAllOf run.0 run.1.nodes.items run.1.pumps.items) }
+// A run at rest, in its parts.
+fn opened(alloc: Global, opening: &Opening) -> Result<RunParts, AllocError>
+    ensures { IfOk result (λ run. AreAllOf run.fabric run.nodes.items run.pumps.items) }
 {
     let parts = Fabric::open(alloc, opening, 0)?;
-    let RunParts {
-        fabric,
-        nodes,
-        pumps,
-    } = parts;
-    Ok((fabric, Workers { nodes, pumps }))
+    Ok(parts)
 }
 
-// Posts jobs until one comes back. How many were taken, whose ids are 0, 1, 2 and so on.
-fn post_until_one_returns<R: Wait>(
+// Drives the workers until their gate ends them.
+fn drive<R: Threads + Wait + Sync>(
     rt: &R,
-    alloc: Global,
     fabric: &Fabric,
-    source: &mut JobSource,
-) -> u64 {
+    mut nodes: Vec<Node>,
+    mut pumps: Vec<Pump>,
+    gate: &EnoughGate,
+) -> (Vec<Node>, Vec<Pump>)
+    requires { AreAllOf fabric.now nodes.items pumps.items }
+    ensures { AreAllOf fabric.now result.0.items result.1.items }
+{
+    run_workers(rt, fabric, &mut nodes, &mut pumps, TURNS, gate);
+    (nodes, pumps)
+}
+
+// Posts jobs of this seed until one comes back. How many were taken, whose ids are 0, 1, 2 and so on.
+fn post_until_one_returns<R: Wait>(rt: &R, alloc: Global, fabric: &Fabric, seed: u64) -> u64 {
+    let mut source = JobSource::new(Workload {
+        seed,
+        jobs: JOBS,
+        parts: PARTS,
+        roots: ROOTS,
+    });
     for taken in 0..JOBS {
         let Ok((job, _root)) = source.make(alloc) else {
             return taken;
@@ -96,35 +90,34 @@ fn post_until_one_returns<R: Wait>(
     JOBS
 }
 
-// Drives the workers while another thread posts jobs. How many were taken.
+// Drives the workers while another thread posts jobs. The workers then, and how many jobs were taken.
 fn run_beside<R: Threads + Wait + Sync>(
     rt: &R,
     alloc: Global,
     fabric: &Fabric,
-    workers: &mut Workers,
-    source: &mut JobSource,
-) -> u64
-    requires { AreAllOf fabric.now workers.old.nodes.items workers.old.pumps.items }
-    ensures { AreAllOf fabric.now workers.new.nodes.items workers.new.pumps.items }
+    nodes: Vec<Node>,
+    pumps: Vec<Pump>,
+    seed: u64,
+) -> ((Vec<Node>, Vec<Pump>), u64)
+    requires { AreAllOf fabric.now nodes.items pumps.items }
+    ensures { AreAllOf fabric.now result.0.0.items result.0.1.items }
 {
     let gate = EnoughGate {
         answers: AtomicU64::new(0),
     };
-    let mut taken = 0;
-    join_mut(
+    let shared = &gate;
+    thread::join(
         rt,
-        &mut ||
-            requires { AreAllOf fabric.now workers.now.nodes.items workers.now.pumps.items }
-            ensures { AreAllOf fabric.entry.now
-                workers.exit.now.nodes.items workers.exit.now.pumps.items }
-        { workers.run(rt, fabric, &gate) },
-        &mut || { taken = post_until_one_returns(rt, alloc, fabric, source) },
-    );
-    taken
+        move ||
+            requires { AreAllOf fabric.now nodes.items pumps.items }
+            ensures { AreAllOf fabric.entry.now result.0.items result.1.items }
+        { drive(rt, fabric, nodes, pumps, shared) },
+        move || post_until_one_returns(rt, alloc, fabric, seed),
+    )
 }
 
 // The ids of the jobs that have a receipt, and of those that are left.
-fn ids_in(alloc: Global, gathered: &Gathered) -> Result<Vec<u64>, Fail> {
+fn ids_in(alloc: Global, gathered: &Gathered) -> Result<Vec<u64>, AllocError> {
     let mut ids = Vec::new(alloc);
     for receipt in &gathered.receipts {
         ids.push(receipt.id)?;
@@ -138,46 +131,56 @@ fn ids_in(alloc: Global, gathered: &Gathered) -> Result<Vec<u64>, Fail> {
     Ok(ids)
 }
 
-// A run that ends while jobs are posted.
-fn end_beside<R: Threads + Wait + Sync>(
+// Whether these are the numbers below a count, in their order.
+fn are_all_below(ids: &[u64], count: u64) -> bool {
+    for (id, number) in ids.iter().zip(0..count) {
+        if *id != number {
+            return false;
+        }
+    }
+    ids.len() as u64 == count
+}
+
+// A run that ends while jobs are posted: each job that was taken is answered or left, once.
+fn end_beside<R: Threads + Wait + Abort + Sync>(
     rt: &R,
     alloc: Global,
     opening: &Opening,
     seed: u64,
-) -> Result<(), Fail> {
-    let mut source = JobSource::new(Workload {
-        seed,
-        jobs: JOBS,
-        parts: PARTS,
-        roots: ROOTS,
-    });
-    let (fabric, mut workers) = opened(alloc, opening)?;
-    let taken = run_beside(rt, alloc, &fabric, &mut workers, &mut source);
-    let Workers { nodes, pumps } = workers;
+) -> Result<(), AllocError> {
+    let RunParts {
+        fabric,
+        nodes,
+        pumps,
+    } = opened(alloc, opening)?;
+    let ((nodes, pumps), taken) = run_beside(rt, alloc, &fabric, nodes, pumps, seed);
     let run = RunParts {
         fabric,
         nodes,
         pumps,
     };
-    let Ok(gathered) = gather(rt, alloc, run) else {
-        return Err("no memory")?;
-    };
-    if (gathered.receipts.len() as u64) < ENOUGH {
-        return Err("it ended before there were enough answers")?;
-    }
-    let all: Vec<u64> = (0..taken).collect(alloc)?;
-    if ids_in(alloc, &gathered)?.as_slice() != all.as_slice() {
-        return Err("not each job that was taken is answered or left, once")?;
-    }
+    let gathered = gather(rt, alloc, run).ok();
+    let gathered = gathered.expect(rt, "no memory for what is gathered");
+    let answered = gathered.receipts.len() as u64;
+    let ids = ids_in(alloc, &gathered);
+    drop(gathered);
+    assert!(rt;
+        answered >= ENOUGH,
+        "it ended before there were enough answers"
+    );
+    assert!(rt;
+        are_all_below(&ids?, taken),
+        "not each job that was taken is answered or left, once"
+    );
     Ok(())
 }
 
 #[test]
-fn jobs_posted_as_workers_end_are_left(rt: HostRuntime) -> Result<(), Fail> {
+fn jobs_posted_as_workers_end_are_left(rt: HostRuntime) {
     let alloc = rt.alloc();
-    let opening = opening_at(alloc, PlanChoice::Spread)?;
+    let opening = opening_at(alloc, PlanChoice::Spread).expect(&rt, "no memory for an opening");
     for seed in 0..RUNS {
-        end_beside(&rt, alloc, &opening, seed)?;
+        let ended = end_beside(&rt, alloc, &opening, seed);
+        assert_eq!(rt; ended, Ok(()), "seed {seed}");
     }
-    Ok(())
 }
