@@ -19,11 +19,12 @@ begin_engine() {
     why=
 }
 
-# ask LINES ANSWER..: sends a line, or several at once; the next lines that come are to be these.
+# ask LINES ANSWER..: sends a line, or several at once; the next lines that come are to be these, and none comes where the engine has
+# ended.
 ask() {
     local answer wanted
     echo "$1" > "$room/asking"
-    cat "$room/asking" >&8
+    cat "$room/asking" >&8 || true
     for wanted in "${@:2}"; do
         answer=
         read -r -t 30 answer <&7 || true
@@ -207,7 +208,7 @@ served_faults() {
     ask "move ${all_at_0/2/3}" 'refused 111'
     ask '' 'fault 126 13'
     ask 'txn 0 2 5 get 0 0' 'commit 2 10/-'
-    printf 'status' >&8
+    printf 'status' >&8 || true
     end_engine 'serve: lines that ask nothing' 'fault 126 15' 'sound 2 families 2 committed'
 }
 
