@@ -1,6 +1,6 @@
 // When jobs are answered, by whom, and which.
 use crate::wait_marks::WaitBegins;
-use sq_chart::{Event, Happened, TimedAnswer};
+use sq_summary::{Event, Happened, TimedAnswer};
 use sq_node::Node;
 use std::alloc::{AllocError, Global};
 use std::sync::atomic::{AtomicBool, AtomicU8, AtomicU64, Ordering};

@@ -10,14 +10,14 @@ use crate::results::{KeptReplies, KeptRows};
 use crate::timeline::Timeline;
 use crate::waits::Waits;
 use sq_audit::Job;
-use sq_chart::{moments_of, write_csv, write_svg};
 use sq_driver::{Gate, NodeStep, WorkerEvent, WorkerId};
 use sq_gather::Gathered;
 use sq_live::{MAX_JOBS, Watch};
 use sq_node::Node;
 use sq_ranges::SEGMENT_LIMIT;
 use sq_summary::{
-    FiguresForm, PartFigures, RunFigures, Times, figures_json, write_figures, write_times,
+    FiguresForm, PartFigures, RunFigures, Times, figures_json, moments_of, write_csv, write_figures,
+    write_svg, write_times,
 };
 use std::alloc::{AllocError, Global};
 use std::io;

@@ -2,7 +2,7 @@
 use crate::answers::AnswerMarks;
 use crate::clock::Stopwatch;
 use crate::wait_marks::WaitMarks;
-use sq_chart::{Event, Happened, Moment, StageStart, TimedAnswer};
+use sq_summary::{Event, Happened, Moment, StageStart, TimedAnswer};
 use sq_driver::{NodeStep, WorkerEvent, WorkerId};
 use sq_node::Node;
 use std::alloc::{AllocError, Global};

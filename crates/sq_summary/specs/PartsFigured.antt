@@ -1,6 +1,6 @@
 -- How jobs ended at a partition.
 use Rattle.std.specs.Prelude.{◌≡◌, ℕ, ◌==◌, ◌&&◌, List, length, map, filter, filter_map, is_some}
-use Rattle.sq_chart.specs.declared.moment.TimedAnswer.{TimedAnswer}
+use Rattle.sq_summary.specs.declared.moment.TimedAnswer.{TimedAnswer}
 use Rattle.sq_summary.specs.declared.part_figures.PartFigures.{PartFigures}
 use Rattle.sq_summary.specs.Spreads.{IsSpreadOf}
 

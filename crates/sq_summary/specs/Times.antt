@@ -1,6 +1,6 @@
 -- The line of how long the parts of a run took.
 use Rattle.std.specs.Prelude.{ℕ, List, [], ◌∷◌, ◌++◌, codes}
-use Rattle.sq_chart.specs.Csv.{milliseconds}
+use Rattle.sq_summary.specs.Csv.{milliseconds}
 use Rattle.sq_summary.specs.declared.times.Times.{Times}
 
 -- a time in milliseconds, behind its name

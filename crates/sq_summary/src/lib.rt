@@ -1,19 +1,27 @@
-//! The figures of a live run: what moved along each link, how jobs ended at each partition and how long they took, and
-//! how long the run took; as text and as JSON.
+//! What a live run did, for a reader: its figures, as text and as JSON (what moved along each link, how jobs ended at
+//! each partition and how long they took, how long the run took), and its course over time, as comma-separated values
+//! and as a picture (how many jobs were answered and how many segments were complete, with what each answer was).
 #![tactic(auto)]
 
+mod csv;
 mod figures;
 mod form;
+mod intervals;
 mod json_form;
+mod moment;
 mod part_figures;
 mod spread;
+mod svg;
 mod text_form;
 mod times;
 
+pub use csv::write_csv;
 pub use figures::{LinkFigures, RunFigures};
 pub use form::FiguresForm;
 pub use json_form::figures_json;
+pub use moment::{Event, Happened, Moment, StageStart, TimedAnswer, moments_of};
 pub use part_figures::PartFigures;
 pub use spread::{Spread, spread_of};
+pub use svg::write_svg;
 pub use text_form::write_figures;
 pub use times::{Times, write_times};

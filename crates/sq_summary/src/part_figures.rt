@@ -2,8 +2,8 @@
 ghost use Rattle.std.specs.Prelude.{◌≡◌, IfOk};
 ghost use Rattle.sq_summary.specs.PartsFigured.{times_at, waited_times_at, wait_times_at, ArePartFigures};
 
+use crate::moment::TimedAnswer;
 use crate::spread::{Spread, spread_of};
-use sq_chart::TimedAnswer;
 use std::alloc::{AllocError, Global};
 
 /// How jobs ended at a partition.

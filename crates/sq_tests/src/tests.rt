@@ -4,6 +4,7 @@ mod exec;
 mod fixtures;
 mod inputs;
 mod link;
+mod picture;
 mod plan;
 mod pull;
 mod readers;
