@@ -175,12 +175,13 @@ try_names() {
 }
 
 # The pictures in docs: of the crates, as they are drawn; of what moves, as it is stored, of the example; of a tree before a
-# pull and after it, as the small caller of the library draws them.
+# pull and after it, by their digests, which a test of the library compares with those of what it draws.
 try_drawings() {
     bash "$tests/crates_graph.sh" > "$room/picture"
     count crates_as_they_are_drawn "$(difference "$top/docs/crates.svg" "$room/picture")"
     count moves_as_they_are_drawn "$(difference "$tests/cases/pictures/two_ranges_svg/out" "$top/docs/moves.svg")"
     count moves_of_the_example "$(difference "$examples/ranges.txt" "$tests/cases/pictures/two_ranges_svg/in")"
-    cat "$top/docs/tree-before.svg" "$top/docs/tree-after.svg" > "$room/picture"
-    count trees_as_they_are_drawn "$(difference "$top/crates/sq_tree_example/stdout" "$room/picture")"
+    (cd "$top/docs" && sha256sum tree-before.svg tree-after.svg) | cut -d ' ' -f 1 > "$room/picture"
+    sed -nE 's/^const (BEFORE|AFTER): &str = "(.*)";$/\2/p' "$top/crates/sq_tests/src/tests/picture.rt" > "$room/told"
+    count trees_as_they_are_drawn "$(difference "$room/told" "$room/picture")"
 }

@@ -7,7 +7,7 @@
 #   bash tests/plants.sh --changed  only names the crates that have changed, since then and since the wrong bodies that were
 #                                   written by hand were tried in them
 #
-# A crate is as it was where the checksum of its code and definitions, without comments and blanks, stands under its
+# A crate is as it was where the checksum of its code and definitions, without comments, imports and blanks, stands under its
 # heading. A crate takes from one minute to an hour. Prints what isn't listed, and what is listed and isn't proved any more,
 # and for each crate the line that belongs under its heading; at the end how many crates passed. Fails where something
 # isn't listed.
@@ -20,11 +20,15 @@ trap 'rm -r "$room"' EXIT
 passed=0
 failed=0
 
-# The checksum of a crate's code and definitions, without comments, and blind to blanks and ends of lines.
+# The checksum of a crate's code and definitions, without comments and imports (a name has one meaning in all crates), and blind
+# to blanks and ends of lines.
 checksum() {
     (
         cd "$top/crates/$1"
-        find src specs -type f 2> "$room/missing" | sort | xargs sed -E '/^ *(\/\/|--)/d' | tr -d ' \n' | sha256sum | cut -c 1-12
+        {
+            find src -type f | sort | xargs sed -E '/^ *\/\//d; /^ *((pub|ghost) )?use [^;]*;/d; /^ *((pub|ghost) )?use /,/;/d'
+            find specs -type f 2> "$room/missing" | sort | xargs -r sed -E '/^ *--/d; /^ *(pub )?use /d'
+        } | tr -d ' \n' | sha256sum | cut -c 1-12
     )
 }
 
