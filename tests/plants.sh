@@ -27,7 +27,7 @@ checksum() {
         cd "$top/crates/$1"
         {
             find src -type f | sort | xargs sed -E '/^ *\/\//d; /^ *((pub|ghost) )?use [^;]*;/d; /^ *((pub|ghost) )?use /,/;/d'
-            find specs -type f 2> "$room/missing" | sort | xargs -r sed -E '/^ *--/d; /^ *(pub )?use /d'
+            find specs -type f 2> "$room/missing" | sort | xargs -r sed -E '/^ *--/d; /^ *(pub )?(use|mod) /d'
         } | tr -d ' \n' | sha256sum | cut -c 1-12
     )
 }

@@ -3,9 +3,7 @@ use Rattle.std.proofs.Common.{◌≡◌, ◌⊎◌, inl, inr, ℕ, zero, suc, �
 use Rattle.std.specs.Prelude.{option_and_then}
 use Rattle.std.specs.FinMap.{get}
 use Rattle.std.proofs.lemmas.Bool.{ne_eqb}
-use Rattle.sq_schema.specs.Effect.{RowList}
-use Rattle.sq_schema.specs.Family.{FamilyValue, rows_of}
-use Rattle.sq_store.specs.StoreValue.{StoreValue}
+use Rattle.sq_gather.specs.Prelude.{RowList, FamilyValue, rows_of, StoreValue}
 use Rattle.sq_audit.specs.Rows.{rows_with, rows_among}
 
 -- the store at this place has a family of the root key

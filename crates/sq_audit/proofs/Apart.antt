@@ -1,22 +1,7 @@
 -- Where each link is placed and the trees are grown, notes of two tree nodes share no key.
 use Rattle.std.proofs.Common.{◌≡◌, ℕ, true, reverse, slice_get, Contains, Some, sym, subst}
-use Rattle.sq_tree.specs.Status.{is_begun}
-use Rattle.sq_tree.specs.Tree.{IsGrown}
-use Rattle.sq_chunk.specs.declared.chunk.Note.{Note}
-use Rattle.sq_chunk.specs.ChunkValue.{covers}
-use Rattle.sq_ranges.specs.OpeningValue.{OpeningValue}
-use Rattle.sq_ranges.specs.Opening.{IsOpening}
-use Rattle.sq_model.specs.Place.{extent_of, is_within}
-use Rattle.sq_model.specs.Orderly.{AreDisjoint}
-use Rattle.sq_model.proofs.Lists.{Contains-slice_get, slice_get-Contains, flat_map_in}
-use Rattle.sq_model.proofs.Tiles.{tile}
-use Rattle.sq_model.proofs.Apart.{covers_extent}
-use Rattle.sq_node_model.specs.Gathered.{GatheredLink, GatheredValue}
-use Rattle.sq_node_model.specs.Spots.{gathered_status, cut_notes}
-use Rattle.sq_node_model.specs.Placed.{IsLinkNote}
-use Rattle.sq_node_model.proofs.Keys.{one_segment}
-use Rattle.sq_node_model.proofs.Members.{Contains-reverse}
-use Rattle.sq_node_model.proofs.Trees.{begun_apart}
+use Rattle.sq_gather.specs.Prelude.{is_begun, IsGrown, Note, covers, OpeningValue, IsOpening, extent_of, is_within, AreDisjoint, GatheredLink, GatheredValue, gathered_status, cut_notes, IsLinkNote}
+use Rattle.sq_gather.proofs.Prelude.{Contains-slice_get, slice_get-Contains, flat_map_in, tile, covers_extent, one_segment, Contains-reverse, begun_apart}
 use Rattle.sq_audit.specs.Notes.{LinksPlaced}
 
 -- a note of a link

@@ -9,21 +9,8 @@ use Rattle.std.specs.FinMap.Entries.{find, is_sorted, below_all}
 use Rattle.std.proofs.lemmas.Bool.{cases_Bool, and_parts, ne_eqb}
 use Rattle.std.proofs.lemmas.Bool.Decides.{Decides-like}
 use Rattle.std.proofs.lemmas.List.Elements.{All-tail}
-use Rattle.sq_schema.specs.Effect.{RowList, reply, replay_rows}
-use Rattle.sq_schema.specs.Family.{FamilyValue}
-use Rattle.sq_schema.specs.TxnValue.{TxnValue}
-use Rattle.sq_schema.specs.Table.{TableValue, rows_in, is_opening}
-use Rattle.sq_store.specs.StoreValue.{absent}
-use Rattle.sq_store.proofs.Order.{less_from_cmp}
-use Rattle.sq_ranges.specs.OpeningValue.{OpeningValue}
-use Rattle.sq_model.proofs.Lists.{Contains-nothing, Contains-cases, Contains-first, Contains-later, Contains-filter, kept_in}
-use Rattle.sq_node_model.specs.NodeValue.{ReceiptValue}
-use Rattle.sq_node_model.specs.BeganWith.{is_opened}
-use Rattle.sq_node_model.specs.Receipts.{is_commit, times_named}
-use Rattle.sq_node_model.specs.declared.spot.Spot.{Spot}
-use Rattle.sq_node_model.specs.Gathered.{GatheredValue}
-use Rattle.sq_node_model.specs.Spots.{StandsAt, family_at_spot}
-use Rattle.sq_node_model.specs.Placed.{StandOnce, AllStand, KeepBases, NameEach}
+use Rattle.sq_gather.specs.Prelude.{RowList, reply, replay_rows, FamilyValue, TxnValue, TableValue, rows_in, is_opening, absent, OpeningValue, ReceiptValue, is_opened, is_commit, times_named, Spot, GatheredValue, StandsAt, family_at_spot, StandOnce, AllStand, KeepBases, NameEach}
+use Rattle.sq_gather.proofs.Prelude.{less_from_cmp, Contains-nothing, Contains-cases, Contains-first, Contains-later, Contains-filter, kept_in}
 use Rattle.sq_audit.specs.declared.job.Job.{Job}
 use Rattle.sq_audit.specs.Answers.{AreKnown, IsAnswerTo, IsFamilyOf}
 use Rattle.sq_audit.specs.Located.{Entry, ListsAll}

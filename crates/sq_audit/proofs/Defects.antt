@@ -1,10 +1,7 @@
 -- The six clauses together, and the one verdict.
 use Rattle.std.proofs.Common.{◌≡◌, ⊎_elim, List, refl, ap, arith}
 use Rattle.std.proofs.lemmas.Bool.{cases_lt}
-use Rattle.sq_ranges.specs.OpeningValue.{OpeningValue}
-use Rattle.sq_schema.specs.Family.{FamilyValue}
-use Rattle.sq_node_model.specs.Gathered.{GatheredValue}
-use Rattle.sq_node_model.specs.Placed.{AreTold}
+use Rattle.sq_gather.specs.Prelude.{OpeningValue, FamilyValue, GatheredValue, AreTold}
 use Rattle.sq_audit.specs.declared.job.Job.{Job}
 use Rattle.sq_audit.specs.declared.verdict.Defect.{Defect}
 use Rattle.sq_audit.specs.declared.verdict.Defect.TheVariants.{RootMissing, RootDoubled, BaseChanged, WrongPlace, ReceiptUnknown, Unanswered}

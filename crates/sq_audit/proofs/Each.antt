@@ -5,7 +5,7 @@ use Rattle.std.specs.Option.{option_copied}
 use Rattle.std.specs.Slice.{IsItemAt}
 use Rattle.std.proofs.lemmas.Bool.{cases_lt, cases_eq}
 use Rattle.std.proofs.lemmas.Option.{slice_get_within, slice_get_past, slice_get-get_or}
-use Rattle.sq_model.proofs.Lists.{Contains-slice_get, slice_get-Contains}
+use Rattle.sq_gather.proofs.Prelude.{Contains-slice_get, slice_get-Contains}
 
 -- two things at one place are one
 pub same_of : {X : Type 0} (xs : List X) (i j : ℕ) (x y : X) → slice_get xs i ≡ Some x → slice_get xs j ≡ Some y → j ≡ i → y ≡ x

@@ -10,13 +10,7 @@ use Rattle.std.proofs.lemmas.List.{get_or_past}
 use Rattle.std.proofs.lemmas.List.Folds.{list_any-append}
 use Rattle.std.proofs.lemmas.Option.{slice_get_within, get_or_from_slice_get}
 use Rattle.std.proofs.Math.Seq.{take-suc}
-use Rattle.sq_tree.specs.declared.status.Status.{Status}
-use Rattle.sq_tree.specs.Status.{is_complete}
-use Rattle.sq_tree.specs.Tree.{status_at}
-use Rattle.sq_chunk.specs.declared.chunk.Note.{Note}
-use Rattle.sq_model.specs.Links.{is_about, has_last}
-use Rattle.sq_node_model.specs.Gathered.{GatheredValue}
-use Rattle.sq_node_model.specs.Spots.{loads_of}
+use Rattle.sq_gather.specs.Prelude.{Status, is_complete, status_at, Note, is_about, has_last, GatheredValue, loads_of}
 use Rattle.sq_audit.specs.Counts.{key_order}
 use Rattle.sq_audit.specs.Statuses.{CompleteAreLoaded, AreEnded}
 use Rattle.sq_audit.proofs.Growing.{nothing_at}

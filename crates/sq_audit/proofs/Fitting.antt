@@ -3,15 +3,7 @@ use Rattle.std.proofs.Common.{ℕ, Bool, Result, Ok, Err}
 use Rattle.std.specs.Prelude.{IfOk}
 use Rattle.std.specs.Bool.{Decides}
 use Rattle.std.proofs.lemmas.Bool.Decides.{Decides-like}
-use Rattle.sq_schema.specs.Family.{FamilyValue}
-use Rattle.sq_ranges.specs.OpeningValue.{OpeningValue}
-use Rattle.sq_ranges.specs.Opening.{IsOpening}
-use Rattle.sq_model.specs.Orderly.{AreDisjoint}
-use Rattle.sq_node_model.specs.FamiliesHold.{IsOf}
-use Rattle.sq_node_model.specs.declared.spot.Spot.{Spot}
-use Rattle.sq_node_model.specs.Gathered.{GatheredValue}
-use Rattle.sq_node_model.specs.Spots.{AllGrown, cut_notes, StandsAt}
-use Rattle.sq_node_model.specs.Placed.{HasEachPart, FitTogether}
+use Rattle.sq_gather.specs.Prelude.{FamilyValue, OpeningValue, IsOpening, AreDisjoint, IsOf, Spot, GatheredValue, AllGrown, cut_notes, StandsAt, HasEachPart, FitTogether}
 use Rattle.sq_audit.specs.Notes.{LinksPlaced}
 use Rattle.sq_audit.specs.Statuses.{CompleteAreLoaded}
 use Rattle.sq_audit.specs.Fits.{ArePlaced}

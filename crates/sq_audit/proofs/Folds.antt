@@ -6,26 +6,8 @@ use Rattle.std.proofs.lemmas.List.{length-map}
 use Rattle.std.proofs.lemmas.List.Elements.{filter_agree}
 use Rattle.std.proofs.lemmas.List.Sums.{length-filter}
 use Rattle.std.proofs.lemmas.Option.{slice_get-map}
-use Rattle.sq_schema.specs.Effect.{RowList}
-use Rattle.sq_schema.specs.Family.{FamilyValue, rows_of}
-use Rattle.sq_schema.specs.Table.{TableValue, rows_in}
-use Rattle.sq_store.specs.StoreValue.{StoreValue, fold_of, folded_store}
-use Rattle.sq_store.proofs.Folds.{get-folded}
-use Rattle.sq_ranges.specs.OpeningValue.{OpeningValue}
-use Rattle.sq_ranges.specs.Opening.{IsOpening}
-use Rattle.sq_model.proofs.Lists.{Contains-cases, Contains-slice_get, slice_get-Contains}
-use Rattle.sq_model.specs.Staged.{owner_in}
-use Rattle.sq_node_model.specs.NodeValue.{ReceiptValue}
-use Rattle.sq_node_model.specs.BeganWith.{is_opened}
-use Rattle.sq_node_model.specs.declared.spot.Spot.{Spot}
-use Rattle.sq_node_model.specs.declared.spot.Spot.TheVariants.{Store}
-use Rattle.sq_node_model.specs.Gathered.{GatheredValue}
-use Rattle.sq_node_model.specs.Spots.{StandsAt}
-use Rattle.sq_node_model.specs.Placed.{IsPlaced}
-use Rattle.sq_node_model.specs.Next.{IsStageDone}
-use Rattle.sq_node_model.specs.Folded.{folded_family, folded_opening, folded_gathered, IsFolded}
-use Rattle.sq_node_model.proofs.Next.{stands_next}
-use Rattle.sq_node_model.proofs.Folded.{folded_placed, folded_done}
+use Rattle.sq_gather.specs.Prelude.{RowList, FamilyValue, rows_of, TableValue, rows_in, StoreValue, fold_of, folded_store, OpeningValue, IsOpening, owner_in, ReceiptValue, is_opened, Spot, Store, GatheredValue, StandsAt, IsPlaced, IsStageDone, folded_family, folded_opening, folded_gathered, IsFolded}
+use Rattle.sq_gather.proofs.Prelude.{get-folded, Contains-cases, Contains-slice_get, slice_get-Contains, stands_next, folded_placed, folded_done}
 use Rattle.sq_audit.specs.declared.job.Job.{Job}
 use Rattle.sq_audit.specs.declared.folded.Folded.{Folded}
 use Rattle.sq_audit.specs.declared.folding.Ready.{Ready}

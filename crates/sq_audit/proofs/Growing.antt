@@ -4,13 +4,8 @@ use Rattle.std.specs.Prelude.{slice_index, slice_index_or}
 use Rattle.std.proofs.lemmas.Bool.{cases_lt}
 use Rattle.std.proofs.lemmas.List.{get_or_past}
 use Rattle.std.proofs.lemmas.Grind.{get_or_default_zero}
-use Rattle.sq_tree.specs.declared.status.Status.{Status}
-use Rattle.sq_tree.specs.declared.status.Status.TheVariants.{Free}
-use Rattle.sq_tree.specs.Node.{is_leaf}
-use Rattle.sq_tree.specs.Status.{is_free, is_split, is_live}
-use Rattle.sq_tree.specs.Tree.{status_at, IsGrown}
-use Rattle.sq_tree.proofs.Grown.{grown-free}
-use Rattle.sq_node_model.specs.Spots.{AllGrown}
+use Rattle.sq_gather.specs.Prelude.{Status, Free, is_leaf, is_free, is_split, is_live, status_at, IsGrown, AllGrown}
+use Rattle.sq_gather.proofs.Prelude.{grown-free}
 use Rattle.sq_audit.specs.Statuses.{IsGrownAt}
 
 -- the node at a place of a list of all nodes

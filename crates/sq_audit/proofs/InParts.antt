@@ -8,9 +8,7 @@ use Rattle.std.proofs.lemmas.Nat.{div-add-mod', mod_below}
 use Rattle.std.proofs.lemmas.Bool.{cases_lt}
 use Rattle.std.proofs.lemmas.Bool.Decides.{Decides-like}
 use Rattle.std.proofs.lemmas.Option.{slice_get_within, slice_get-get_or}
-use Rattle.sq_model.proofs.Lists.{Contains-slice_get, slice_get-Contains, map_in}
-use Rattle.sq_node_model.proofs.Lists.{at_map}
-use Rattle.sq_node_model.proofs.Members.{Contains-map}
+use Rattle.sq_gather.proofs.Prelude.{Contains-slice_get, slice_get-Contains, map_in, at_map, Contains-map}
 use Rattle.sq_audit.specs.declared.located.Located.{Located}
 use Rattle.sq_audit.specs.Located.{Entry, entry_of, entries_in, AreByRoot}
 use Rattle.sq_audit.specs.InThreads.{IsSaidOfAll}

@@ -7,8 +7,7 @@ use Rattle.std.proofs.lemmas.List.Sorted.{IsPartitionedBy-ltb, IsPermutation-sym
 use Rattle.std.proofs.lemmas.Bool.{cases_lt, cases_eq}
 use Rattle.std.proofs.lemmas.Bool.Decides.{Decides-and, Decides-like}
 use Rattle.std.proofs.lemmas.Option.{slice_get_within, get_or_from_slice_get}
-use Rattle.sq_node_model.proofs.Lists.{at_map, map_at, stands_at}
-use Rattle.sq_model.proofs.Lists.{Contains-nothing, Contains-first, Contains-later, Contains-cases, Contains-slice_get, slice_get-Contains}
+use Rattle.sq_gather.proofs.Prelude.{at_map, map_at, stands_at, Contains-nothing, Contains-first, Contains-later, Contains-cases, Contains-slice_get, slice_get-Contains}
 use Rattle.sq_audit.specs.declared.located.Located.{Located}
 use Rattle.sq_audit.specs.declared.located.Site.{Site}
 use Rattle.sq_audit.specs.declared.located.Site.TheVariants.{Store, Chunk}

@@ -1,9 +1,8 @@
 -- The one job that a receipt answers.
 use Rattle.std.proofs.Common.{◌≡◌, ℕ, ◌==◌, true, List, Contains, refl, sym, ap, ◌∙◌, eqb-true, eq-eqb}
 use Rattle.std.proofs.lemmas.Bool.{and_parts, and_from}
-use Rattle.sq_schema.specs.TxnValue.{TxnValue}
-use Rattle.sq_model.proofs.Lists.{Contains-slice_get, slice_get-Contains}
-use Rattle.sq_node_model.specs.NodeValue.{ReceiptValue}
+use Rattle.sq_gather.specs.Prelude.{TxnValue, ReceiptValue}
+use Rattle.sq_gather.proofs.Prelude.{Contains-slice_get, slice_get-Contains}
 use Rattle.sq_audit.specs.declared.job.Job.{Job}
 use Rattle.sq_audit.specs.Answers.{IdsDiffer, is_of}
 use Rattle.sq_audit.specs.Index.{HasKeyAt}

@@ -6,9 +6,8 @@ use Rattle.std.proofs.lemmas.Bool.{cases_Bool}
 use Rattle.std.proofs.lemmas.Bool.Decides.{Decides-like}
 use Rattle.std.proofs.lemmas.List.Sums.{sum_by-append}
 use Rattle.std.proofs.lemmas.List.Sorted.{IsPermutation-sym, Contains-permutation, sum_by-IsPermutation}
-use Rattle.sq_schema.specs.Family.{FamilyValue}
-use Rattle.sq_model.proofs.Lists.{Contains-filter, kept_in, filter-first, filter-other}
-use Rattle.sq_node_model.specs.NodeValue.{ReceiptValue}
+use Rattle.sq_gather.specs.Prelude.{FamilyValue, ReceiptValue}
+use Rattle.sq_gather.proofs.Prelude.{Contains-filter, kept_in, filter-first, filter-other}
 use Rattle.sq_audit.specs.declared.job.Job.{Job}
 use Rattle.sq_audit.specs.Located.{Entry}
 use Rattle.sq_audit.specs.Told.{TellsLog, TellLogs, TellNoLog, KnowsAll, is_named, receipts_of}

@@ -8,24 +8,8 @@ use Rattle.std.proofs.lemmas.Bool.{cases_lt, and_parts, ne_eqb}
 use Rattle.std.proofs.lemmas.List.{append-nil, map-append, length-map}
 use Rattle.std.proofs.lemmas.List.Elements.{All-contains, Contains-append_left, Contains-append_right, Contains-append_cases, Contains-push}
 use Rattle.std.proofs.lemmas.Option.{slice_get_within, slice_get-get_or}
-use Rattle.sq_schema.specs.Family.{FamilyValue}
-use Rattle.sq_store.specs.StoreValue.{StoreValue, family_in}
-use Rattle.sq_store.specs.InOrder.{families_in, HoldsByRoot, are_within, AreKeyed}
-use Rattle.sq_store.specs.Listed.{roots_rise}
-use Rattle.sq_store.proofs.Order.{is_below, first_rises, less_from_cmp}
-use Rattle.sq_store.proofs.Between.{family_in-entries, sorted_is}
-use Rattle.sq_store.proofs.Rising.{rises}
-use Rattle.sq_store.proofs.Firsts.{rising_in}
-use Rattle.sq_chunk.specs.ChunkValue.{ChunkValue}
-use Rattle.sq_model.proofs.Lists.{Contains-nothing, Contains-cases, found_in, map_in}
-use Rattle.sq_node_model.specs.declared.spot.Spot.{Spot}
-use Rattle.sq_node_model.specs.declared.spot.Spot.TheVariants.{Store, Chunk}
-use Rattle.sq_node_model.specs.FamiliesHold.{IsOf}
-use Rattle.sq_node_model.specs.Gathered.{GatheredLink, GatheredValue}
-use Rattle.sq_node_model.specs.Spots.{StandsAt}
-use Rattle.sq_node_model.proofs.Lists.{at_map}
-use Rattle.sq_node_model.proofs.Members.{Contains-map}
-use Rattle.sq_node_model.proofs.Stands.{of_some}
+use Rattle.sq_gather.specs.Prelude.{FamilyValue, StoreValue, family_in, families_in, HoldsByRoot, are_within, AreKeyed, roots_rise, ChunkValue, Spot, Store, Chunk, IsOf, GatheredLink, GatheredValue, StandsAt}
+use Rattle.sq_gather.proofs.Prelude.{is_below, first_rises, less_from_cmp, family_in-entries, sorted_is, rises, rising_in, Contains-nothing, Contains-cases, found_in, map_in, at_map, Contains-map, of_some}
 use Rattle.sq_audit.specs.declared.located.Located.{Located}
 use Rattle.sq_audit.specs.Located.{Entry, entry_of, entries_in, AreAllFamilies, AddsAll, AddsLink, ListsAll, ListsStored}
 use Rattle.sq_audit.proofs.Each.{same_of, no_some}

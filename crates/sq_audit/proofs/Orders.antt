@@ -8,12 +8,9 @@ use Rattle.std.specs.List.Sorted.{IsSortedByKey}
 use Rattle.std.proofs.lemmas.Bool.{cases_Bool, cases_lt, eq-eqb, ne_eqb}
 use Rattle.std.proofs.lemmas.List.Sorted.{ranks_by, sorted_far}
 use Rattle.std.proofs.lemmas.Option.{slice_get_within, get_or_from_slice_get}
-use Rattle.sq_store.proofs.Order.{cmp_less}
+use Rattle.sq_gather.proofs.Prelude.{cmp_less, at_map, stands_at, filter-first, filter-other}
 use Rattle.std.proofs.lemmas.List.{length-map, get_or-map}
-use Rattle.sq_node_model.proofs.Lists.{at_map, stands_at}
-use Rattle.sq_model.proofs.Lists.{filter-first, filter-other}
-use Rattle.sq_node_model.specs.NodeValue.{ReceiptValue}
-use Rattle.sq_node_model.specs.Receipts.{is_commit}
+use Rattle.sq_gather.specs.Prelude.{ReceiptValue, is_commit}
 use Rattle.sq_audit.specs.Told.{values_of, receipts_of, receipt_key, key_order, ReceiptKey, AreInOrder}
 
 is_equal : (o : Ordering) → is_eq o ≡ true → o ≡ Equal

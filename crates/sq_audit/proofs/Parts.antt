@@ -3,12 +3,8 @@ use Rattle.std.proofs.Common.{◌≡◌, inl, inr, ⊎_elim, ℕ, zero, suc, ◌
 use Rattle.std.specs.Prelude.{cond, count_by, position, is_some, not, nat_lt}
 use Rattle.std.specs.List.{prefix_len, list_any}
 use Rattle.std.proofs.lemmas.Bool.{cases_Bool, cases_lt, and_parts, and_from, lt-ltb, le-ltb}
-use Rattle.sq_ranges.specs.declared.recon.Link.{Link}
-use Rattle.sq_ranges.specs.ReconValue.{ReconValue, AreLinks, is_link, stage_on}
-use Rattle.sq_ranges.specs.OpeningValue.{OpeningValue}
-use Rattle.sq_model.proofs.Lists.{Contains-slice_get, slice_get-Contains, list_any-Contains, any_in}
-use Rattle.sq_node_model.specs.Stages.{is_link_in}
-use Rattle.sq_node_model.specs.Gathered.{GatheredLink, HasEachLink}
+use Rattle.sq_gather.specs.Prelude.{Link, ReconValue, AreLinks, is_link, stage_on, OpeningValue, is_link_in, GatheredLink, HasEachLink}
+use Rattle.sq_gather.proofs.Prelude.{Contains-slice_get, slice_get-Contains, list_any-Contains, any_in}
 use Rattle.sq_gather.specs.Gathered.{closed_ends}
 use Rattle.sq_audit.specs.Fits.{is_of_link, AreKnownLinks, HaveOneEach}
 use Rattle.sq_audit.proofs.Lists.{counted, count_parts, at_dropped}

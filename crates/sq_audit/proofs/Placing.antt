@@ -9,34 +9,14 @@ use Rattle.std.proofs.lemmas.Bool.Decides.{Decides-like}
 use Rattle.std.proofs.lemmas.List.Elements.{Contains-append_left, Contains-append_right, Contains-append_cases}
 use Rattle.std.proofs.lemmas.List.Sorted.{IsPermutation-sym, Contains-permutation}
 use Rattle.std.proofs.lemmas.Option.{same_Some, slice_get_within}
-use Rattle.sq_schema.specs.Family.{FamilyValue}
-use Rattle.sq_store.specs.StoreValue.{family_in}
-use Rattle.sq_chunk.specs.declared.chunk.Note.{Note}
-use Rattle.sq_chunk.specs.ChunkValue.{ChunkValue, covers}
-use Rattle.sq_ranges.specs.declared.recon.Range.{Range}
-use Rattle.sq_ranges.specs.OpeningValue.{OpeningValue}
-use Rattle.sq_model.specs.Links.{goes, is_on_link}
-use Rattle.sq_model.specs.Orderly.{AreDisjoint}
-use Rattle.sq_model.specs.Place.{Place, At, Under_way, loaded_place}
-use Rattle.sq_model.specs.Staged.{owner_in}
-use Rattle.sq_node_model.specs.Stages.{cut_place_in, runs_in}
-use Rattle.sq_model.proofs.Apart.{covers_bounds, cover_once}
-use Rattle.sq_model.proofs.Lists.{Contains-slice_get, slice_get-Contains, Contains-filter, kept_in, map_in, flat_map_in, found_in, not_found}
-use Rattle.sq_node_model.specs.declared.spot.Spot.{Spot}
-use Rattle.sq_node_model.specs.declared.spot.Spot.TheVariants.{Store, Chunk}
-use Rattle.sq_node_model.specs.Gathered.{GatheredLink, GatheredValue}
-use Rattle.sq_node_model.specs.Spots.{loaded_count, loads_of, cut_notes, loaded_notes, gathered_place, chunk_in, StandsAt, IsSpotOf}
-use Rattle.sq_node_model.specs.Placed.{HasEachPart}
-use Rattle.sq_node_model.proofs.Carried.{carried_covered}
-use Rattle.sq_node_model.proofs.Members.{Contains-map, Contains-unreversed}
-use Rattle.sq_node_model.proofs.Lists.{Contains-flat_map, at_map, at_reverse, same_from_end, some_found, none_found}
+use Rattle.sq_gather.specs.Prelude.{FamilyValue, family_in, Note, ChunkValue, covers, Range, OpeningValue, goes, is_on_link, AreDisjoint, Place, At, Under_way, loaded_place, owner_in, cut_place_in, runs_in, Spot, Store, Chunk, GatheredLink, GatheredValue, loaded_count, loads_of, cut_notes, loaded_notes, gathered_place, chunk_in, StandsAt, IsSpotOf, HasEachPart}
+use Rattle.sq_gather.proofs.Prelude.{covers_bounds, cover_once, Contains-slice_get, slice_get-Contains, Contains-filter, kept_in, map_in, flat_map_in, found_in, not_found, carried_covered, Contains-map, Contains-unreversed, Contains-flat_map, at_map, at_reverse, same_from_end, some_found, none_found, of_some}
 use Rattle.sq_audit.specs.Located.{Entry, ListsAll}
 use Rattle.sq_audit.specs.Notes.{LinksPlaced}
 use Rattle.sq_audit.specs.Spans.{Marked, has_keys, marked, notes_of, first_key, is_over, AreByKey, part_by, IsPlacedBy}
 use Rattle.sq_audit.specs.Fits.{ArePlaced}
 use Rattle.sq_audit.proofs.Lists.{taken_at, dropped_at, at_dropped}
 use Rattle.sq_audit.proofs.Parts.{at_taken}
-use Rattle.sq_node_model.proofs.Stands.{of_some}
 
 -- a note at its place of a link
 pub record IsNoteAt (g : GatheredValue) (i p : ℕ) (link : GatheredLink) (note : Note) : Type 0 where

@@ -8,9 +8,8 @@ use Rattle.std.proofs.lemmas.List.{take_more, map-append}
 use Rattle.std.proofs.lemmas.List.Sorted.{IsPartitionedBy-ltb, IsNonDecreasingBy-drop, sum_by-IsPermutation}
 use Rattle.std.proofs.lemmas.List.Sums.{take_while-cons}
 use Rattle.std.proofs.lemmas.Option.{slice_get_within, get_or_from_slice_get}
-use Rattle.sq_model.proofs.Lists.{Contains-first, Contains-slice_get, slice_get-Contains}
-use Rattle.sq_node_model.proofs.Lists.{stands_at}
-use Rattle.sq_node_model.specs.NodeValue.{ReceiptValue}
+use Rattle.sq_gather.proofs.Prelude.{Contains-first, Contains-slice_get, slice_get-Contains, stands_at}
+use Rattle.sq_gather.specs.Prelude.{ReceiptValue}
 use Rattle.sq_audit.specs.ById.{listed_id, AreById, is_id_and_root, id_and_root, ListsIds}
 use Rattle.sq_audit.specs.Counts.{has_id_and_root}
 use Rattle.sq_audit.proofs.Each.{no_some}

@@ -5,9 +5,7 @@ use Rattle.std.proofs.lemmas.Bool.{cases_lt, and_from, le-leb, lt-ltb, ltb-true,
 use Rattle.std.proofs.lemmas.List.{length-map, get_or-map, length-take-le}
 use Rattle.std.proofs.lemmas.List.Sorted.{IsPartitionedBy-leb}
 use Rattle.std.proofs.lemmas.Option.{slice_get_within, get_or_from_slice_get}
-use Rattle.sq_model.proofs.Apart.{covers_bounds}
-use Rattle.sq_model.proofs.Lists.{Contains-slice_get, slice_get-Contains}
-use Rattle.sq_node_model.proofs.Lists.{at_map, map_at, stands_at, some_found, none_found}
+use Rattle.sq_gather.proofs.Prelude.{covers_bounds, Contains-slice_get, slice_get-Contains, at_map, map_at, stands_at, some_found, none_found}
 use Rattle.sq_audit.specs.declared.spans.Span.{Span}
 use Rattle.sq_audit.specs.Spans.{Marked, marked_of, marked_in, first_key, is_over, AreByKey}
 use Rattle.sq_audit.proofs.Lists.{PartsAt, taken_at}

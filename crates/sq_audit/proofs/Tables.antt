@@ -3,12 +3,8 @@ use Rattle.std.proofs.Common.{◌≡◌, ⊎_elim, ℕ, ◌+◌, ◌<◌, ◌≤
 use Rattle.std.specs.Prelude.{◌≢◌}
 use Rattle.std.specs.FinMap.{get}
 use Rattle.std.proofs.lemmas.Bool.{cases_lt, cases_eq, and_from, le-leb, lt-ltb, le-ltb, ne_eqb}
-use Rattle.sq_schema.specs.Effect.{RowTable}
-use Rattle.sq_schema.specs.Family.{FamilyValue}
-use Rattle.sq_store.specs.StoreValue.{StoreValue}
-use Rattle.sq_store.specs.InOrder.{family_from, HoldsByRoot}
-use Rattle.sq_store.specs.First.{IsFirst}
-use Rattle.sq_store.proofs.Firsts.{first_is, first_none, none_between}
+use Rattle.sq_gather.specs.Prelude.{RowTable, FamilyValue, StoreValue, family_from, HoldsByRoot, IsFirst}
+use Rattle.sq_gather.proofs.Prelude.{first_is, first_none, none_between}
 use Rattle.sq_audit.specs.Rows.{rows_with, rows_beside}
 
 -- the rows of the families below a root key were added

@@ -7,13 +7,8 @@ use Rattle.std.specs.BTreeMap.{BTreeMap, get, Updates}
 use Rattle.std.proofs.lemmas.Bool.{cases_Bool, cond-true, cond-false}
 use Rattle.std.proofs.lemmas.List.{take_more, take-append-drop, reverse-append, length-reverse, length-take-le}
 use Rattle.std.proofs.lemmas.Option.{slice_get_within, get_or_from_slice_get}
-use Rattle.sq_chunk.specs.declared.chunk.Note.{Note}
-use Rattle.sq_ranges.specs.declared.recon.Extent.{Extent}
-use Rattle.sq_ranges.specs.OpeningValue.{OpeningValue}
-use Rattle.sq_model.specs.Place.{extent_of}
-use Rattle.sq_model.specs.Links.{is_about, has_last}
-use Rattle.sq_model.specs.Orderly.{AreNumbered, GoesOn, Tiles}
-use Rattle.sq_model.proofs.Tiles.{about_is}
+use Rattle.sq_gather.specs.Prelude.{Note, Extent, OpeningValue, extent_of, is_about, has_last, AreNumbered, GoesOn, Tiles}
+use Rattle.sq_gather.proofs.Prelude.{about_is}
 use Rattle.sq_audit.specs.Counts.{key_order}
 use Rattle.sq_audit.specs.Notes.{is_last_note, FollowsNewest}
 

@@ -2,8 +2,7 @@
 use Rattle.std.proofs.Common.{◌≡◌, ⊎_elim, ℕ, zero, suc, ◌+◌, ◌<◌, ◌≤◌, Bool, true, false, List, [], ◌∷◌, get_or, refl, sym, subst, arith}
 use Rattle.std.specs.Bool.{Decides}
 use Rattle.std.proofs.lemmas.Bool.{cases_lt}
-use Rattle.sq_ranges.specs.OpeningValue.{OpeningValue}
-use Rattle.sq_node_model.specs.Gathered.{GatheredValue}
+use Rattle.sq_gather.specs.Prelude.{OpeningValue, GatheredValue}
 use Rattle.sq_audit.specs.declared.job.Job.{Job}
 use Rattle.sq_audit.specs.declared.verdict.Defect.{Defect}
 use Rattle.sq_audit.specs.declared.verdict.Defect.TheVariants.{RootMissing, RootDoubled, BaseChanged, WrongPlace, ReceiptUnknown, Unanswered}

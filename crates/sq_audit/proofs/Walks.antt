@@ -7,13 +7,8 @@ use Rattle.std.proofs.lemmas.List.{take_all}
 use Rattle.std.proofs.lemmas.List.Sums.{count_by_more_yes, count_by_more_no, fold-append}
 use Rattle.std.proofs.lemmas.Option.{slice_get_within, get_or_from_slice_get}
 use Rattle.std.proofs.Math.Seq.{take-suc}
-use Rattle.sq_schema.specs.TxnValue.{TxnValue}
-use Rattle.sq_schema.specs.Effect.{RowList, effect, reply, replay_rows}
-use Rattle.sq_schema.specs.Family.{FamilyValue}
-use Rattle.sq_status.specs.View.{one_if}
-use Rattle.sq_model.proofs.Lists.{Contains-slice_get, slice_get-Contains}
-use Rattle.sq_node_model.specs.NodeValue.{ReceiptValue}
-use Rattle.sq_node_model.specs.Receipts.{is_commit}
+use Rattle.sq_gather.specs.Prelude.{TxnValue, RowList, effect, reply, replay_rows, FamilyValue, one_if, ReceiptValue, is_commit}
+use Rattle.sq_gather.proofs.Prelude.{Contains-slice_get, slice_get-Contains}
 use Rattle.sq_audit.specs.declared.job.Job.{Job}
 use Rattle.sq_audit.specs.Told.{IsAnswerOn, rows_then, AreInOrder, IsKnownOn, is_named, TellsLog}
 use Rattle.sq_audit.proofs.Each.{each_more}

@@ -3,9 +3,8 @@ use Rattle.std.proofs.Common.{◌≡◌, ⊎_elim, ℕ, ◌+◌, ◌-◌, ◌<�
 use Rattle.std.proofs.lemmas.Bool.{cases_lt}
 use Rattle.std.proofs.lemmas.List.{length-drop}
 use Rattle.std.proofs.lemmas.Option.{same_Some, slice_get_within}
-use Rattle.sq_chunk.specs.declared.chunk.Note.{Note}
-use Rattle.sq_chunk.specs.ChunkValue.{ChunkValue}
-use Rattle.sq_node_model.proofs.Lists.{at_map}
+use Rattle.sq_gather.specs.Prelude.{Note, ChunkValue}
+use Rattle.sq_gather.proofs.Prelude.{at_map}
 use Rattle.sq_audit.specs.Notes.{AreOfLast}
 use Rattle.sq_audit.proofs.Lists.{at_dropped}
 use Rattle.sq_audit.proofs.Each.{same_of}

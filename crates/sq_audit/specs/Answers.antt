@@ -1,14 +1,6 @@
 -- What receipts have to say of jobs, and of the logs of families.
 use Rattle.std.specs.Prelude.{◌≡◌, ◌≤◌, ◌⊎◌, ℕ, Bool, true, ◌==◌, ◌&&◌, List, length, take, slice_get, Some, count_by, Contains}
-use Rattle.sq_schema.specs.TxnValue.{TxnValue}
-use Rattle.sq_schema.specs.Effect.{replay_rows, reply}
-use Rattle.sq_schema.specs.Family.{FamilyValue}
-use Rattle.sq_store.specs.StoreValue.{absent}
-use Rattle.sq_node_model.specs.NodeValue.{ReceiptValue}
-use Rattle.sq_node_model.specs.Receipts.{is_commit}
-use Rattle.sq_node_model.specs.declared.spot.Spot.{Spot}
-use Rattle.sq_node_model.specs.Gathered.{GatheredValue}
-use Rattle.sq_node_model.specs.Spots.{StandsAt}
+use Rattle.sq_gather.specs.Prelude.{TxnValue, replay_rows, reply, FamilyValue, absent, ReceiptValue, is_commit, Spot, GatheredValue, StandsAt}
 use Rattle.sq_audit.specs.declared.job.Job.{Job}
 
 -- the receipt is what the transaction had to be answered at its position of the family's log, and a commit is there

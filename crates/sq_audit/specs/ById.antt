@@ -1,7 +1,7 @@
 -- Lists by id: of the ids and root keys of receipts, and of the ids and places of jobs.
 use Rattle.std.specs.Prelude.{ℕ, Bool, ◌==◌, ◌&&◌, nat_lt, List, map, count_by}
 use Rattle.std.specs.List.Sorted.{IsPermutation, IsNonDecreasingBy}
-use Rattle.sq_node_model.specs.NodeValue.{ReceiptValue}
+use Rattle.sq_gather.specs.Prelude.{ReceiptValue}
 use Rattle.sq_audit.specs.declared.job.Job.{Job}
 
 -- the id of what is listed

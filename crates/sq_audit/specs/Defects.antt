@@ -1,8 +1,6 @@
 -- The defects, each the failure of its clause, and the verdict: the first of them, or that there is none.
 use Rattle.std.specs.Prelude.{ℕ, ◌<◌, List}
-use Rattle.sq_ranges.specs.OpeningValue.{OpeningValue}
-use Rattle.sq_node_model.specs.Gathered.{GatheredValue}
-use Rattle.sq_node_model.specs.Placed.{FitTogether, StandOnce, AllStand, KeepBases, NameEach}
+use Rattle.sq_gather.specs.Prelude.{OpeningValue, GatheredValue, FitTogether, StandOnce, AllStand, KeepBases, NameEach}
 use Rattle.sq_audit.specs.declared.job.Job.{Job}
 use Rattle.sq_audit.specs.declared.verdict.Defect.{Defect}
 use Rattle.sq_audit.specs.declared.verdict.Defect.TheVariants.{RootMissing, RootDoubled, BaseChanged, WrongPlace, ReceiptUnknown, Unanswered}

@@ -1,12 +1,6 @@
 -- Which links are there, and whether all families are where they should be.
 use Rattle.std.specs.Prelude.{◌≡◌, ℕ, Bool, ◌==◌, ◌&&◌, List, count_by, Contains}
-use Rattle.sq_ranges.specs.declared.recon.Link.{Link}
-use Rattle.sq_ranges.specs.ReconValue.{ReconValue, stage_on}
-use Rattle.sq_schema.specs.Family.{FamilyValue}
-use Rattle.sq_ranges.specs.OpeningValue.{OpeningValue}
-use Rattle.sq_node_model.specs.declared.spot.Spot.{Spot}
-use Rattle.sq_node_model.specs.Gathered.{GatheredLink, GatheredValue}
-use Rattle.sq_node_model.specs.Spots.{gathered_place, StandsAt, IsSpotOf}
+use Rattle.sq_gather.specs.Prelude.{Link, ReconValue, stage_on, FamilyValue, OpeningValue, Spot, GatheredLink, GatheredValue, gathered_place, StandsAt, IsSpotOf}
 use Rattle.sq_gather.specs.Gathered.{closed_ends}
 
 -- what was gathered is of this link

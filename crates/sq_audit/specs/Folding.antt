@@ -1,13 +1,6 @@
 -- What is folded of what was gathered, once the jobs that have a receipt are found sound.
 use Rattle.std.specs.Prelude.{◌≡◌, ℕ, ◌≤◌, Bool, not, nat_lt, List, [], filter, count_by}
-use Rattle.sq_schema.specs.declared.root.TheConstants.{ROOT_END}
-use Rattle.sq_schema.specs.Table.{rows_in}
-use Rattle.sq_ranges.specs.OpeningValue.{OpeningValue}
-use Rattle.sq_node_model.specs.NodeValue.{ReceiptValue}
-use Rattle.sq_node_model.specs.Gathered.{GatheredValue}
-use Rattle.sq_node_model.specs.Placed.{IsPlaced}
-use Rattle.sq_node_model.specs.Next.{IsStageDone}
-use Rattle.sq_node_model.specs.Folded.{folded_opening, folded_gathered, IsFolded}
+use Rattle.sq_gather.specs.Prelude.{ROOT_END, rows_in, OpeningValue, ReceiptValue, GatheredValue, IsPlaced, IsStageDone, folded_opening, folded_gathered, IsFolded}
 use Rattle.sq_audit.specs.declared.job.Job.{Job}
 use Rattle.sq_audit.specs.declared.folded.Folded.{Folded}
 use Rattle.sq_audit.specs.declared.folded.Unfolded.{Unfolded}

@@ -1,8 +1,6 @@
 -- An index from keys to places in a list, and what holds of root keys and their families.
 use Rattle.std.specs.Prelude.{◌≡◌, ◌<◌, ℕ, List, slice_get, Some, Contains}
-use Rattle.sq_schema.specs.Effect.{RowList, RowTable}
-use Rattle.sq_schema.specs.Family.{FamilyValue}
-use Rattle.sq_schema.specs.Table.{TableValue}
+use Rattle.sq_gather.specs.Prelude.{RowList, RowTable, FamilyValue, TableValue}
 use Rattle.sq_audit.specs.Located.{Entry}
 use Rattle.sq_audit.specs.ById.{AreById}
 

@@ -1,15 +1,7 @@
 -- The families of what was gathered, each with where it is.
 use Rattle.std.specs.Prelude.{◌≡◌, ℕ, ◌+◌, ◌<◌, ◌≤◌, All, List, ◌++◌, map, slice_get, Option, Some, Contains}
-use Rattle.sq_schema.specs.Family.{FamilyValue}
-use Rattle.sq_schema.specs.declared.root.TheConstants.{ROOT_END}
-use Rattle.sq_store.specs.StoreValue.{StoreValue, family_in}
-use Rattle.sq_store.specs.InOrder.{family_from}
-use Rattle.sq_chunk.specs.ChunkValue.{ChunkValue}
-use Rattle.sq_node_model.specs.FamiliesHold.{IsOf}
-use Rattle.sq_node_model.specs.declared.spot.Spot.{Spot}
-use Rattle.sq_node_model.specs.declared.spot.Spot.TheVariants as spots
-use Rattle.sq_node_model.specs.Gathered.{GatheredLink, GatheredValue}
-use Rattle.sq_node_model.specs.Spots.{StandsAt}
+use Rattle.sq_gather.specs.Prelude.{FamilyValue, ROOT_END, StoreValue, family_in, family_from, ChunkValue, IsOf, Spot, GatheredLink, GatheredValue, StandsAt}
+use Rattle.sq_gather.specs.Prelude as spots
 use Rattle.sq_audit.specs.declared.located.Site.{Site}
 use Rattle.sq_audit.specs.declared.located.Site.TheVariants.{Store, Chunk}
 use Rattle.sq_audit.specs.declared.located.Located.{Located}

@@ -1,12 +1,6 @@
 -- What holds of the notes of links, and where a note continues the newest one of its node.
 use Rattle.std.specs.Prelude.{◌≡◌, ℕ, ◌≤◌, Bool, true, false, ◌==◌, ◌-◌, List, length, map, drop, slice_get, Option, Some, None, Contains}
-use Rattle.sq_chunk.specs.declared.chunk.Note.{Note}
-use Rattle.sq_chunk.specs.ChunkValue.{ChunkValue, are_within}
-use Rattle.sq_ranges.specs.declared.recon.Extent.{Extent}
-use Rattle.sq_ranges.specs.OpeningValue.{OpeningValue}
-use Rattle.sq_model.specs.Links.{end_of_note}
-use Rattle.sq_node_model.specs.Gathered.{GatheredLink, GatheredValue}
-use Rattle.sq_node_model.specs.Placed.{IsLinkNote, IsLinkPlaced}
+use Rattle.sq_gather.specs.Prelude.{Note, ChunkValue, are_within, Extent, OpeningValue, end_of_note, GatheredLink, GatheredValue, IsLinkNote, IsLinkPlaced}
 
 abbrev pub LinksPlaced : OpeningValue → GatheredValue → Type 0
 LinksPlaced o g = (i : ℕ) (link : GatheredLink) → slice_get g.links i ≡ Some link → IsLinkPlaced o g link

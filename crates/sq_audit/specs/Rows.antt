@@ -1,9 +1,7 @@
 -- The rows of the families of stores, by root key.
 use Rattle.std.specs.Prelude.{ℕ, ◌==◌, if◌then◌else◌, List, length, fold, Option, Some, None}
 use Rattle.std.specs.FinMap.{get}
-use Rattle.sq_schema.specs.Effect.{RowList, RowTable}
-use Rattle.sq_schema.specs.Family.{FamilyValue, rows_of}
-use Rattle.sq_store.specs.StoreValue.{StoreValue}
+use Rattle.sq_gather.specs.Prelude.{RowList, RowTable, FamilyValue, rows_of, StoreValue}
 
 -- these rows, or the family's in their place where there is one with rows
 abbrev pub rows_with : RowList → Option FamilyValue → RowList

@@ -1,8 +1,6 @@
 -- When what was gathered of a run is sound.
 use Rattle.std.specs.Prelude.{List}
-use Rattle.sq_ranges.specs.OpeningValue.{OpeningValue}
-use Rattle.sq_node_model.specs.Gathered.{GatheredValue}
-use Rattle.sq_node_model.specs.Placed.{IsPlaced}
+use Rattle.sq_gather.specs.Prelude.{OpeningValue, GatheredValue, IsPlaced}
 use Rattle.sq_audit.specs.declared.job.Job.{Job}
 use Rattle.sq_audit.specs.Answers.{AreKnown, AreAnswered}
 

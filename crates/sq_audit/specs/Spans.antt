@@ -1,14 +1,7 @@
 -- The keys that notes cover, and where the notes place them.
 use Rattle.std.specs.Prelude.{◌≡◌, ℕ, Bool, true, false, nat_lt, if◌then◌else◌, List, ◌++◌, map, filter, find, drop, Option, Some, None, Contains}
 use Rattle.std.specs.List.Sorted.{IsNonDecreasingBy}
-use Rattle.sq_chunk.specs.declared.chunk.Note.{Note}
-use Rattle.sq_chunk.specs.ChunkValue.{covers}
-use Rattle.sq_ranges.specs.OpeningValue.{OpeningValue}
-use Rattle.sq_model.specs.Staged.{owner_in}
-use Rattle.sq_node_model.specs.declared.spot.Spot.{Spot}
-use Rattle.sq_node_model.specs.declared.spot.Spot.TheVariants.{Store, Chunk}
-use Rattle.sq_node_model.specs.Gathered.{GatheredLink}
-use Rattle.sq_node_model.specs.Spots.{loaded_count, loads_of}
+use Rattle.sq_gather.specs.Prelude.{Note, covers, OpeningValue, owner_in, Spot, Store, Chunk, GatheredLink, loaded_count, loads_of}
 use Rattle.sq_audit.specs.declared.spans.Span.{Span}
 use Rattle.sq_audit.specs.Located.{Entry}
 

@@ -1,12 +1,7 @@
 -- What holds of the statuses of trees.
 use Rattle.std.specs.Prelude.{◌≡◌, ℕ, true, false}
 use Rattle.std.specs.BTreeSet.{BTreeSet, contains}
-use Rattle.sq_tree.specs.declared.status.Status.{Status}
-use Rattle.sq_tree.specs.Node.{is_leaf}
-use Rattle.sq_tree.specs.Status.{is_free, is_split, is_live, is_complete}
-use Rattle.sq_model.specs.Links.{has_last}
-use Rattle.sq_node_model.specs.Gathered.{GatheredValue}
-use Rattle.sq_node_model.specs.Spots.{gathered_status, loaded_notes}
+use Rattle.sq_gather.specs.Prelude.{Status, is_leaf, is_free, is_split, is_live, is_complete, has_last, GatheredValue, gathered_status, loaded_notes}
 use Rattle.sq_audit.specs.Counts.{key_order}
 
 -- what a tree that grew has at a node: if it isn't free it is live, and a leaf isn't split

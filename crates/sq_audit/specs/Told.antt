@@ -4,12 +4,7 @@ use Rattle.std.specs.Option.{option_map_or}
 use Rattle.std.specs.declared.cmp.Ordering.{Ordering}
 use Rattle.std.specs.Ordering.{nat_cmp, bool_cmp, ordering_then}
 use Rattle.std.specs.Borrow.{Bor}
-use Rattle.sq_schema.specs.TxnValue.{TxnValue}
-use Rattle.sq_schema.specs.Effect.{RowList, effect, reply}
-use Rattle.sq_schema.specs.Family.{FamilyValue}
-use Rattle.sq_status.specs.View.{one_if}
-use Rattle.sq_node_model.specs.NodeValue.{ReceiptValue}
-use Rattle.sq_node_model.specs.Receipts.{is_commit}
+use Rattle.sq_gather.specs.Prelude.{TxnValue, RowList, effect, reply, FamilyValue, one_if, ReceiptValue, is_commit}
 use Rattle.sq_audit.specs.declared.job.Job.{Job}
 use Rattle.sq_audit.specs.Answers.{is_of, IsAnswerTo}
 use Rattle.sq_audit.specs.Located.{Entry}

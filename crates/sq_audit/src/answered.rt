@@ -6,7 +6,7 @@ ghost use Rattle.sq_audit.specs.ById.{AreById, ListsIds, is_id_and_root, is_list
 ghost use Rattle.sq_audit.specs.Folding.{answered_jobs};
 
 use crate::job::Job;
-use sq_node::Receipt;
+use sq_gather::Receipt;
 use std::alloc::{AllocError, Global};
 
 /// Whether each job has one receipt.

@@ -7,8 +7,7 @@ ghost use Rattle.sq_audit.specs.Index.{IsIndexOf};
 ghost use Rattle.sq_audit.specs.Told.{id_of, IsOneJob};
 
 use crate::job::Job;
-use sq_node::Receipt;
-use sq_schema::Txn;
+use sq_gather::{Receipt, Txn};
 use std::alloc::{AllocError, Global};
 
 /// The ids of the jobs with their places, by id.

@@ -1,8 +1,7 @@
 // Whether all parts of what was gathered are there and fit together.
 ghost use Rattle.std.specs.Prelude.{◌≡◌, count_by, IfOk};
 ghost use Rattle.std.specs.Bool.{Decides};
-ghost use Rattle.sq_ranges.specs.Prelude.{IsOpening};
-ghost use Rattle.sq_node_model.specs.Prelude.{HasEachPart, FitTogether};
+ghost use Rattle.sq_gather.specs.Prelude.{IsOpening, HasEachPart, FitTogether};
 ghost use Rattle.sq_audit.specs.Located.{entries_in, ListsAll};
 ghost use Rattle.sq_audit.specs.Fits.{is_of_link, AreKnownLinks, HasOne, HaveOneEach};
 
@@ -10,8 +9,7 @@ use crate::located::Located;
 use crate::notes::links_fit;
 use crate::placed::are_placed;
 use crate::statuses::{are_complete, have_grown};
-use sq_gather::{ClosedLink, Gathered};
-use sq_ranges::{Link, Opening, Recon};
+use sq_gather::{ClosedLink, Gathered, Link, Opening, Recon};
 use std::alloc::{AllocError, Global};
 
 /// Whether all parts of what was gathered are there and fit together, where these are all families.

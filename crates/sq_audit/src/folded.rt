@@ -1,8 +1,7 @@
 // What is folded of what was gathered, and why nothing is.
 use crate::job::Job;
 use crate::verdict::Defect;
-use sq_gather::Gathered;
-use sq_ranges::Opening;
+use sq_gather::{Gathered, Opening};
 
 /// What was gathered of a stage, once the logs of its families are folded.
 #[derive(Drop)]

@@ -1,10 +1,6 @@
 // Folding the logs of what was gathered into the bases of its families.
 ghost use Rattle.std.specs.Prelude.{◌≡◌, ℕ, ◌≤◌, [], map, filter, not, IfOk, IfErr};
-ghost use Rattle.sq_schema.specs.declared.root.TheConstants.{ROOT_END};
-ghost use Rattle.sq_schema.specs.Prelude.{rows_in};
-ghost use Rattle.sq_ranges.specs.Prelude.{IsSetUp};
-ghost use Rattle.sq_store.specs.Prelude.{folded_store};
-ghost use Rattle.sq_node_model.specs.Prelude.{IsStageDone, folded_opening, folded_gathered};
+ghost use Rattle.sq_gather.specs.Prelude.{ROOT_END, rows_in, IsSetUp, folded_store, IsStageDone, folded_opening, folded_gathered};
 ghost use Rattle.sq_audit.specs.Answers.{IdsDiffer};
 ghost use Rattle.sq_audit.specs.ById.{AreById, is_listed};
 ghost use Rattle.sq_audit.specs.Folding.{IsPrepared, IsFold, IsUnfolded};
@@ -15,11 +11,7 @@ use crate::job::Job;
 use crate::passes::audit;
 use crate::table::table_of;
 use crate::verdict::{Defect, Verdict};
-use sq_gather::Gathered;
-use sq_ranges::Opening;
-use sq_runs::RunStore;
-use sq_schema::Table;
-use sq_store::FamilyStore;
+use sq_gather::{FamilyStore, Gathered, Opening, RunStore, Table};
 use std::alloc::{AllocError, Global};
 use std::thread::Threads;
 

@@ -2,13 +2,13 @@
 // family starts from its opening rows.
 ghost use Rattle.std.specs.Prelude.{◌≡◌, nat_lt, IfOk};
 ghost use Rattle.std.specs.Bool.{Decides};
-ghost use Rattle.sq_schema.specs.Prelude.{rows_in};
+ghost use Rattle.sq_gather.specs.Prelude.{rows_in};
 ghost use Rattle.sq_audit.specs.Located.{entry_of, entries_in, AreByRoot};
 ghost use Rattle.sq_audit.specs.Index.{HasFamily, HaveFamilies, Agree, AgreeOnSpots, StartsFrom, StartFrom};
 
 use crate::in_threads::{all_hold, part_size};
 use crate::located::Located;
-use sq_schema::{Family, Root, Table};
+use sq_gather::{Family, Root, Table};
 use std::alloc::{AllocError, Global};
 use std::thread;
 use std::thread::Threads;

@@ -1,6 +1,5 @@
 // Jobs.
-use sq_plan::PartId;
-use sq_schema::Txn;
+use sq_gather::{PartId, Txn};
 
 /// A job: a transaction, and where it was posted.
 #[derive(Debug, Drop)]

@@ -1,8 +1,7 @@
 //! What follows from the definitions. The functions do nothing: each states a law, which the checker proves.
 ghost use Rattle.std.specs.Prelude.{◌≡◌, ◌↔◌, true, List, is_some};
 ghost use Rattle.sq_explain.specs.Meanings.{meaning_of};
-ghost use Rattle.sq_ranges.specs.Prelude.{OpeningValue};
-ghost use Rattle.sq_node_model.specs.Prelude.{GatheredValue, IsPlaced};
+ghost use Rattle.sq_gather.specs.Prelude.{OpeningValue, GatheredValue, IsPlaced};
 ghost use Rattle.sq_audit.specs.declared.job.Job.{Job};
 ghost use Rattle.sq_audit.specs.declared.verdict.Defect.{Defect};
 ghost use Rattle.sq_audit.specs.declared.verdict.Verdict.{Verdict};

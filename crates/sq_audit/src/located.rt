@@ -1,14 +1,10 @@
 // The families of what was gathered, each with where it is.
 ghost use Rattle.std.specs.Prelude.{◌≡◌, ◌++◌, ◌∷◌, [], List, map, IfOk, OnOk};
 ghost use Rattle.std.specs.FinMap.{get};
-ghost use Rattle.sq_schema.specs.Prelude.{FamilyValue};
-ghost use Rattle.sq_store.specs.Prelude.{family_in};
+ghost use Rattle.sq_gather.specs.Prelude.{FamilyValue, family_in};
 ghost use Rattle.sq_audit.specs.Located.{spot_of, entries_in, ListsAll, ListsStored, AreByRoot, AddsAll, AddsLink};
 
-use sq_chunk::Chunk;
-use sq_gather::{ClosedLink, Gathered};
-use sq_runs::RunStore;
-use sq_schema::Family;
+use sq_gather::{Chunk, ClosedLink, Family, Gathered, RunStore};
 use std::alloc::{AllocError, Global};
 
 /// Where a family is: in a store or in a chunk, by their places from 0.

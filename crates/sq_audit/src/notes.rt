@@ -2,17 +2,13 @@
 ghost use Rattle.std.specs.Prelude.{◌≡◌, [], true, reverse, slice_index_or, IsTrue, IfOk};
 ghost use Rattle.std.specs.Option.{option_copied};
 ghost use Rattle.std.specs.Bool.{Decides};
-ghost use Rattle.sq_tree.specs.Prelude.{is_node, is_begun, status_at};
-ghost use Rattle.sq_model.specs.Prelude.{goes, AreNumbered};
-ghost use Rattle.sq_node_model.specs.Prelude.{IsLinkNote, IsLinkPlaced};
+ghost use Rattle.sq_gather.specs.Prelude.{is_node, is_begun, status_at, goes, AreNumbered, IsLinkNote, IsLinkPlaced};
 ghost use Rattle.sq_audit.specs.Notes.{LinksPlaced, AreOfLast, HoldTheirKeys, AreLinkNotes};
 
 use crate::tiles::tile;
-use sq_chunk::{Chunk, Note};
-use sq_gather::{ClosedLink, Gathered};
-use sq_plan::PartId;
-use sq_ranges::{Opening, Range, SegId};
-use sq_tree::{NODES, NodeId, Status};
+use sq_gather::{
+    Chunk, ClosedLink, Gathered, NODES, NodeId, Note, Opening, PartId, Range, SegId, Status,
+};
 use std::alloc::{AllocError, Global};
 
 /// Whether the notes of each link are numbered from 0, are about begun nodes of the link's segments and tile them, and

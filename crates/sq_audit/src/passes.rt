@@ -12,8 +12,7 @@ use crate::job::Job;
 use crate::located::{Located, locate};
 use crate::told::are_known;
 use crate::verdict::{ALL_DEFECTS, Defect, Verdict};
-use sq_gather::Gathered;
-use sq_ranges::Opening;
+use sq_gather::{Gathered, Opening};
 use std::alloc::{AllocError, Global};
 use std::thread::Threads;
 

@@ -1,8 +1,7 @@
 // Whether each family is where the notes place its root key.
 ghost use Rattle.std.specs.Prelude.{◌≡◌, ℕ, find, IfOk, Some, slice_get};
 ghost use Rattle.std.specs.Bool.{Decides};
-ghost use Rattle.sq_model.specs.Prelude.{AreDisjoint};
-ghost use Rattle.sq_node_model.specs.Prelude.{cut_notes, HasEachPart};
+ghost use Rattle.sq_gather.specs.Prelude.{AreDisjoint, cut_notes, HasEachPart};
 ghost use Rattle.sq_audit.specs.Notes.{LinksPlaced};
 ghost use Rattle.sq_audit.specs.Located.{entry_of, entries_in, ListsAll};
 ghost use Rattle.sq_audit.specs.Spans.{marked_in, AreByKey, IsPlacedBy};
@@ -10,8 +9,7 @@ ghost use Rattle.sq_audit.specs.Fits.{ArePlaced};
 
 use crate::located::{Located, Site};
 use crate::spans::{Span, by_key, part_of};
-use sq_gather::Gathered;
-use sq_ranges::Opening;
+use sq_gather::{Gathered, Opening};
 use std::alloc::{AllocError, Global};
 
 /// Whether each of all families is where the notes of links that are placed, which share no key, place its root key.

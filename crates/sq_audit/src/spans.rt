@@ -3,15 +3,10 @@ ghost use Rattle.std.specs.Prelude.{◌≡◌, ◌≤◌, ◌++◌, nat_le, leng
 ghost use Rattle.std.specs.Option.{option_map};
 ghost use Rattle.std.specs.List.{flat_map};
 ghost use Rattle.std.specs.List.Sorted.{IsPermutation, IsNonDecreasingBy};
-ghost use Rattle.sq_model.specs.Prelude.{owner_in};
-ghost use Rattle.sq_node_model.specs.Prelude.{loads_of, loaded_count};
+ghost use Rattle.sq_gather.specs.Prelude.{owner_in, loads_of, loaded_count};
 ghost use Rattle.sq_audit.specs.Spans.{marked_of, marked_in, marked, notes_of, first_key, is_over, AreByKey, part_by};
 
-use sq_chunk::Note;
-use sq_gather::ClosedLink;
-use sq_plan::PartId;
-use sq_ranges::Opening;
-use sq_schema::Root;
+use sq_gather::{ClosedLink, Note, Opening, PartId, Root};
 use std::alloc::{AllocError, Global};
 
 /// A note that covers keys, and whether its chunk was loaded.

@@ -4,16 +4,12 @@ ghost use Rattle.std.specs.Prelude.{◌≡◌, ℕ, ◌||◌, IfOk, OnOk};
 ghost use Rattle.std.specs.List.{flat_map};
 ghost use Rattle.std.specs.Bool.{Decides};
 ghost use Rattle.std.specs.BTreeSet.{contains};
-ghost use Rattle.sq_tree.specs.Prelude.{is_live, status_at, IsGrown};
-ghost use Rattle.sq_model.specs.Prelude.{has_last};
-ghost use Rattle.sq_node_model.specs.Prelude.{loads_of, AllGrown};
+ghost use Rattle.sq_gather.specs.Prelude.{is_live, status_at, IsGrown, has_last, loads_of, AllGrown};
 ghost use Rattle.sq_audit.specs.Counts.{key_order};
 ghost use Rattle.sq_audit.specs.Statuses.{IsGrownAt, CompleteAreLoaded, AreEnded, IsEnded};
 
 use crate::spans::loads;
-use sq_chunk::Note;
-use sq_gather::{ClosedLink, Gathered};
-use sq_tree::{NODES, NodeId, Status};
+use sq_gather::{ClosedLink, Gathered, NODES, NodeId, Note, Status};
 use std::alloc::{AllocError, Global};
 use std::collections::BTreeSet;
 

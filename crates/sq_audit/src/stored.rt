@@ -1,11 +1,9 @@
 // The families of a store, one after another.
 ghost use Rattle.std.specs.Prelude.{◌≡◌, None, IfSome, IfNone};
-ghost use Rattle.sq_store.specs.Prelude.{HoldsByRoot, family_from};
+ghost use Rattle.sq_gather.specs.Prelude.{HoldsByRoot, family_from};
 ghost use Rattle.sq_audit.specs.Located.{IsNextFamily};
 
-use sq_runs::RunStore;
-use sq_schema::Family;
-use sq_store::FamilyStore;
+use sq_gather::{Family, FamilyStore, RunStore};
 
 /// The family of a store with the least root key from this number on, and the number behind its root key.
 pub(crate) fn next_family(store: &RunStore, at: u64) -> Option<(&Family, u64)>

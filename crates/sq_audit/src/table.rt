@@ -1,13 +1,11 @@
 // The table of the rows that families have.
 ghost use Rattle.std.specs.Prelude.{◌≡◌, ℕ, ◌≤◌, [], IfOk, OnOk};
 ghost use Rattle.std.specs.FinMap.{get};
-ghost use Rattle.sq_schema.specs.declared.root.TheConstants.{ROOT_END};
-ghost use Rattle.sq_schema.specs.Prelude.{rows_in};
+ghost use Rattle.sq_gather.specs.Prelude.{ROOT_END, rows_in};
 ghost use Rattle.sq_audit.specs.Rows.{rows_with, rows_beside, rows_among};
 
 use crate::stored::next_family;
-use sq_runs::RunStore;
-use sq_schema::{Family, Table};
+use sq_gather::{Family, RunStore, Table};
 use std::alloc::{AllocError, Global};
 
 /// The table of the rows that the families of these stores have.

@@ -1,12 +1,10 @@
 // Whether notes tile the nodes that they are about.
 ghost use Rattle.std.specs.Prelude.{◌≡◌, reverse, slice_get, IfOk};
 ghost use Rattle.std.specs.Bool.{Decides};
-ghost use Rattle.sq_model.specs.Prelude.{extent_in, Tiles};
+ghost use Rattle.sq_gather.specs.Prelude.{extent_in, Tiles};
 ghost use Rattle.sq_audit.specs.Notes.{FollowsNewest, IsPart};
 
-use sq_chunk::Note;
-use sq_ranges::{Extent, Opening, Recon, SegId};
-use sq_tree::NodeId;
+use sq_gather::{Extent, NodeId, Note, Opening, Recon, SegId};
 use std::alloc::{AllocError, Global};
 use std::collections::BTreeMap;
 

@@ -2,7 +2,7 @@
 ghost use Rattle.std.specs.Prelude.{◌≡◌, ℕ, ◌<◌, ◌≤◌, [], true, length, slice_get, Some, option_copied, IfOk};
 ghost use Rattle.std.specs.Bool.{Decides};
 ghost use Rattle.std.specs.List.Sorted.{IsPermutation, IsSortedByKey};
-ghost use Rattle.sq_node_model.specs.Prelude.{ReceiptValue, is_commit};
+ghost use Rattle.sq_gather.specs.Prelude.{ReceiptValue, is_commit};
 ghost use Rattle.sq_audit.specs.Answers.{IdsDiffer};
 ghost use Rattle.sq_audit.specs.Located.{entries_in, AreByRoot};
 ghost use Rattle.sq_audit.specs.Index.{IsIndexOf};
@@ -13,8 +13,7 @@ use crate::in_threads::{all_hold, part_size};
 use crate::index::has_family;
 use crate::job::Job;
 use crate::located::Located;
-use sq_node::Receipt;
-use sq_schema::{Family, Reply, Rows, Txn};
+use sq_gather::{Family, Receipt, Reply, Rows, Txn};
 use std::alloc::{AllocError, Global};
 use std::thread;
 use std::thread::Threads;

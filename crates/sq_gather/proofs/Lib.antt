@@ -15,3 +15,5 @@ pub mod Putting
 pub mod Waits
 pub mod Whole
 pub mod Workers
+pub mod Prelude
+pub use Rattle.sq_store.proofs.Given as StoreGiven

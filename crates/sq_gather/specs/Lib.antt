@@ -5,3 +5,4 @@ pub mod LinkEnds
 pub mod Links
 pub mod Reopened
 pub mod Trees
+pub mod Prelude

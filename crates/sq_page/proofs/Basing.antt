@@ -3,13 +3,9 @@ use Rattle.std.proofs.Common.{◌≡◌, ◌⊎◌, inl, inr, ℕ, zero, suc, �
 use Rattle.std.specs.Prelude.{fold, option_and_then}
 use Rattle.std.specs.FinMap.{get}
 use Rattle.std.proofs.lemmas.Bool.{ne_eqb}
-use Rattle.sq_schema.specs.Effect.{RowList, RowTable}
-use Rattle.sq_schema.specs.Family.{FamilyValue}
-use Rattle.sq_store.specs.StoreValue.{StoreValue, family_in, roots_differ}
-use Rattle.sq_store.specs.InOrder.{families_in, HoldsByRoot}
-use Rattle.sq_store.proofs.Given.{FirstDiffers, names, none_found, first_differs}
-use Rattle.sq_store.proofs.Order.{rising_differ}
-use Rattle.sq_store.proofs.Firsts.{rising_in}
+use Rattle.sq_gather.specs.Prelude.{RowList, RowTable, FamilyValue, StoreValue, family_in, roots_differ, families_in, HoldsByRoot}
+use Rattle.sq_gather.proofs.Prelude.{FirstDiffers, names, first_differs, rising_differ, rising_in}
+use Rattle.sq_gather.proofs.StoreGiven.{none_found}
 use Rattle.sq_page.specs.Bases.{base_or, base_beside, bases_among}
 use Rattle.sq_page.proofs.Copying.{found_stored}
 

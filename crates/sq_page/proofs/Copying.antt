@@ -7,13 +7,9 @@ use Rattle.std.proofs.lemmas.Bool.{and_from}
 use Rattle.std.specs.declared.alloc.AllocError.{AllocError}
 use Rattle.std.proofs.lemmas.List.{length-map, get_or-map}
 use Rattle.std.proofs.lemmas.Option.{slice_get_within, slice_get-get_or}
-use Rattle.sq_schema.specs.Family.{FamilyValue}
-use Rattle.sq_store.specs.StoreValue.{StoreValue, family_in, with_families, roots_differ, has_none_of}
-use Rattle.sq_store.specs.InOrder.{families_in, HoldsByRoot}
-use Rattle.sq_store.proofs.Given.{FirstDiffers, names, none_found, first_differs, get-with_new, or_false}
-use Rattle.sq_store.proofs.Order.{rising_differ}
-use Rattle.sq_store.proofs.Firsts.{rising_in}
-use Rattle.sq_store.proofs.Between.{family_in-entries, sorted_is}
+use Rattle.sq_gather.specs.Prelude.{FamilyValue, StoreValue, family_in, with_families, roots_differ, has_none_of, families_in, HoldsByRoot}
+use Rattle.sq_gather.proofs.Prelude.{FirstDiffers, names, first_differs, get-with_new, or_false, rising_differ, rising_in, family_in-entries, sorted_is}
+use Rattle.sq_gather.proofs.StoreGiven.{none_found}
 use Rattle.sq_page.specs.Copies.{is_wanted, wanted_of, IsCopyOf, IsCopyAt, AreCopiesOf}
 
 -- some of families whose root keys differ have root keys that differ

@@ -5,12 +5,8 @@ use Rattle.std.specs.Ordering.{nat_cmp}
 use Rattle.std.specs.FinMap.{get, empty, get-empty}
 use Rattle.std.proofs.lemmas.Bool.{cases_eq, ne_eqb}
 use Rattle.std.proofs.lemmas.Option.{slice_get_within}
-use Rattle.sq_schema.specs.Family.{FamilyValue}
-use Rattle.sq_plan.specs.PlanValue.{PlanValue}
-use Rattle.sq_store.specs.StoreValue.{StoreValue}
-use Rattle.sq_node_model.specs.NodeValue.{ReceiptValue}
-use Rattle.sq_node_model.specs.Gathered.{GatheredValue}
-use Rattle.sq_node_model.proofs.Stands.{of_some}
+use Rattle.sq_gather.specs.Prelude.{FamilyValue, PlanValue, StoreValue, ReceiptValue, GatheredValue}
+use Rattle.sq_gather.proofs.Prelude.{of_some}
 use Rattle.sq_audit.specs.declared.job.Job.{Job}
 use Rattle.sq_page.specs.declared.page.Page.{Page}
 use Rattle.sq_page.specs.Parts.{jobs_of}

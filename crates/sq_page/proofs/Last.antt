@@ -1,14 +1,8 @@
 -- After the last stage of a move each root key is at its owner by the new plan.
 use Rattle.std.proofs.Common.{◌≡◌, ℕ, ◌<◌, true, Option, Some, None, refl, sym, ap, ◌∙◌, subst}
 use Rattle.std.proofs.lemmas.Bool.{lt-ltb}
-use Rattle.sq_ranges.specs.ReconValue.{segment_of, is_link, stages}
-use Rattle.sq_ranges.specs.OpeningValue.{OpeningValue}
-use Rattle.sq_ranges.specs.Opening.{IsOpening}
-use Rattle.sq_ranges.proofs.Stages.{stage_below}
-use Rattle.sq_model.specs.Place.{source, destination}
-use Rattle.sq_model.specs.Staged.{owner_in}
-use Rattle.sq_model.proofs.Keys.{found_in_segment, unfound_stays, linked}
-use Rattle.sq_node_model.proofs.Staged.{key_stage, moved_source, staying_source}
+use Rattle.sq_gather.specs.Prelude.{segment_of, is_link, stages, OpeningValue, IsOpening, source, destination, owner_in}
+use Rattle.sq_gather.proofs.Prelude.{stage_below, found_in_segment, unfound_stays, linked, key_stage, moved_source, staying_source}
 
 pub owner_last : (o : OpeningValue) → IsOpening o → (i root : ℕ) → i ≡ stages o.recon → owner_in o i root ≡ destination o root
 owner_last o is i root last = by (segment_of o.recon.segments root) refl

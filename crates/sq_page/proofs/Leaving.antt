@@ -8,25 +8,9 @@ use Rattle.std.specs.FinMap.{get, entries, get-entries}
 use Rattle.std.specs.FinMap.Entries.{find}
 use Rattle.std.proofs.lemmas.List.{length-map}
 use Rattle.std.proofs.lemmas.Option.{slice_get-map, none-some}
-use Rattle.sq_schema.specs.Effect.{RowList}
-use Rattle.sq_schema.specs.Family.{FamilyValue, rows_of}
-use Rattle.sq_schema.specs.Table.{TableValue, rows_in}
-use Rattle.sq_store.specs.StoreValue.{StoreValue, fold_of, folded_store}
-use Rattle.sq_ranges.specs.OpeningValue.{OpeningValue}
-use Rattle.sq_ranges.specs.Opening.{IsOpening}
-use Rattle.sq_model.specs.Staged.{owner_in}
-use Rattle.sq_node_model.specs.BeganWith.{is_opened}
-use Rattle.sq_node_model.specs.declared.spot.Spot.{Spot}
-use Rattle.sq_node_model.specs.declared.spot.Spot.TheVariants.{Store, Chunk}
-use Rattle.sq_node_model.specs.Gathered.{GatheredValue}
-use Rattle.sq_node_model.specs.Spots.{StandsAt}
-use Rattle.sq_node_model.specs.Placed.{IsPlaced}
-use Rattle.sq_node_model.specs.Next.{IsStageDone}
-use Rattle.sq_node_model.specs.Folded.{folded_family, IsFolded}
-use Rattle.sq_node_model.proofs.Next.{stands_next}
-use Rattle.sq_node_model.proofs.Folded.{folded_placed, folded_done}
+use Rattle.sq_gather.specs.Prelude.{RowList, FamilyValue, rows_of, TableValue, rows_in, StoreValue, fold_of, folded_store, OpeningValue, IsOpening, owner_in, is_opened, Spot, Store, Chunk, GatheredValue, StandsAt, IsPlaced, IsStageDone, folded_family, IsFolded}
+use Rattle.sq_gather.proofs.Prelude.{stands_next, folded_placed, folded_done, get-folded}
 use Rattle.sq_page.specs.Pages.{AllStored, rows_stored, left_opening, left_gathered}
-use Rattle.sq_store.proofs.Folds.{get-folded}
 use Rattle.sq_page.proofs.Basing.{HasIn}
 
 -- a family of a folded store is the folded one of the store

@@ -3,7 +3,7 @@ use Rattle.std.proofs.Common.{◌≡◌, ⊎_elim, ℕ, zero, suc, ◌+◌, ◌<
 use Rattle.std.proofs.lemmas.Bool.{lt-ltb, le-ltb, cases_lt}
 use Rattle.std.proofs.lemmas.List.{take_more}
 use Rattle.std.proofs.lemmas.List.Elements.{Contains-append_left, Contains-append_cases}
-use Rattle.sq_model.proofs.Lists.{Contains-nothing, Contains-cases, Contains-slice_get}
+use Rattle.sq_gather.proofs.Prelude.{Contains-nothing, Contains-cases, Contains-slice_get}
 use Rattle.sq_audit.specs.declared.verdict.Verdict.{Verdict}
 use Rattle.sq_audit.specs.declared.verdict.Verdict.TheVariants.{Sound, Unsound}
 use Rattle.sq_audit.specs.Defects.{defect_number}

@@ -8,9 +8,8 @@ use Rattle.std.proofs.lemmas.Bool.{cases_lt, eqb-true, eq-eqb}
 use Rattle.std.proofs.lemmas.List.Sorted.{searched, Contains-permutation}
 use Rattle.std.proofs.lemmas.List.{map-append, take_more}
 use Rattle.std.proofs.lemmas.Option.{slice_get-get_or, slice_get_within, get_or_from_slice_get}
-use Rattle.sq_model.proofs.Lists.{Contains-slice_get, slice_get-Contains, list_any-Contains, any_in}
-use Rattle.sq_node_model.specs.NodeValue.{ReceiptValue}
-use Rattle.sq_node_model.proofs.Members.{Contains-map}
+use Rattle.sq_gather.proofs.Prelude.{Contains-slice_get, slice_get-Contains, list_any-Contains, any_in, Contains-map}
+use Rattle.sq_gather.specs.Prelude.{ReceiptValue}
 use Rattle.sq_page.specs.Named.{is_root_named, AreNamed}
 
 module _ (numbers : List ℕ) (root : ℕ) (rising : IsNonDecreasing numbers) where

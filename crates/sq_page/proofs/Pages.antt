@@ -1,15 +1,6 @@
 -- The audit's verdict on a page is the one on the run that the page was taken of.
 use Rattle.std.proofs.Common.{◌≡◌, inl, inr, ◌+◌, lit≤, List, Contains, sym, ap, ◌∙◌, subst}
-use Rattle.sq_schema.specs.Family.{FamilyValue}
-use Rattle.sq_plan.specs.PlanValue.{PlanValue}
-use Rattle.sq_ranges.specs.ReconValue.{stages}
-use Rattle.sq_ranges.specs.OpeningValue.{OpeningValue}
-use Rattle.sq_ranges.specs.Opening.{IsOpening}
-use Rattle.sq_node_model.specs.NodeValue.{ReceiptValue}
-use Rattle.sq_node_model.specs.Gathered.{GatheredValue}
-use Rattle.sq_node_model.specs.Placed.{NameEach, AreTold, IsPlaced}
-use Rattle.sq_node_model.specs.Next.{IsStageDone}
-use Rattle.sq_node_model.specs.Receipts.{times_named}
+use Rattle.sq_gather.specs.Prelude.{FamilyValue, PlanValue, stages, OpeningValue, IsOpening, ReceiptValue, GatheredValue, NameEach, AreTold, IsPlaced, IsStageDone, times_named}
 use Rattle.sq_audit.specs.declared.job.Job.{Job}
 use Rattle.sq_audit.specs.declared.verdict.Defect.{Defect}
 use Rattle.sq_audit.specs.declared.verdict.Defect.TheVariants.{RootMissing, RootDoubled, BaseChanged, WrongPlace, ReceiptUnknown, Unanswered}

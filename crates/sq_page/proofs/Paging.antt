@@ -5,15 +5,8 @@ use Rattle.std.specs.Ordering.{nat_cmp}
 use Rattle.std.specs.FinMap.{get}
 use Rattle.std.proofs.lemmas.Bool.{cases_eq, eq-eqb}
 use Rattle.std.proofs.lemmas.Option.{slice_get_within}
-use Rattle.sq_schema.specs.Family.{FamilyValue}
-use Rattle.sq_store.specs.StoreValue.{StoreValue}
-use Rattle.sq_model.proofs.Lists.{slice_get-Contains}
-use Rattle.sq_node_model.specs.NodeValue.{ReceiptValue}
-use Rattle.sq_node_model.specs.declared.spot.Spot.{Spot}
-use Rattle.sq_node_model.specs.declared.spot.Spot.TheVariants.{Store, Chunk}
-use Rattle.sq_node_model.specs.Gathered.{GatheredLink, GatheredValue}
-use Rattle.sq_node_model.specs.Spots.{StandsAt}
-use Rattle.sq_node_model.proofs.Stands.{of_some}
+use Rattle.sq_gather.specs.Prelude.{FamilyValue, StoreValue, ReceiptValue, Spot, Store, Chunk, GatheredLink, GatheredValue, StandsAt}
+use Rattle.sq_gather.proofs.Prelude.{slice_get-Contains, of_some}
 use Rattle.sq_page.specs.Pages.{AllStored, IsStill, IsPageOf}
 use Rattle.sq_page.specs.Copies.{is_wanted, wanted_of, IsCopyOf, AreCopiesOf}
 use Rattle.sq_page.specs.Named.{is_root_named, AreNamed, stored, AreCopies}

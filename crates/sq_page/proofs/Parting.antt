@@ -2,17 +2,9 @@
 use Rattle.std.proofs.Common.{◌≡◌, inl, inr, ℕ, ◌<◌, ◌≤◌, arith, ◌==◌, Bool, true, false, List, [], ◌∷◌, filter, length, Contains, refl, sym, ap, ◌∙◌, subst, true≢false}
 use Rattle.std.specs.Prelude.{◌&&◌, count_by}
 use Rattle.std.proofs.lemmas.Bool.{and_parts, eqb-true, eq-eqb}
-use Rattle.sq_schema.specs.Family.{FamilyValue}
-use Rattle.sq_plan.specs.PlanValue.{PlanValue}
-use Rattle.sq_ranges.specs.OpeningValue.{OpeningValue}
-use Rattle.sq_ranges.specs.Opening.{IsOpening}
-use Rattle.sq_model.proofs.Lists.{Contains-filter, kept_in, filter-first, filter-other}
+use Rattle.sq_gather.specs.Prelude.{FamilyValue, PlanValue, OpeningValue, IsOpening, ReceiptValue, GatheredValue, is_commit, names, NameEach, AreTold, IsPlaced, IsStageDone}
+use Rattle.sq_gather.proofs.Prelude.{Contains-filter, kept_in, filter-first, filter-other}
 use Rattle.std.proofs.lemmas.List.Sums.{length-filter}
-use Rattle.sq_node_model.specs.NodeValue.{ReceiptValue}
-use Rattle.sq_node_model.specs.Gathered.{GatheredValue}
-use Rattle.sq_node_model.specs.Receipts.{is_commit, names}
-use Rattle.sq_node_model.specs.Placed.{NameEach, AreTold, IsPlaced}
-use Rattle.sq_node_model.specs.Next.{IsStageDone}
 use Rattle.sq_audit.specs.declared.job.Job.{Job}
 use Rattle.sq_audit.specs.Answers.{is_of, IsAnswerTo, AreKnown, AreAnswered, IsFamilyOf}
 use Rattle.sq_audit.specs.declared.verdict.Defect.{Defect}

@@ -1,17 +1,7 @@
 -- The opening of the bases of families of a run, where nothing moves, is theirs.
 use Rattle.std.proofs.Common.{◌≡◌, ⊎_elim, ℕ, ◌==◌, true, List, [], length, sym, ap, ◌∙◌, subst, true≢false}
 use Rattle.std.specs.Prelude.{not}
-use Rattle.sq_schema.specs.Effect.{RowList}
-use Rattle.sq_schema.specs.Family.{FamilyValue}
-use Rattle.sq_plan.specs.PlanValue.{PlanValue}
-use Rattle.sq_ranges.specs.OpeningValue.{OpeningValue}
-use Rattle.sq_model.specs.Tables.{opening_rows}
-use Rattle.sq_node_model.specs.BeganWith.{is_opened}
-use Rattle.sq_node_model.specs.declared.spot.Spot.{Spot}
-use Rattle.sq_node_model.specs.declared.spot.Spot.TheVariants.{Store, Chunk}
-use Rattle.sq_node_model.specs.Gathered.{GatheredLink, GatheredValue}
-use Rattle.sq_node_model.specs.Spots.{StandsAt}
-use Rattle.sq_node_model.specs.Placed.{StandOnce}
+use Rattle.sq_gather.specs.Prelude.{RowList, FamilyValue, PlanValue, OpeningValue, opening_rows, is_opened, Spot, Store, Chunk, GatheredLink, GatheredValue, StandsAt, StandOnce}
 use Rattle.sq_page.specs.Pages.{IsStill, StandIn, IsAtRest}
 use Rattle.sq_page.specs.Bases.{IsOpeningOfBases}
 use Rattle.sq_page.proofs.Basing.{base_alone, bases_stand, bases_come}

@@ -3,30 +3,9 @@ use Rattle.std.proofs.Common.{◌≡◌, ℕ, zero, suc, ◌+◌, true, false, n
 use Rattle.std.specs.Prelude.{All, ◌&&◌, slice_index_or}
 use Rattle.std.proofs.lemmas.Bool.Decides.{nat_tests}
 use Rattle.std.proofs.lemmas.List.Elements.{All-head}
-use Rattle.sq_schema.specs.Family.{FamilyValue}
-use Rattle.sq_plan.specs.PlanValue.{PlanValue, owner}
+use Rattle.sq_gather.specs.Prelude.{FamilyValue, PlanValue, owner, Status, Free, is_free, is_split, is_complete, status_at, Range, segments_of, is_link, OpeningValue, IsOpening, IsMovingRun, At, place_from, AreDisjoint, owner_in, Spot, Store, Chunk, GatheredLink, GatheredValue, HasEachLink, is_link_in, runs_in, gathered_place, loads_of, StandsAt, IsSpotOf, AllGrown, FitTogether, NameEach, AreTold, IsPlaced, IsStageDone}
 use Rattle.std.specs.List.{flat_map}
-use Rattle.sq_tree.specs.declared.status.Status.{Status}
-use Rattle.sq_tree.specs.declared.status.Status.TheVariants.{Free}
-use Rattle.sq_tree.specs.Status.{is_free, is_split, is_complete}
-use Rattle.sq_tree.specs.Tree.{status_at}
-use Rattle.sq_ranges.specs.declared.recon.Range.{Range}
-use Rattle.sq_ranges.specs.ReconValue.{segments_of, is_link}
-use Rattle.sq_ranges.specs.OpeningValue.{OpeningValue}
-use Rattle.sq_ranges.specs.Opening.{IsOpening}
-use Rattle.sq_ranges.specs.Moves.{IsMovingRun}
-use Rattle.sq_model.specs.Place.{At, place_from}
-use Rattle.sq_model.specs.Orderly.{AreDisjoint}
-use Rattle.sq_model.specs.Staged.{owner_in}
-use Rattle.sq_node_model.specs.declared.spot.Spot.{Spot}
-use Rattle.sq_node_model.specs.declared.spot.Spot.TheVariants.{Store, Chunk}
-use Rattle.sq_node_model.specs.Gathered.{GatheredLink, GatheredValue, HasEachLink}
-use Rattle.sq_node_model.specs.Stages.{is_link_in, runs_in}
-use Rattle.sq_node_model.specs.Spots.{gathered_place, loads_of, StandsAt, IsSpotOf, AllGrown}
-use Rattle.sq_node_model.specs.Placed.{FitTogether, NameEach, AreTold, IsPlaced}
-use Rattle.sq_node_model.specs.Next.{IsStageDone}
-use Rattle.sq_node_model.proofs.Staged.{key_stage, unmoved_source}
-use Rattle.sq_node_model.proofs.Next.{stands_next}
+use Rattle.sq_gather.proofs.Prelude.{key_stage, unmoved_source, stands_next}
 use Rattle.sq_audit.proofs.Lists.{nothing_there}
 use Rattle.sq_page.specs.Pages.{IsStill, StandIn, IsAtRest, IsPlanAfter}
 

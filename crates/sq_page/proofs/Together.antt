@@ -3,20 +3,8 @@ use Rattle.std.proofs.Common.{◌≡◌, ◌⊎◌, inl, inr, ℕ, ◌+◌, ◌<
 use Rattle.std.specs.Prelude.{IfOk}
 use Rattle.std.proofs.lemmas.Bool.{cases_lt}
 use Rattle.std.proofs.lemmas.Option.{slice_get_within, slice_get-get_or}
-use Rattle.sq_schema.specs.Family.{FamilyValue}
-use Rattle.sq_plan.specs.PlanValue.{PlanValue, owner}
-use Rattle.sq_ranges.specs.OpeningValue.{OpeningValue}
-use Rattle.sq_ranges.specs.Opening.{IsOpening}
-use Rattle.sq_model.proofs.Lists.{Contains-slice_get, slice_get-Contains, kept_in}
-use Rattle.sq_node_model.specs.NodeValue.{ReceiptValue}
-use Rattle.sq_node_model.specs.declared.spot.Spot.{Spot}
-use Rattle.sq_node_model.specs.declared.spot.Spot.TheVariants.{Store, Chunk}
-use Rattle.sq_node_model.specs.Gathered.{GatheredLink, GatheredValue}
-use Rattle.sq_node_model.specs.Spots.{StandsAt}
-use Rattle.sq_node_model.specs.Placed.{IsPlaced}
-use Rattle.sq_node_model.specs.Next.{IsStageDone}
-use Rattle.sq_node_model.proofs.Next.{stands_next}
-use Rattle.sq_node_model.proofs.Staged.{source_below}
+use Rattle.sq_gather.specs.Prelude.{FamilyValue, PlanValue, owner, OpeningValue, IsOpening, ReceiptValue, Spot, Store, Chunk, GatheredLink, GatheredValue, StandsAt, IsPlaced, IsStageDone}
+use Rattle.sq_gather.proofs.Prelude.{Contains-slice_get, slice_get-Contains, kept_in, stands_next, source_below}
 use Rattle.sq_audit.specs.declared.job.Job.{Job}
 use Rattle.sq_audit.specs.declared.verdict.Verdict.{Verdict}
 use Rattle.sq_audit.specs.declared.verdict.Verdict.TheVariants.{Sound, Unsound}

@@ -1,13 +1,7 @@
 -- The rows that the logs of the families of stores start from, by root key, and the opening with these rows.
 use Rattle.std.specs.Prelude.{◌≡◌, ℕ, ◌==◌, if◌then◌else◌, List, [], length, fold, Option, Some, None}
 use Rattle.std.specs.FinMap.{get}
-use Rattle.sq_schema.specs.Effect.{RowList, RowTable}
-use Rattle.sq_schema.specs.Family.{FamilyValue}
-use Rattle.sq_schema.specs.Table.{rows_in}
-use Rattle.sq_plan.specs.PlanValue.{PlanValue}
-use Rattle.sq_store.specs.StoreValue.{StoreValue}
-use Rattle.sq_ranges.specs.OpeningValue.{OpeningValue}
-use Rattle.sq_ranges.specs.Opening.{IsOpening}
+use Rattle.sq_gather.specs.Prelude.{RowList, RowTable, FamilyValue, rows_in, PlanValue, StoreValue, OpeningValue, IsOpening}
 
 -- these rows, or the family's base in their place where there is one with a base
 abbrev pub base_or : RowList → Option FamilyValue → RowList

@@ -1,9 +1,7 @@
 -- The families of stores that a page has copies of.
 use Rattle.std.specs.Prelude.{◌≡◌, ℕ, Bool, true, false, ◌==◌, ◌||◌, not, if◌then◌else◌, List, length, slice_get, Option, None, Some}
 use Rattle.std.specs.FinMap.{get, empty}
-use Rattle.sq_schema.specs.Family.{FamilyValue}
-use Rattle.sq_store.specs.StoreValue.{StoreValue}
-use Rattle.sq_store.specs.InOrder.{HoldsByRoot}
+use Rattle.sq_gather.specs.Prelude.{FamilyValue, StoreValue, HoldsByRoot}
 use Rattle.sq_page.specs.Named.{is_root_named}
 
 -- the family has a log, or its root key is among these

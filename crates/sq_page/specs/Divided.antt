@@ -1,9 +1,6 @@
 -- The parts of a page, one for each partition, and what the audits of all of them say.
 use Rattle.std.specs.Prelude.{◌≡◌, ◌==◌, ◌≤◌, ℕ, Bool, nat_lt, if◌then◌else◌, IfOk, List, length, filter, slice_get, Some, Contains, Result, Ok}
-use Rattle.sq_schema.specs.Family.{FamilyValue}
-use Rattle.sq_plan.specs.PlanValue.{PlanValue, owner}
-use Rattle.sq_ranges.specs.OpeningValue.{OpeningValue}
-use Rattle.sq_node_model.specs.NodeValue.{ReceiptValue}
+use Rattle.sq_gather.specs.Prelude.{FamilyValue, PlanValue, owner, OpeningValue, ReceiptValue}
 use Rattle.sq_audit.specs.declared.verdict.Defect.{Defect}
 use Rattle.sq_audit.specs.declared.verdict.Verdict.{Verdict}
 use Rattle.sq_audit.specs.declared.verdict.Verdict.TheVariants.{Sound, Unsound}

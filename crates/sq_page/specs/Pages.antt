@@ -2,21 +2,7 @@
 use Rattle.std.specs.Prelude.{◌≡◌, ◌+◌, ◌≤◌, ℕ, List, [], length, map, Contains}
 use Rattle.std.specs.List.{flat_map}
 use Rattle.std.specs.FinMap.{entries}
-use Rattle.sq_schema.specs.Family.{FamilyValue, rows_of}
-use Rattle.sq_schema.specs.Table.{TableValue}
-use Rattle.sq_plan.specs.PlanValue.{PlanValue, owner}
-use Rattle.sq_store.specs.StoreValue.{StoreValue, folded_store}
-use Rattle.sq_ranges.specs.OpeningValue.{OpeningValue}
-use Rattle.sq_ranges.specs.Opening.{IsOpening}
-use Rattle.sq_model.specs.Staged.{owner_in}
-use Rattle.sq_node_model.specs.NodeValue.{ReceiptValue}
-use Rattle.sq_node_model.specs.declared.spot.Spot.{Spot}
-use Rattle.sq_node_model.specs.declared.spot.Spot.TheVariants.{Chunk}
-use Rattle.sq_node_model.specs.Gathered.{GatheredValue}
-use Rattle.sq_node_model.specs.Spots.{StandsAt}
-use Rattle.sq_node_model.specs.Placed.{IsPlaced, AllStand, KeepBases}
-use Rattle.sq_node_model.specs.Next.{IsStageDone, IsStageOver}
-use Rattle.sq_node_model.specs.Folded.{folded_opening, folded_gathered}
+use Rattle.sq_gather.specs.Prelude.{FamilyValue, rows_of, TableValue, PlanValue, owner, StoreValue, folded_store, OpeningValue, IsOpening, owner_in, ReceiptValue, Spot, Chunk, GatheredValue, StandsAt, IsPlaced, AllStand, KeepBases, IsStageDone, IsStageOver, folded_opening, folded_gathered}
 use Rattle.sq_audit.specs.declared.job.Job.{Job}
 use Rattle.sq_audit.specs.declared.verdict.Defect.TheVariants.{ReceiptUnknown}
 use Rattle.sq_audit.specs.declared.verdict.Verdict.{Verdict}

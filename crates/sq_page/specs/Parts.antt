@@ -1,11 +1,6 @@
 -- A run, or a page of one, in parts, each of which is audited on its own.
 use Rattle.std.specs.Prelude.{◌≡◌, ◌<◌, ◌≤◌, ◌==◌, ℕ, Bool, true, List, length, filter}
-use Rattle.sq_schema.specs.Family.{FamilyValue}
-use Rattle.sq_ranges.specs.OpeningValue.{OpeningValue}
-use Rattle.sq_node_model.specs.declared.spot.Spot.{Spot}
-use Rattle.sq_node_model.specs.Gathered.{GatheredValue}
-use Rattle.sq_node_model.specs.Spots.{StandsAt}
-use Rattle.sq_node_model.specs.Placed.{IsPlaced}
+use Rattle.sq_gather.specs.Prelude.{FamilyValue, OpeningValue, Spot, GatheredValue, StandsAt, IsPlaced}
 use Rattle.sq_audit.specs.declared.job.Job.{Job}
 use Rattle.sq_audit.specs.declared.verdict.Defect.{Defect}
 use Rattle.sq_audit.specs.declared.verdict.Verdict.{Verdict}

@@ -1,15 +1,10 @@
 // The opening of a page: its rows are the bases of the page's families.
 ghost use Rattle.std.specs.Prelude.{◌≡◌, ℕ, ◌≤◌, [], IfOk, OnOk};
 ghost use Rattle.std.specs.FinMap.{get};
-ghost use Rattle.sq_schema.specs.declared.root.TheConstants.{ROOT_END};
-ghost use Rattle.sq_schema.specs.Prelude.{rows_in};
-ghost use Rattle.sq_ranges.specs.Prelude.{IsSetUp};
+ghost use Rattle.sq_gather.specs.Prelude.{ROOT_END, rows_in, IsSetUp};
 ghost use Rattle.sq_page.specs.Bases.{base_or, base_beside, bases_among, IsOpeningOfBases};
 
-use sq_plan::Plan;
-use sq_ranges::{Config, Opening, OpeningFault};
-use sq_runs::RunStore;
-use sq_schema::{Family, Schema, Table};
+use sq_gather::{Config, Family, Opening, OpeningFault, Plan, RunStore, Schema, Table};
 use std::alloc::{AllocError, Global};
 
 /// The opening with this plan before and after, whose rows are the bases of the families of stores. Otherwise the first fault

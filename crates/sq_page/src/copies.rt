@@ -1,13 +1,11 @@
 // Copies of families of stores.
 ghost use Rattle.std.specs.Prelude.{◌≡◌, ◌<◌, filter, map, length, Ok, IfOk};
-ghost use Rattle.sq_store.specs.Prelude.{families_in, HoldsByRoot};
+ghost use Rattle.sq_gather.specs.Prelude.{families_in, HoldsByRoot};
 ghost use Rattle.sq_page.specs.Copies.{is_wanted, IsCopyOf, IsCopyAt, AreCopiesOf, IsCopyOrEmpty, AreCopiesAlone};
 
 use crate::family::copy_family;
 use crate::roots::NamedRoots;
-use sq_runs::RunStore;
-use sq_schema::Family;
-use sq_store::FamilyStore;
+use sq_gather::{Family, FamilyStore, RunStore};
 use std::alloc::{AllocError, Global};
 use std::thread;
 use std::thread::Threads;

@@ -7,11 +7,7 @@ use crate::copies::copy_alone;
 use crate::page::Page;
 use crate::roots::NamedRoots;
 use sq_audit::Job;
-use sq_gather::Gathered;
-use sq_node::Receipt;
-use sq_plan::Plan;
-use sq_runs::RunStore;
-use sq_schema::Root;
+use sq_gather::{Gathered, Plan, Receipt, Root, RunStore};
 use std::alloc::{AllocError, Global};
 
 /// A partition's part of a page: copies of the receipts and the jobs of the root keys that the plan gives to it, and

@@ -1,8 +1,8 @@
 // Copies of families.
 ghost use Rattle.std.specs.Prelude.{◌≡◌, IfOk, OnOk};
-ghost use Rattle.sq_schema.specs.Family.{logged};
+ghost use Rattle.sq_gather.specs.Prelude.{logged};
 
-use sq_schema::{Family, Reply, Txn};
+use sq_gather::{Family, Reply, Txn};
 use std::alloc::{AllocError, Global};
 
 /// A copy of a family with its log, which is run again on a copy of the base. A log whose transactions don't all commit isn't

@@ -1,9 +1,8 @@
 // Folding stores in threads.
 ghost use Rattle.std.specs.Prelude.{◌≡◌, map};
-ghost use Rattle.sq_store.specs.Prelude.{folded_store};
+ghost use Rattle.sq_gather.specs.Prelude.{folded_store};
 
-use sq_runs::RunStore;
-use sq_store::FamilyStore;
+use sq_gather::{FamilyStore, RunStore};
 use std::thread;
 use std::thread::Threads;
 

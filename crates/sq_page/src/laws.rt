@@ -1,8 +1,6 @@
 //! What a page says of the run that it was taken of. The functions do nothing: each states a law, which the checker proves.
 ghost use Rattle.std.specs.Prelude.{◌≡◌, ◌+◌, ℕ, Bool, List};
-ghost use Rattle.sq_plan.specs.PlanValue.{PlanValue};
-ghost use Rattle.sq_ranges.specs.Prelude.{OpeningValue, IsOpening, stages};
-ghost use Rattle.sq_node_model.specs.Prelude.{GatheredValue, IsPlaced, IsStageOver};
+ghost use Rattle.sq_gather.specs.Prelude.{PlanValue, OpeningValue, IsOpening, stages, GatheredValue, IsPlaced, IsStageOver};
 ghost use Rattle.sq_audit.specs.declared.job.Job.{Job};
 ghost use Rattle.sq_audit.specs.declared.verdict.Verdict.{Verdict};
 ghost use Rattle.sq_audit.specs.Sound.{IsSoundRun};

@@ -3,7 +3,7 @@ ghost use Rattle.std.specs.Prelude.{◌≡◌, IfOk};
 ghost use Rattle.sq_page.specs.Divided.{IsLeastOf, lesser_of};
 
 use sq_audit::Verdict;
-use sq_ranges::OpeningFault;
+use sq_gather::OpeningFault;
 
 /// The least defect among these, or that all are sound. Where one of them is a fault, the first that is.
 pub(crate) fn least_of(said: &[Result<Verdict, OpeningFault>]) -> Result<Verdict, OpeningFault>

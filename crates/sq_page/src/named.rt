@@ -4,8 +4,7 @@ ghost use Rattle.sq_page.specs.Named.{AreCopies};
 
 use crate::copies::copy_each;
 use crate::roots::NamedRoots;
-use sq_node::Receipt;
-use sq_runs::RunStore;
+use sq_gather::{Receipt, RunStore};
 use std::alloc::{AllocError, Global};
 use std::thread::Threads;
 

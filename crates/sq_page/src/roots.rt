@@ -2,8 +2,7 @@
 ghost use Rattle.std.specs.Prelude.{◌≡◌, IfOk};
 ghost use Rattle.sq_page.specs.Named.{is_root_named, AreNamed};
 
-use sq_node::Receipt;
-use sq_schema::Root;
+use sq_gather::{Receipt, Root};
 use std::alloc::{AllocError, Global};
 use std::marker::Model;
 

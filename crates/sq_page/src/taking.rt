@@ -7,8 +7,7 @@ use crate::folding::fold_each;
 use crate::named::copy_named;
 use crate::page::{Page, Paged, Untaken};
 use sq_audit::Job;
-use sq_gather::Gathered;
-use sq_runs::RunStore;
+use sq_gather::{Gathered, RunStore};
 use std::alloc::Global;
 use std::thread::Threads;
 

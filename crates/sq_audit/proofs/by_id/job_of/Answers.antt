@@ -1,5 +1,5 @@
 use Rattle.std.proofs.Common.{◌≡◌, Contains, Some, None, sym, ap, ◌∙◌, subst, eqb-true, eq-eqb, true≢false}
-use Rattle.sq_node_model.specs.NodeValue.{ReceiptValue}
+use Rattle.sq_gather.specs.Prelude.{ReceiptValue}
 use Rattle.sq_audit.specs.declared.job.Job.{Job}
 use Rattle.sq_audit.specs.Index.{HasKeyAt}
 use Rattle.sq_audit.specs.Told.{id_of, IsOneJob}

@@ -1,6 +1,6 @@
 use Rattle.std.proofs.Common.{rules, ℕ, nat_lt, Contains, Some, None, refl, sym, subst}
 use Rattle.std.proofs.lemmas.Fn.{always_returns_same}
-use Rattle.sq_model.proofs.Lists.{Contains-slice_get}
+use Rattle.sq_gather.proofs.Prelude.{Contains-slice_get}
 use Rattle.sq_audit.proofs.Each.{looked_up}
 use Rattle.sq_audit.proofs.Lists.{PartsAt}
 use Rattle.sq_audit.proofs.Searching.{none_past, none_other}

@@ -1,8 +1,6 @@
 use Rattle.std.proofs.Common.{get_or, sym, ap, ap₂, ◌∙◌, arith, true≢false, ◌==◌, eqb-true, eq-eqb}
 use Rattle.std.proofs.lemmas.Bool.{and_parts, and_from}
-use Rattle.sq_ranges.specs.declared.recon.Link.{Link}
-use Rattle.sq_ranges.specs.ReconValue.{stage_on}
-use Rattle.sq_node_model.specs.Gathered.{GatheredLink}
+use Rattle.sq_gather.specs.Prelude.{Link, stage_on, GatheredLink}
 use Rattle.sq_gather.specs.Gathered.{closed_ends}
 use Rattle.sq_audit.specs.Fits.{IsKnownLink}
 use Rattle.sq_audit.proofs.Listing.{item_at}

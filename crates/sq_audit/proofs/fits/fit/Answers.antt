@@ -1,8 +1,6 @@
 use Rattle.std.proofs.Common.{List, ap, ◌∙◌, subst}
 use Rattle.std.specs.Bool.{Decides}
-use Rattle.sq_tree.specs.declared.status.Status.{Status}
-use Rattle.sq_node_model.specs.Gathered.{GatheredValue}
-use Rattle.sq_node_model.specs.Spots.{AllGrown}
+use Rattle.sq_gather.specs.Prelude.{Status, GatheredValue, AllGrown}
 use Rattle.sq_audit.proofs.Each.{decides_not, refuted, shown}
 use Rattle.sq_audit.proofs.Fitting.{FitsSoFar, notes_apart, fit_if_placed}
 use Rattle.sq_audit.proofs.fits.fit.Goals as goal

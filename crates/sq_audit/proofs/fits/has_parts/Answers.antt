@@ -1,10 +1,7 @@
 use Rattle.std.proofs.Common.{rules, vec_len, ◌≡◌, ℕ, List, length, sym, ap, ◌∙◌, subst}
 use Rattle.std.specs.Bool.{Decides}
 use Rattle.std.proofs.lemmas.Bool.Decides.{Decides-like}
-use Rattle.sq_plan.specs.PlanValue.{PlanValue}
-use Rattle.sq_ranges.specs.declared.recon.Range.{Range}
-use Rattle.sq_ranges.specs.ReconValue.{ReconValue, AreLinks}
-use Rattle.sq_node_model.specs.Gathered.{GatheredLink, GatheredValue}
+use Rattle.sq_gather.specs.Prelude.{PlanValue, Range, ReconValue, AreLinks, GatheredLink, GatheredValue}
 use Rattle.sq_audit.specs.Fits.{AreKnownLinks, HaveOneEach}
 use Rattle.sq_audit.proofs.Each.{decides_not, refuted, shown}
 use Rattle.sq_audit.proofs.Parts.{each_link_from, known_links, known_again, one_of_each, told_of}

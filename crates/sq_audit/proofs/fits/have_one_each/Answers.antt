@@ -1,4 +1,4 @@
-use Rattle.sq_ranges.specs.declared.recon.Link.{Link}
+use Rattle.sq_gather.specs.Prelude.{Link}
 use Rattle.sq_audit.specs.Fits.{HasOne}
 use Rattle.sq_audit.proofs.Listing.{item_at}
 use Rattle.sq_audit.proofs.Each.{each_more, each_done, each_fails, refuted, shown}

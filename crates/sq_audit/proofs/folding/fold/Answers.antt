@@ -1,8 +1,6 @@
 use Rattle.std.proofs.Common.{List, subst}
-use Rattle.sq_ranges.specs.Opening.{IsOpening}
-use Rattle.sq_ranges.specs.SetUp.{IsSetUp}
-use Rattle.sq_node_model.specs.Folded.{folded_opening}
-use Rattle.sq_node_model.proofs.Folded.{rowless_opening}
+use Rattle.sq_gather.specs.Prelude.{IsOpening, IsSetUp, folded_opening}
+use Rattle.sq_gather.proofs.Prelude.{rowless_opening}
 use Rattle.sq_audit.specs.declared.job.Job.{Job}
 use Rattle.sq_audit.specs.Folding.{IsReadyToFold}
 use Rattle.sq_audit.proofs.Folds.{is_fold}

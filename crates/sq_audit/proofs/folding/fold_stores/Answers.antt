@@ -1,6 +1,6 @@
 use Rattle.std.proofs.Common.{sym, ap, ◌∙◌, set}
 use Rattle.std.proofs.lemmas.List.Edits.{map_over_more}
-use Rattle.sq_store.specs.StoreValue.{folded_store}
+use Rattle.sq_gather.specs.Prelude.{folded_store}
 use Rattle.sq_audit.proofs.folding.fold_stores.Goals as goal
 
 pub loop-store-preserved : goal.loop-store-preserved

@@ -1,5 +1,5 @@
 use Rattle.std.proofs.Common.{◌≡◌, ◌++◌, map, take, drop}
-use Rattle.sq_store.specs.StoreValue.{folded_store}
+use Rattle.sq_gather.specs.Prelude.{folded_store}
 use Rattle.sq_audit.proofs.folding.fold_stores.Given as goal
 
 -- the stores so far are folded

@@ -1,7 +1,5 @@
 use Rattle.std.proofs.Common.{◌≡◌, List, [], sym, ap, ◌∙◌, subst, refl, ℕ, filter}
-use Rattle.sq_node_model.specs.NodeValue.{ReceiptValue}
-use Rattle.sq_node_model.specs.Gathered.{GatheredValue}
-use Rattle.sq_store.specs.StoreValue.{StoreValue}
+use Rattle.sq_gather.specs.Prelude.{ReceiptValue, GatheredValue, StoreValue, rows_in}
 use Rattle.sq_audit.specs.declared.job.Job.{Job}
 use Rattle.sq_audit.specs.declared.verdict.Defect.{Defect}
 use Rattle.sq_audit.specs.declared.verdict.Verdict.{Verdict}
@@ -10,7 +8,6 @@ use Rattle.sq_audit.specs.Answers.{IdsDiffer}
 use Rattle.sq_audit.specs.ById.{AreById, ListsIds, is_listed}
 use Rattle.sq_audit.specs.Sound.{IsSoundRun}
 use Rattle.sq_audit.specs.Defects.{IsVerdict}
-use Rattle.sq_schema.specs.Table.{rows_in}
 use Rattle.sq_audit.specs.Rows.{rows_among}
 use Rattle.sq_audit.specs.Folding.{answered_jobs}
 use Rattle.sq_audit.proofs.Folds.{some_differ, answered_by}

@@ -1,7 +1,7 @@
 use Rattle.std.proofs.Common.{Bool, List, length, Result, sym, ap, ◌∙◌, subst}
 use Rattle.std.specs.Bool.{Decides}
 use Rattle.std.specs.declared.alloc.AllocError.{AllocError}
-use Rattle.sq_schema.specs.Table.{rows_in}
+use Rattle.sq_gather.specs.Prelude.{rows_in}
 use Rattle.sq_audit.specs.Located.{Entry, entries_in}
 use Rattle.sq_audit.specs.Index.{StartsFrom, StartFrom}
 use Rattle.sq_audit.specs.InThreads.{IsSaidOfAll}

@@ -1,6 +1,6 @@
 use Rattle.std.proofs.Common.{⊎_elim, ℕ, List, sym, subst}
-use Rattle.sq_schema.specs.Effect.{RowList}
-use Rattle.sq_model.proofs.Lists.{Contains-first, Contains-later, Contains-cases}
+use Rattle.sq_gather.specs.Prelude.{RowList}
+use Rattle.sq_gather.proofs.Prelude.{Contains-first, Contains-later, Contains-cases}
 use Rattle.sq_audit.specs.Located.{entries_in}
 use Rattle.sq_audit.specs.Index.{HasFamily, HaveFamilies}
 use Rattle.sq_audit.proofs.Each.{decides_not, refuted, shown}

@@ -1,5 +1,5 @@
 use Rattle.std.proofs.Common.{◌≡◌, ◌-◌, true, slice_get, Some, refl, arith}
-use Rattle.sq_model.proofs.Lists.{Contains-slice_get}
+use Rattle.sq_gather.proofs.Prelude.{Contains-slice_get}
 use Rattle.sq_audit.specs.Located.{entry_of, entries_in}
 use Rattle.sq_audit.proofs.Listing.{mapped_at, mapped_past}
 use Rattle.sq_audit.proofs.Each.{decides_not, refuted, shown}

@@ -1,4 +1,4 @@
-use Rattle.sq_schema.specs.Table.{rows_in}
+use Rattle.sq_gather.specs.Prelude.{rows_in}
 use Rattle.sq_audit.specs.Located.{Entry, entry_of, entries_in}
 use Rattle.sq_audit.specs.Index.{StartsFrom}
 use Rattle.sq_audit.proofs.Listing.{mapped_at, mapped_past}

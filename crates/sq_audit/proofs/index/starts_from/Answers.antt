@@ -1,8 +1,7 @@
 use Rattle.std.proofs.Common.{◌≡◌, [], Option, sym, ap, ◌∙◌}
 use Rattle.std.specs.Prelude.{unwrap_or}
-use Rattle.sq_schema.specs.Effect.{RowList}
-use Rattle.sq_schema.specs.Table.{rows_in}
-use Rattle.sq_schema.proofs.Equal.{rows_same}
+use Rattle.sq_gather.specs.Prelude.{RowList, rows_in}
+use Rattle.sq_gather.proofs.Prelude.{rows_same}
 use Rattle.sq_audit.proofs.index.starts_from.Goals as goal
 
 pub returns-in-Some : goal.returns-in-Some

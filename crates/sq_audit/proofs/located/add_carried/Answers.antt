@@ -1,6 +1,6 @@
 use Rattle.std.proofs.Common.{◌≤◌, ◌++◌, List, length, ap, ◌∙◌, arith}
 use Rattle.std.proofs.lemmas.List.{take_all}
-use Rattle.sq_schema.specs.Family.{FamilyValue}
+use Rattle.sq_gather.specs.Prelude.{FamilyValue}
 use Rattle.sq_audit.specs.Located.{spot_of, entries_in}
 use Rattle.sq_audit.proofs.Listing.{of_spot, carried_all}
 use Rattle.sq_audit.proofs.located.add_carried.Goals as goal

@@ -1,6 +1,6 @@
 use Rattle.std.proofs.Common.{◌≡◌, List, refl, ap, ◌∙◌, subst, sym}
 use Rattle.std.specs.Prelude.{All}
-use Rattle.sq_schema.specs.TxnValue.{TxnValue}
+use Rattle.sq_gather.specs.Prelude.{TxnValue}
 use Rattle.sq_audit.specs.declared.located.Located.{Located}
 use Rattle.sq_audit.specs.Located.{Entry, spot_of, entries_in}
 use Rattle.sq_audit.proofs.Listing.{SomeAdded, none_added, more_added, all_added}

@@ -1,7 +1,6 @@
 use Rattle.std.proofs.Common.{◌++◌, [], List, sym, ap, ◌∙◌, subst, append_assoc}
 use Rattle.std.proofs.lemmas.List.{append-nil}
-use Rattle.sq_node_model.specs.Gathered.{GatheredLink}
-use Rattle.sq_node_model.specs.declared.spot.Spot.TheVariants.{Chunk}
+use Rattle.sq_gather.specs.Prelude.{GatheredLink, Chunk}
 use Rattle.sq_audit.specs.Located.{Entry, entries_in}
 use Rattle.sq_audit.proofs.Listing.{item_of, end_of, of_spot, carried_none, carried_next, carried_whole, CarriedTo}
 use Rattle.sq_audit.proofs.located.add_under_way.Goals as goal

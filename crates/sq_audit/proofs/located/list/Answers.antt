@@ -1,5 +1,5 @@
 use Rattle.std.proofs.Common.{ap, ◌∙◌}
-use Rattle.sq_node_model.specs.Gathered.{GatheredValue}
+use Rattle.sq_gather.specs.Prelude.{GatheredValue}
 use Rattle.sq_audit.specs.Located.{entries_in}
 use Rattle.sq_audit.proofs.Listing.{item_of, linked_none, linked_next, listed_all}
 use Rattle.sq_audit.proofs.located.list.Goals as goal

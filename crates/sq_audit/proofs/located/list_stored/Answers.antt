@@ -1,5 +1,5 @@
 use Rattle.std.proofs.Common.{List, sym, ap, ◌∙◌, subst}
-use Rattle.sq_node_model.specs.Gathered.{GatheredValue}
+use Rattle.sq_gather.specs.Prelude.{GatheredValue}
 use Rattle.sq_audit.specs.declared.located.Located.{Located}
 use Rattle.sq_audit.specs.Located.{entries_in}
 use Rattle.sq_audit.proofs.Listing.{item_of, StoredTo, stored_none, stored_next, stored_all}

@@ -1,7 +1,5 @@
 use Rattle.std.proofs.Common.{◌≡◌, ◌≤◌, List, length, ap, ◌∙◌, subst}
-use Rattle.sq_chunk.specs.declared.chunk.Note.{Note}
-use Rattle.sq_node_model.specs.Gathered.{GatheredLink}
-use Rattle.sq_node_model.specs.Placed.{IsLinkNote}
+use Rattle.sq_gather.specs.Prelude.{Note, GatheredLink, IsLinkNote}
 use Rattle.sq_audit.proofs.Listing.{item_of}
 use Rattle.sq_audit.proofs.Each.{each_more, each_done, shown}
 use Rattle.sq_audit.proofs.notes.are_link_notes.Goals as goal

@@ -1,4 +1,4 @@
-use Rattle.sq_node_model.specs.Placed.{IsLinkNote}
+use Rattle.sq_gather.specs.Prelude.{IsLinkNote}
 use Rattle.sq_audit.proofs.Each.{EachTo}
 use Rattle.sq_audit.proofs.notes.are_link_notes.Given as goal
 

@@ -1,4 +1,4 @@
-use Rattle.sq_model.specs.Orderly.{AreNumbered}
+use Rattle.sq_gather.specs.Prelude.{AreNumbered}
 use Rattle.sq_audit.proofs.Tiling.{walked}
 use Rattle.sq_audit.proofs.notes.are_numbered.Given as goal
 

@@ -1,5 +1,5 @@
 use Rattle.std.proofs.Common.{rules, ◌≡◌, ◌+◌, true, slice_get, Some, refl, sym, ◌∙◌}
-use Rattle.sq_chunk.specs.ChunkValue.{ChunkValue, are_within}
+use Rattle.sq_gather.specs.Prelude.{ChunkValue, are_within}
 use Rattle.sq_audit.proofs.Listing.{item_at}
 use Rattle.sq_audit.proofs.Each.{decides_not, each_more, each_done}
 use Rattle.sq_audit.proofs.Ways.{of_last, last_more, not_of_last}

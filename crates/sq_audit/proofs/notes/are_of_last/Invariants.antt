@@ -1,5 +1,5 @@
 use Rattle.std.proofs.Common.{◌≡◌, ℕ, ◌+◌, ◌<◌, true, slice_get, Some}
-use Rattle.sq_chunk.specs.ChunkValue.{ChunkValue, are_within}
+use Rattle.sq_gather.specs.Prelude.{ChunkValue, are_within}
 use Rattle.sq_audit.proofs.Each.{EachTo}
 use Rattle.sq_audit.proofs.notes.are_of_last.Given as goal
 

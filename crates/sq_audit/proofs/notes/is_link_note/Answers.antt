@@ -2,18 +2,7 @@ use Rattle.std.proofs.Common.{rules, ◌≡◌, true, List, [], sym, ap, ap₂, 
 use Rattle.std.specs.Prelude.{slice_get, slice_index_or}
 use Rattle.std.specs.Option.{option_copied}
 use Rattle.std.proofs.lemmas.Bool.{and_parts, and_from}
-use Rattle.sq_tree.specs.declared.status.Status.{Status}
-use Rattle.sq_tree.specs.Status.{is_begun}
-use Rattle.sq_tree.specs.Tree.{status_at}
-use Rattle.sq_chunk.specs.declared.chunk.Note.{Note}
-use Rattle.sq_ranges.specs.declared.recon.Range.{Range}
-use Rattle.sq_ranges.specs.OpeningValue.{OpeningValue}
-use Rattle.sq_ranges.specs.ReconValue.{ReconValue, stage_on}
-use Rattle.sq_model.specs.Links.{goes, is_on_link}
-use Rattle.sq_node_model.specs.Gathered.{GatheredLink, GatheredValue}
-use Rattle.sq_node_model.specs.Stages.{runs_in}
-use Rattle.sq_node_model.specs.Spots.{gathered_status}
-use Rattle.sq_node_model.specs.Placed.{IsLinkNote}
+use Rattle.sq_gather.specs.Prelude.{Status, is_begun, status_at, Note, Range, OpeningValue, ReconValue, stage_on, goes, is_on_link, GatheredLink, GatheredValue, runs_in, gathered_status, IsLinkNote}
 use Rattle.sq_audit.proofs.Each.{decides_not, looked_up}
 use Rattle.sq_audit.proofs.notes.is_link_note.Goals as goal
 use Rattle.sq_audit.proofs.notes.is_link_note.Goals.{After-goes, After-stage_on}

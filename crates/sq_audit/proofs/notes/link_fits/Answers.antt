@@ -3,10 +3,7 @@ use Rattle.std.specs.Prelude.{reverse}
 use Rattle.std.specs.Bool.{Decides}
 use Rattle.std.proofs.lemmas.Bool.Decides.{Decides-like}
 use Rattle.std.proofs.lemmas.Result.{IfOk-weaker}
-use Rattle.sq_chunk.specs.declared.chunk.Note.{Note}
-use Rattle.sq_model.specs.Orderly.{AreNumbered, Tiles}
-use Rattle.sq_node_model.specs.Gathered.{GatheredLink}
-use Rattle.sq_node_model.specs.Placed.{IsLinkPlaced}
+use Rattle.sq_gather.specs.Prelude.{Note, AreNumbered, Tiles, GatheredLink, IsLinkPlaced}
 use Rattle.sq_audit.specs.Notes.{AreOfLast, HoldTheirKeys}
 use Rattle.sq_audit.proofs.Each.{shown}
 use Rattle.sq_audit.proofs.notes.link_fits.Goals as goal

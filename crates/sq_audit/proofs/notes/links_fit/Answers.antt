@@ -1,7 +1,6 @@
 use Rattle.std.proofs.Common.{◌≡◌, ◌≤◌, List, length, refl, ap, ◌∙◌, subst}
-use Rattle.sq_model.proofs.Lists.{Contains-slice_get}
-use Rattle.sq_node_model.specs.Gathered.{GatheredLink, GatheredValue}
-use Rattle.sq_node_model.specs.Placed.{IsLinkPlaced}
+use Rattle.sq_gather.proofs.Prelude.{Contains-slice_get}
+use Rattle.sq_gather.specs.Prelude.{GatheredLink, GatheredValue, IsLinkPlaced}
 use Rattle.sq_audit.proofs.Listing.{item_of}
 use Rattle.sq_audit.proofs.Each.{each_more, each_done, shown}
 use Rattle.sq_audit.proofs.notes.links_fit.Goals as goal

@@ -1,4 +1,4 @@
-use Rattle.sq_node_model.specs.Placed.{IsLinkPlaced}
+use Rattle.sq_gather.specs.Prelude.{IsLinkPlaced}
 use Rattle.sq_audit.proofs.Each.{EachTo}
 use Rattle.sq_audit.proofs.notes.links_fit.Given as goal
 

@@ -1,10 +1,7 @@
 use Rattle.std.proofs.Common.{◌<◌, Bool, List, sym, ap, ◌∙◌, subst, arith}
 use Rattle.std.specs.Prelude.{IfOk}
 use Rattle.std.specs.Bool.{Decides}
-use Rattle.sq_schema.specs.Table.{TableValue, rows_in}
-use Rattle.sq_node_model.specs.NodeValue.{ReceiptValue}
-use Rattle.sq_node_model.specs.Gathered.{GatheredValue}
-use Rattle.sq_node_model.specs.Placed.{KeepBases, NameEach}
+use Rattle.sq_gather.specs.Prelude.{TableValue, rows_in, ReceiptValue, GatheredValue, KeepBases, NameEach}
 use Rattle.sq_audit.specs.declared.verdict.Defect.{Defect}
 use Rattle.sq_audit.specs.declared.verdict.Defect.TheVariants.{RootDoubled}
 use Rattle.sq_audit.specs.Answers.{AreKnown, AreAnsweredBy}

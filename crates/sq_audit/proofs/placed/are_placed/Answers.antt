@@ -1,7 +1,7 @@
 use Rattle.std.proofs.Common.{◌≡◌, ℕ, slice_get, Some, true, false, List, IsPermutation, sym, ap, ◌∙◌, subst}
 use Rattle.std.specs.List.{flat_map}
 use Rattle.std.specs.Bool.{Decides}
-use Rattle.sq_node_model.specs.Gathered.{GatheredLink, GatheredValue}
+use Rattle.sq_gather.specs.Prelude.{GatheredLink, GatheredValue}
 use Rattle.sq_audit.specs.declared.spans.Span.{Span}
 use Rattle.sq_audit.specs.Located.{entry_of, entries_in}
 use Rattle.sq_audit.specs.Spans.{marked_in, notes_of, AreByKey, IsPlacedBy}

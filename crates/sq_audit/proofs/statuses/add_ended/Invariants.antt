@@ -1,7 +1,7 @@
 use Rattle.std.proofs.Common.{◌≡◌, ℕ, take}
 use Rattle.std.specs.Prelude.{◌||◌}
 use Rattle.std.specs.BTreeSet.{contains}
-use Rattle.sq_model.specs.Links.{has_last}
+use Rattle.sq_gather.specs.Prelude.{has_last}
 use Rattle.sq_audit.specs.Counts.{key_order}
 use Rattle.sq_audit.proofs.statuses.add_ended.Given as goal
 

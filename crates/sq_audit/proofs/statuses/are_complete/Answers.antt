@@ -3,11 +3,7 @@ use Rattle.std.specs.Prelude.{slice_index_or}
 use Rattle.std.specs.List.{flat_map}
 use Rattle.std.specs.Bool.{Decides}
 use Rattle.std.specs.BTreeSet.{contains}
-use Rattle.sq_tree.specs.declared.status.Status.{Status}
-use Rattle.sq_tree.specs.Tree.{status_at}
-use Rattle.sq_model.specs.Links.{has_last}
-use Rattle.sq_node_model.specs.Gathered.{GatheredLink, GatheredValue}
-use Rattle.sq_node_model.specs.Spots.{loads_of}
+use Rattle.sq_gather.specs.Prelude.{Status, status_at, has_last, GatheredLink, GatheredValue, loads_of}
 use Rattle.sq_audit.specs.Counts.{key_order}
 use Rattle.sq_audit.specs.Statuses.{AreEnded}
 use Rattle.sq_audit.proofs.Each.{decides_not, refuted, shown}

@@ -1,6 +1,6 @@
 use Rattle.std.proofs.Common.{ℕ, ◌<◌, []}
 use Rattle.std.specs.Prelude.{slice_index_or}
-use Rattle.sq_tree.specs.Tree.{status_at}
+use Rattle.sq_gather.specs.Prelude.{status_at}
 use Rattle.sq_audit.specs.Statuses.{AreEnded}
 use Rattle.sq_audit.proofs.statuses.are_complete.Given as goal
 

@@ -1,6 +1,5 @@
 use Rattle.std.proofs.Common.{◌∙◌, sym, ap, arith, refl, true≢false}
-use Rattle.sq_tree.specs.Tree.{status_at}
-use Rattle.sq_tree.specs.Status.{is_complete}
+use Rattle.sq_gather.specs.Prelude.{status_at, is_complete}
 use Rattle.sq_audit.specs.Statuses.{IsEnded}
 use Rattle.sq_audit.proofs.Growing.{by_nodes}
 use Rattle.sq_audit.proofs.statuses.are_ended.Goals as goal

@@ -1,8 +1,7 @@
 use Rattle.std.proofs.Common.{◌≡◌, ℕ, take}
 use Rattle.std.specs.List.{flat_map}
 use Rattle.std.specs.BTreeSet.{contains}
-use Rattle.sq_model.specs.Links.{has_last}
-use Rattle.sq_node_model.specs.Spots.{loads_of}
+use Rattle.sq_gather.specs.Prelude.{has_last, loads_of}
 use Rattle.sq_audit.specs.Counts.{key_order}
 use Rattle.sq_audit.proofs.statuses.ended.Given as goal
 

@@ -1,5 +1,5 @@
 use Rattle.std.proofs.Common.{◌+◌, subst, arith, below_more, refl}
-use Rattle.sq_tree.specs.Tree.{status_at}
+use Rattle.sq_gather.specs.Prelude.{status_at}
 use Rattle.sq_audit.specs.Statuses.{IsGrownAt}
 use Rattle.sq_audit.proofs.Each.{decides_not, refuted, shown}
 use Rattle.sq_audit.proofs.Growing.{numbered_at, grown_from, grown_at}

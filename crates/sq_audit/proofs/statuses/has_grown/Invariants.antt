@@ -1,6 +1,6 @@
 use Rattle.std.proofs.Common.{◌≡◌, ℕ, ◌+◌, ◌<◌, length}
 use Rattle.std.specs.Prelude.{slice_index}
-use Rattle.sq_tree.specs.Tree.{status_at}
+use Rattle.sq_gather.specs.Prelude.{status_at}
 use Rattle.sq_audit.specs.Statuses.{IsGrownAt}
 use Rattle.sq_audit.proofs.statuses.has_grown.Given as goal
 

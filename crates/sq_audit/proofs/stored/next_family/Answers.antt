@@ -1,7 +1,7 @@
 use Rattle.std.proofs.Common.{◌≡◌, ◌+◌, ◌≤◌, sym, ap, ◌∙◌, subst, arith}
 use Rattle.std.specs.Prelude.{All}
-use Rattle.sq_schema.specs.TxnValue.{TxnValue}
-use Rattle.sq_store.proofs.Firsts.{first_is}
+use Rattle.sq_gather.specs.Prelude.{TxnValue}
+use Rattle.sq_gather.proofs.Prelude.{first_is}
 use Rattle.sq_audit.proofs.stored.next_family.Goals as goal
 
 pub returns-clause-some : goal.returns-clause-some

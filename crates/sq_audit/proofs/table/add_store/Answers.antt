@@ -1,5 +1,5 @@
 use Rattle.std.proofs.Common.{sym, subst, arith}
-use Rattle.sq_schema.specs.Table.{rows_in}
+use Rattle.sq_gather.specs.Prelude.{rows_in}
 use Rattle.sq_audit.proofs.Tables.{AddedTo, added_none, added_next, added_all, added_past}
 use Rattle.sq_audit.proofs.table.add_store.Goals as goal
 

@@ -1,6 +1,5 @@
 use Rattle.std.proofs.Common.{◌-◌, ◌≤◌}
-use Rattle.sq_schema.specs.declared.root.TheConstants.{ROOT_END}
-use Rattle.sq_schema.specs.Table.{rows_in}
+use Rattle.sq_gather.specs.Prelude.{ROOT_END, rows_in}
 use Rattle.sq_audit.proofs.Tables.{AddedTo}
 use Rattle.sq_audit.proofs.table.add_store.Given as goal
 

@@ -1,6 +1,5 @@
 use Rattle.std.proofs.Common.{◌≡◌, ℕ, ◌≤◌, [], take}
-use Rattle.sq_schema.specs.declared.root.TheConstants.{ROOT_END}
-use Rattle.sq_schema.specs.Table.{rows_in}
+use Rattle.sq_gather.specs.Prelude.{ROOT_END, rows_in}
 use Rattle.sq_audit.specs.Rows.{rows_among}
 use Rattle.sq_audit.proofs.table.table_of.Given as goal
 

@@ -1,10 +1,7 @@
 use Rattle.std.proofs.Common.{◌≡◌, ℕ, slice_get, Option, Some, ap, ◌∙◌, subst, subst₂}
 use Rattle.std.specs.Bool.{Decides}
 use Rattle.std.specs.BTreeMap.{get, Updates}
-use Rattle.sq_chunk.specs.declared.chunk.Note.{Note}
-use Rattle.sq_ranges.specs.declared.recon.Extent.{Extent}
-use Rattle.sq_ranges.specs.ReconValue.{ReconValue}
-use Rattle.sq_model.specs.Place.{extent_of, extent_in}
+use Rattle.sq_gather.specs.Prelude.{Note, Extent, ReconValue, extent_of, extent_in}
 use Rattle.sq_audit.specs.Counts.{key_order}
 use Rattle.sq_audit.specs.Notes.{FollowsNewest}
 use Rattle.sq_audit.proofs.Counting.{pair_is}

@@ -1,7 +1,7 @@
 use Rattle.std.proofs.Common.{Bool, Bor, List, subst, sym}
 use Rattle.std.specs.Bool.{Decides}
 use Rattle.std.proofs.lemmas.List.Sorted.{IsPermutation-sym}
-use Rattle.sq_node_model.specs.NodeValue.{ReceiptValue}
+use Rattle.sq_gather.specs.Prelude.{ReceiptValue}
 use Rattle.sq_audit.specs.Located.{entries_in}
 use Rattle.sq_audit.specs.Told.{values_of, KnowsAll, TellLogs, TellNoLog}
 use Rattle.sq_audit.proofs.Each.{decides_not, refuted, shown}

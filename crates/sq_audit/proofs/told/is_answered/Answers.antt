@@ -1,8 +1,6 @@
 use Rattle.std.proofs.Common.{Some, sym, ap, ◌∙◌}
-use Rattle.sq_schema.specs.TxnValue.{TxnValue}
-use Rattle.sq_schema.specs.Effect.{reply}
-use Rattle.sq_schema.proofs.Equal.{reply_same}
-use Rattle.sq_node_model.specs.NodeValue.{ReceiptValue}
+use Rattle.sq_gather.specs.Prelude.{TxnValue, reply, ReceiptValue}
+use Rattle.sq_gather.proofs.Prelude.{reply_same}
 use Rattle.sq_audit.specs.Answers.{is_of}
 use Rattle.sq_audit.proofs.Each.{shown}
 use Rattle.sq_audit.proofs.told.is_answered.Goals as goal

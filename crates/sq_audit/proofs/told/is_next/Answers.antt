@@ -1,8 +1,8 @@
 use Rattle.std.proofs.Common.{◌≡◌, Option, Some, sym, ap, ◌∙◌, subst, Bor}
 use Rattle.std.specs.Option.{option_copied}
 use Rattle.std.specs.Bool.{Decides}
-use Rattle.sq_schema.specs.TxnValue.{TxnValue}
-use Rattle.sq_schema.proofs.Equal.{txn_same}
+use Rattle.sq_gather.specs.Prelude.{TxnValue}
+use Rattle.sq_gather.proofs.Prelude.{txn_same}
 use Rattle.sq_audit.proofs.told.is_next.Goals as goal
 
 pub returns-in-Some : goal.returns-in-Some

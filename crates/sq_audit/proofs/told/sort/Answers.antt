@@ -1,7 +1,7 @@
 use Rattle.std.proofs.Common.{rules, ◌≡◌, List, IsPermutation, Bor, ◌∙◌, subst}
 use Rattle.std.proofs.lemmas.List.{take_all}
 use Rattle.std.proofs.lemmas.List.Sorted.{answers_always, IsPermutation-map}
-use Rattle.sq_node_model.specs.NodeValue.{ReceiptValue}
+use Rattle.sq_gather.specs.Prelude.{ReceiptValue}
 use Rattle.sq_audit.specs.Told.{values_of, receipt_key}
 use Rattle.sq_audit.proofs.Orders.{sorted_values}
 use Rattle.sq_audit.proofs.told.sort.Goals as goal

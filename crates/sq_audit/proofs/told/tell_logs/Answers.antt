@@ -1,7 +1,7 @@
 use Rattle.std.proofs.Common.{◌≡◌, ℕ, ◌-◌, ◌<◌, ⊎_elim, List, take, drop, slice_get, Some, sym, ap, ◌∙◌, subst, arith}
 use Rattle.std.specs.Bool.{Decides}
 use Rattle.std.proofs.lemmas.Bool.{cases_lt}
-use Rattle.sq_node_model.specs.NodeValue.{ReceiptValue}
+use Rattle.sq_gather.specs.Prelude.{ReceiptValue}
 use Rattle.sq_audit.specs.Located.{entry_of, entries_in}
 use Rattle.sq_audit.specs.Told.{values_of, receipts_of, AreInOrder, TellsLog, TellsEntry}
 use Rattle.sq_audit.proofs.Listing.{mapped_at, mapped_past}

@@ -1,5 +1,5 @@
 use Rattle.std.proofs.Common.{◌≡◌, ℕ, ◌<◌, ◌≤◌, length, slice_get, Some}
-use Rattle.sq_node_model.specs.NodeValue.{ReceiptValue}
+use Rattle.sq_gather.specs.Prelude.{ReceiptValue}
 use Rattle.sq_audit.specs.Located.{Entry, entries_in}
 use Rattle.sq_audit.specs.Told.{values_of, TellsEntry}
 use Rattle.sq_audit.proofs.Each.{EachTo}

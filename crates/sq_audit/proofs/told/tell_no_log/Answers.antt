@@ -1,5 +1,5 @@
 use Rattle.std.proofs.Common.{sym, ap, subst}
-use Rattle.sq_node_model.specs.NodeValue.{ReceiptValue}
+use Rattle.sq_gather.specs.Prelude.{ReceiptValue}
 use Rattle.sq_audit.specs.Index.{HasFamily}
 use Rattle.sq_audit.specs.Located.{entries_in}
 use Rattle.sq_audit.specs.Told.{TellsNoLog}

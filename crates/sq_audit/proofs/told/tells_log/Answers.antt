@@ -1,7 +1,6 @@
 use Rattle.std.proofs.Common.{◌≡◌, ◌+◌, ℕ, Bor, List, ◌≤◌, length, slice_get, Option, Some, sym, ap, ◌∙◌, subst, arith, eqb-true}
 use Rattle.std.specs.Option.{option_copied}
-use Rattle.sq_schema.specs.TxnValue.{TxnValue}
-use Rattle.sq_node_model.specs.NodeValue.{ReceiptValue}
+use Rattle.sq_gather.specs.Prelude.{TxnValue, ReceiptValue}
 use Rattle.sq_audit.specs.Told.{values_of, IsAnswerOn, rows_then}
 use Rattle.sq_audit.proofs.Listing.{mapped_at, mapped_past}
 use Rattle.sq_audit.proofs.Each.{decides_not, looked_up, refuted, shown, by_cases}

@@ -1,6 +1,5 @@
 use Rattle.std.proofs.Common.{List, refl, ap, ◌∙◌}
-use Rattle.sq_schema.specs.Family.{FamilyValue}
-use Rattle.sq_schema.specs.Table.{rows_in}
+use Rattle.sq_gather.specs.Prelude.{FamilyValue, rows_in}
 use Rattle.sq_page.proofs.Basing.{based, based_next, based_all}
 use Rattle.sq_page.proofs.bases.add_store.Goals as goal
 

@@ -1,6 +1,5 @@
 use Rattle.std.proofs.Common.{◌≡◌, ℕ, ◌≤◌, [], take}
-use Rattle.sq_schema.specs.declared.root.TheConstants.{ROOT_END}
-use Rattle.sq_schema.specs.Table.{rows_in}
+use Rattle.sq_gather.specs.Prelude.{ROOT_END, rows_in}
 use Rattle.sq_page.specs.Bases.{bases_among}
 use Rattle.sq_page.proofs.bases.bases.Given as goal
 

@@ -1,5 +1,5 @@
 use Rattle.std.proofs.Common.{sym, subst}
-use Rattle.sq_node_model.proofs.Folded.{rowless_opening}
+use Rattle.sq_gather.proofs.Prelude.{rowless_opening}
 use Rattle.sq_page.specs.Bases.{IsOpeningOfBases}
 use Rattle.sq_page.proofs.bases.opening_of_bases.Goals as goal
 

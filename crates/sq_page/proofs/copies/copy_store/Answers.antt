@@ -1,5 +1,5 @@
 use Rattle.std.proofs.Common.{◌∙◌, ap}
-use Rattle.sq_store.specs.StoreValue.{StoreValue, with_families, has_none_of}
+use Rattle.sq_gather.specs.Prelude.{StoreValue, with_families, has_none_of}
 use Rattle.sq_page.proofs.Copying.{wanted_differ, wanted_absent, wanted_copy}
 use Rattle.sq_page.proofs.copies.copy_store.Goals as goal
 

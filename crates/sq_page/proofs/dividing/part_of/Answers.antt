@@ -1,5 +1,5 @@
 use Rattle.std.proofs.Common.{List, filter, ap, ◌∙◌, subst}
-use Rattle.sq_node_model.specs.NodeValue.{ReceiptValue}
+use Rattle.sq_gather.specs.Prelude.{ReceiptValue}
 use Rattle.sq_page.specs.declared.page.Page.{Page}
 use Rattle.sq_page.specs.Parts.{jobs_of}
 use Rattle.sq_page.specs.Named.{AreNamed}

@@ -1,5 +1,5 @@
 use Rattle.std.proofs.Common.{sym, ap, ◌∙◌}
-use Rattle.sq_store.specs.StoreValue.{folded_store}
+use Rattle.sq_gather.specs.Prelude.{folded_store}
 use Rattle.sq_page.proofs.Mapping.{map_each}
 use Rattle.sq_page.proofs.folding.fold_each.Goals as goal
 

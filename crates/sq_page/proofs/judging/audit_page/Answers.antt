@@ -1,5 +1,5 @@
 use Rattle.std.proofs.Common.{List, Result, length, sym, ap, ◌∙◌, subst, arith}
-use Rattle.sq_ranges.specs.declared.fault.OpeningFault.{OpeningFault}
+use Rattle.sq_gather.specs.Prelude.{OpeningFault}
 use Rattle.sq_audit.specs.declared.verdict.Verdict.{Verdict}
 use Rattle.sq_page.specs.declared.page.Page.{Page}
 use Rattle.sq_page.specs.Divided.{IsLeastOf}

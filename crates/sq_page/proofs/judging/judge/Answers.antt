@@ -1,5 +1,5 @@
 use Rattle.std.proofs.Common.{List, sym, ap, ◌∙◌, subst}
-use Rattle.sq_store.specs.StoreValue.{StoreValue}
+use Rattle.sq_gather.specs.Prelude.{StoreValue}
 use Rattle.sq_audit.specs.declared.job.Job.{Job}
 use Rattle.sq_audit.specs.Answers.{IdsDiffer}
 use Rattle.sq_audit.specs.Defects.{IsVerdict}

@@ -1,5 +1,5 @@
 use Rattle.std.specs.List.{flat_map}
-use Rattle.sq_node_model.proofs.Folded.{rowless_opening}
+use Rattle.sq_gather.proofs.Prelude.{rowless_opening}
 use Rattle.sq_page.specs.Pages.{rows_stored}
 use Rattle.sq_page.proofs.Leaving.{left_placed, left_done}
 use Rattle.sq_page.proofs.laws.what_a_page_leaves_is_placed.Goals as goal

@@ -1,5 +1,5 @@
 use Rattle.std.proofs.Common.{refl, ap}
-use Rattle.sq_node_model.specs.Gathered.{GatheredValue}
+use Rattle.sq_gather.specs.Prelude.{GatheredValue}
 use Rattle.sq_page.proofs.Paging.{page_is}
 use Rattle.sq_page.proofs.taking.part_from.Goals as goal
 

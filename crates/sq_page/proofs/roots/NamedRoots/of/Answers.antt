@@ -2,7 +2,7 @@ use Rattle.std.proofs.Common.{◌≡◌, ℕ, List, Some, map, IsPermutation, sy
 use Rattle.std.proofs.lemmas.List.{take_all}
 use Rattle.std.proofs.lemmas.List.Sorted.{IsNonDecreasingBy-from_sort}
 use Rattle.std.proofs.lemmas.Option.{slice_get-get_or}
-use Rattle.sq_node_model.specs.NodeValue.{ReceiptValue}
+use Rattle.sq_gather.specs.Prelude.{ReceiptValue}
 use Rattle.sq_page.proofs.Naming.{root_of, number_next, named_by}
 use Rattle.sq_page.proofs.roots.NamedRoots.of.Goals as goal
 
