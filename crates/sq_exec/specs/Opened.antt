@@ -26,3 +26,8 @@ HasOwnedOf owners families part store = (root : ℕ) → get store root ≡ (if 
 -- the store has the family of each root key with opening rows that the partition owns, as it opens, and no other
 abbrev pub HasOwned : OpeningValue → ℕ → StoreValue → Type 0
 HasOwned o part store = HasOwnedOf (owner o.old) (λ root. opened_at (rows_in o.table root) root) part store
+
+-- these are the families of a partition before the move, those of the root keys that it owns
+pub record IsOpenStore (o : OpeningValue) (part : ℕ) (store : StoreValue) : Type 0 where
+  pub is : store ≡ (opened_part o part).store
+  pub owned : HasOwned o part store

@@ -5,4 +5,4 @@ pub use Rattle.sq_exec.specs.CoreValue.{CoreValue, entered_core, out_at, inbox_a
 pub use Rattle.sq_exec.specs.Kept.{IsCore}
 pub use Rattle.sq_exec.specs.Serving.{IsTaken, IsResumed}
 pub use Rattle.sq_exec.specs.Moving.{begun_core, CutsFor, may_load, LoadsFrom}
-pub use Rattle.sq_exec.specs.Opened.{opened_part, HasOwned}
+pub use Rattle.sq_exec.specs.Opened.{opened_part, HasOwned, IsOpenStore}

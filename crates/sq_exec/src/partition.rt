@@ -1,7 +1,7 @@
 // The partitions of an opening.
 ghost use Rattle.std.specs.Prelude.{◌≡◌, map, IfOk};
 ghost use Rattle.std.specs.List.{range_with_len};
-ghost use Rattle.sq_exec.specs.Opened.{opened_part, HasOwned};
+ghost use Rattle.sq_exec.specs.Opened.{opened_part, HasOwned, IsOpenStore};
 
 use crate::part_core::PartCore;
 use sq_plan::PartId;
@@ -24,6 +24,14 @@ pub fn open_partitions(
     Ok(cores)
 }
 
+/// The families of the root keys that a partition owns before the move.
+pub fn open_store(alloc: Global, opening: &Opening, part: PartId) -> Result<RunStore, AllocError>
+    ensures { IfOk result (IsOpenStore opening.now part) }
+{
+    let store = RunStore::opened(alloc, opening.old_plan(), part, opening.table())?;
+    Ok(store)
+}
+
 /// A partition with the families of the root keys that it owns. Its move hasn't started.
 pub fn open_partition(
     alloc: Global,
@@ -33,7 +41,7 @@ pub fn open_partition(
     ensures core { IfOk result (λ opened. opened.core ≡ opened_part opening.now part) }
     ensures families { IfOk result (λ opened. HasOwned opening.now part opened.core.store) }
 {
-    let store = RunStore::opened(alloc, opening.old_plan(), part, opening.table())?;
+    let store = open_store(alloc, opening, part)?;
     match PartCore::open(alloc, opening, part, store) {
         Ok(core) => Ok(core),
         Err(_) => Err(AllocError),

@@ -7,8 +7,8 @@ use Rattle.std.proofs.lemmas.List.{length-map, get_or-map}
 use Rattle.std.proofs.lemmas.List.FromFn.{fill_by_all}
 use Rattle.sq_ranges.specs.OpeningValue.{OpeningValue}
 use Rattle.sq_store.specs.StoreValue.{StoreValue}
-use Rattle.sq_exec.specs.Opened.{opened_part, HasOwned}
-use Rattle.sq_node.specs.Opened.{IsOpenStore, opened_stores, HaveOwned}
+use Rattle.sq_exec.specs.Opened.{opened_part, HasOwned, IsOpenStore}
+use Rattle.sq_node.specs.Opened.{opened_stores, HaveOwned}
 
 module _ (o : OpeningValue) (results : List (Result StoreValue AllocError)) (stores : List StoreValue) (all : map Ok stores ≡ results) (long : length results ≡ o.old.parts)
     (each : (i : ℕ) (d : Result StoreValue AllocError) → i < length results → IfOk (get_or results i d) (IsOpenStore o i)) where

@@ -35,11 +35,6 @@ opened_stores o = map (λ part. (opened_part o part).store) (range_with_len 0 o.
 abbrev pub HaveOwned : OpeningValue → Type 0
 HaveOwned o = (part : ℕ) → part < o.old.parts → HasOwned o part (opened_part o part).store
 
--- these are the families of a partition before the move, those of the root keys that it owns
-pub record IsOpenStore (o : OpeningValue) (part : ℕ) (store : StoreValue) : Type 0 where
-  pub is : store ≡ (opened_part o part).store
-  pub owned : HasOwned o part store
-
 -- the view of a tree's first seat, which has given out this many seats
 abbrev pub first_view : ℕ → View
 first_view given = record (fresh true false) { given = given }

@@ -1,16 +1,17 @@
 // Opening a run, and a stage of it.
 ghost use Rattle.std.specs.Prelude.{◌≡◌, ◌↔◌, ◌+◌, ◌<◌, ◌==◌, ◌≤◌, [], length, map, filter, Ok, IfOk, IfErr, OnOk, IsTrue};
 ghost use Rattle.sq_ranges.specs.Prelude.{IsSetUp, stage_on, stages};
+ghost use Rattle.sq_exec.specs.Prelude.{IsOpenStore};
 ghost use Rattle.sq_pull.specs.declared.numbers.TheConstants.{MAX_PUMPS};
 ghost use Rattle.sq_node.specs.FabricValue.{IsFabric, ends_of};
-ghost use Rattle.sq_node.specs.Opened.{AreFirstSeats, HaveCapacity, HasAllEnds, IsFabricOf, IsReopened, IsOpened, IsOpenStore, opened_stores, HaveOwned};
+ghost use Rattle.sq_node.specs.Opened.{AreFirstSeats, HaveCapacity, HasAllEnds, IsFabricOf, IsReopened, IsOpened, opened_stores, HaveOwned};
 
 use super::workers::{LooseEnds, open_nodes, open_pumps};
 use super::{Fabric, JOB_PLACES, REQUEST_PLACES};
 use crate::ends::{LinkEnd, PartEnd};
 use crate::run_parts::RunParts;
 use crossbeam_queue::ArrayQueue;
-use sq_exec::open_partition;
+use sq_exec::open_store;
 use sq_link::SharedLink;
 use sq_plan::PartId;
 use sq_ranges::{Link, Opening, Recon};
@@ -89,14 +90,6 @@ fn open_stores_in_threads<R: Threads + Sync>(
     )?;
     let stores = all_opened(alloc, opened)?;
     Ok(stores)
-}
-
-// The families of a partition before the move.
-fn open_store(alloc: Global, opening: &Opening, part: PartId) -> Result<RunStore, AllocError>
-    ensures { IfOk result (IsOpenStore opening.now part) }
-{
-    let core = open_partition(alloc, opening, part)?;
-    Ok(core.close().store)
 }
 
 // What was opened, where all was.
