@@ -38,10 +38,12 @@ pub(crate) trait Worker {
         ensures { Driven fabric.now self.old self.new };
 
     /// Without a turn a worker is as it was.
-    ghost no_turn: { (fabric : FabricValue) (worker : Self) → IsOf fabric worker → Driven fabric worker worker };
+    ghost no_turn: { (fabric : FabricValue) (worker : Self) → IsOf fabric worker
+        → Driven fabric worker worker };
 
     /// A worker stays one of the fabric.
-    ghost stays: { (fabric : FabricValue) (old new : Self) → Driven fabric old new → IsOf fabric new };
+    ghost stays: { (fabric : FabricValue) (old new : Self) → Driven fabric old new
+        → IsOf fabric new };
 
     /// What is driven further was driven.
     ghost further: { (fabric : FabricValue) (first old new : Self)

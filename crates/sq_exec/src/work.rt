@@ -26,7 +26,12 @@ impl Model for Work {
 
     ghost invariant = { λ w. w.rest.lo ≤ w.rest.hi };
 
-    ghost inverse = { λ w. record { seg = w.seg; node = w.node; pull = w.pull; rest = record { lo = w.rest; hi = w.hi } } };
+    ghost inverse = { λ w. record {
+      seg = w.seg;
+      node = w.node;
+      pull = w.pull;
+      rest = record { lo = w.rest; hi = w.hi };
+    } };
 }
 
 impl Work {

@@ -35,7 +35,8 @@ impl Model for Desk {
     ghost view = { λ d. record {
       receipts = d.receipts.items;
       posts = d.posts.items;
-      has_room = nat_lt (vec_len d.receipts) (vec_capacity d.receipts) && nat_lt (deque_len d.posts) (deque_capacity d.posts);
+      has_room = nat_lt (vec_len d.receipts) (vec_capacity d.receipts)
+          && nat_lt (deque_len d.posts) (deque_capacity d.posts);
     } };
 }
 
