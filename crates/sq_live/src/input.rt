@@ -1,7 +1,6 @@
 // Live runs, from bytes to bytes.
-ghost use Rattle.std.specs.Prelude.{◌≤◌, List, IfOk, IfErr, OnOk};
+ghost use Rattle.std.specs.Prelude.{List, IfOk, IfErr, OnOk};
 ghost use Rattle.std.specs.Io.KnownBytes.{Appends};
-ghost use Rattle.sq_pull.specs.declared.numbers.TheConstants.{MAX_PUMPS};
 ghost use Rattle.sq_lines.specs.Pieces.{PieceValue};
 ghost use Rattle.sq_lines.specs.Coming.{CanCome};
 ghost use Rattle.sq_lines.specs.Given.{IsGiven};
@@ -30,8 +29,8 @@ use std::thread::Threads;
 /// The input is a header, as [`read_header`] has it for a schema of [`MAX_TABLES`] tables, and jobs, as [`read_jobs`]
 /// has them. Where it has a fault, no thread is started, and the line has the fault. Else the stages of the move run
 /// one after another: each partition and each pump runs in a thread of its own, each of them up to so many turns in a
-/// stage, and asks `watch` before each step. A stage whose segments aren't all complete then stops the run. With
-/// `folds` the jobs that are answered are audited between two stages, and the logs folded. Where memory runs out, the
+/// stage, and asks `watch` before each step. A stage whose segments aren't all complete then stops the run. Where
+/// `manner` folds, the jobs that are answered are audited between two stages, and the logs folded. Where memory runs out, the
 /// line is that of its fault.
 ///
 /// An error is a write or a flush that failed.
@@ -43,20 +42,12 @@ pub fn live<T: Threads + Wait + Sync, R: Read, W: Write, G: Watch>(
     alloc: Global,
     reader: &mut R,
     writer: &mut W,
-    turns: u64,
-    pumps: u32,
-    folds: bool,
+    manner: RunManner,
     watch: &G,
 ) -> Result<LiveEnding, WriteFault>
-    requires { pumps ≤ MAX_PUMPS }
-    ensures { IfOk result (RunsLive folds MAX_TABLES (R.remaining reader.old)
+    ensures { IfOk result (RunsLive manner.folds MAX_TABLES (R.remaining reader.old)
         (W.contents writer.old) (W.contents writer.new)) }
 {
-    let manner = RunManner {
-        turns,
-        pumps,
-        folds,
-    };
     let ending = end_input(rt, alloc, reader, manner, watch);
     write_ending(writer, ending)?;
     writer.flush()?;

@@ -21,4 +21,5 @@ pub use job_list::{JobList, MAX_JOBS, read_jobs};
 pub use judging::count_commits;
 pub use outcome::{LiveOutcome, write_outcome};
 pub use sq_audit::Job;
+pub use stages::RunManner;
 pub use watch::Watch;

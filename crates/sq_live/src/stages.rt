@@ -29,13 +29,13 @@ use std::thread::Threads;
 
 /// How a run is run.
 #[derive(Clone, Copy)]
-pub(crate) struct RunManner {
+pub struct RunManner {
     /// How many turns each thread takes at most in a stage.
-    pub(crate) turns: u64,
-    /// How many pumps there are.
-    pub(crate) pumps: u32,
+    pub turns: u64,
+    /// How many pumps there are, at most `MAX_PUMPS`.
+    pub pumps: u32,
     /// Whether the logs are folded between stages.
-    pub(crate) folds: bool,
+    pub folds: bool,
     ghost few_pumps: { pumps ≤ MAX_PUMPS },
 }
 

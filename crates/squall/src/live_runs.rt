@@ -12,7 +12,7 @@ use crate::session::{REFUSED, explain, explain_write};
 use crate::source::Source;
 use sq_command::LiveOptions;
 use sq_inputs::Recalling;
-use sq_live::{LiveEnding, LiveFault, LiveOutcome, Watch, live};
+use sq_live::{LiveEnding, LiveFault, LiveOutcome, RunManner, Watch, live};
 use sq_report::{FiguresForm, RecordingWatch, Records, TimelineForm};
 use sq_text::{InputLine, WriteFault};
 use std::fs;
@@ -47,16 +47,15 @@ pub fn live_run<
         (recalling_remaining R.remaining reader.old) (W.contents writer.old)
         (W.contents writer.new)) live_status result }
 {
-    let LiveOptions {
-        turns,
-        pumps,
-        folds,
-        ..
-    } = options;
+    let manner = RunManner {
+        turns: options.turns,
+        pumps: options.pumps,
+        folds: options.folds,
+    };
     let told = recording(rt, options, watch);
     let ran = match &told {
-        Some(told) => live(rt, rt.alloc(), reader, writer, turns, pumps, folds, told),
-        None => live(rt, rt.alloc(), reader, writer, turns, pumps, folds, watch),
+        Some(told) => live(rt, rt.alloc(), reader, writer, manner, told),
+        None => live(rt, rt.alloc(), reader, writer, manner, watch),
     };
     explain_live(rt, source, reader, ran);
     let status = live_status(ran);

@@ -5,7 +5,7 @@ ghost use Rattle.sq_pull.specs.declared.numbers.TheConstants.{MAX_PUMPS};
 use super::driver::ALONE;
 use super::gates::{After, Counter, Enough, Meeting, Recorder, RecorderEnd};
 use sq_driver::NodeStep;
-use sq_live::{Watch, live};
+use sq_live::{RunManner, Watch, live};
 use std::alloc::Global;
 use std::sync::Wait;
 use std::test::Fail;
@@ -65,16 +65,12 @@ fn ended<R: Threads + Wait + Sync, G: Watch>(
 {
     let mut reader = input.as_bytes();
     let mut written = Vec::new(alloc);
-    let ending = live(
-        rt,
-        alloc,
-        &mut reader,
-        &mut written,
-        2_000_000,
+    let manner = RunManner {
+        turns: 2_000_000,
         pumps,
         folds,
-        gate,
-    )?;
+    };
+    let ending = live(rt, alloc, &mut reader, &mut written, manner, gate)?;
     Ok((String::from_utf8(written)?, ending.status()))
 }
 
