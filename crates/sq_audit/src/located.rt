@@ -85,7 +85,6 @@ fn add_under_way<'a>(
     Ok(())
 }
 
-// Adds the families of a chunk.
 fn add_carried<'a>(
     all: &mut Vec<Located<'a>>,
     site: Site,

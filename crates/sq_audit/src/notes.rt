@@ -45,7 +45,7 @@ fn link_fits(
     tile(alloc, opening, &link.notes)
 }
 
-// Whether the chunks are those of the last notes.
+// Whether each chunk has its note among the last ones, in their order.
 fn are_of_last(chunks: &[Chunk], notes: &[Note]) -> bool
     ensures last { Decides result (AreOfLast chunks.now notes.now) }
     ensures within { result ≡ true → HoldTheirKeys chunks.now }

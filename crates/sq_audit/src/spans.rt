@@ -96,7 +96,6 @@ fn owner_in(opening: &Opening, stage: u64, root: Root) -> PartId
     }
 }
 
-// The one of these that covers a key.
 fn covering<'a>(spans: &[Span<'a>], key: u64) -> Option<Span<'a>>
     requires { AreByKey (marked_in spans.now) }
     ensures { option_map marked_of result ≡ find (is_over key) (marked_in spans.now) }

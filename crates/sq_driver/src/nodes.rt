@@ -86,7 +86,7 @@ impl<T: Teller> Worker for TellingNode<T> {
 /// or loaded a chunk, it continues with jobs until it has done three times as much for them as for chunks, or finds
 /// none.
 ///
-/// It ends before where it is idle, unless the gate says that it continues then. And it ends where the gate says so,
+/// It ends before where it is idle, unless the gate says that it continues then. It also ends where the gate says so,
 /// which is asked before each step. The gate hears of each step in which there was something to do, and where the node
 /// rests after a turn without work, during which it may keep it for a while.
 pub fn drive<R: Wait, G: Gate>(rt: &R, fabric: &Fabric, node: &mut Node, turns: u64, gate: &G)

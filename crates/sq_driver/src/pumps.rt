@@ -59,7 +59,7 @@ impl Worker for Pump {
 /// it.
 ///
 /// It ends before where it is done: there was nothing to claim in any segment of the running stage, and nothing is
-/// pending. And it ends where the gate says so, which is asked before each turn. The gate hears of each claim, and
+/// pending. It also ends where the gate says so, which is asked before each turn. The gate hears of each claim, and
 /// where the pump rests, during which it may keep it for a while.
 pub fn drive_pump<R: Wait, G: Gate>(rt: &R, fabric: &Fabric, pump: &mut Pump, turns: u64, gate: &G)
     requires { AreSeatsOf fabric.now.trees pump.old.seats }

@@ -339,7 +339,6 @@ fn answered_of(
     Ok((ids, answered))
 }
 
-// Whether the stage that was gathered is the last one.
 fn is_last(g: &Gathered, opening: &Opening) -> bool
     requires { g.now.stage < stages opening.now.recon }
     ensures last { result ≡ true → g.now.stage + 1 ≡ stages opening.now.recon }

@@ -44,7 +44,6 @@ impl EpochGate {
         self.is_over.load(Ordering::SeqCst)
     }
 
-    /// Notes that the workers have ended.
     pub(crate) fn workers_end(&self) {
         self.have_ended.store(true, Ordering::SeqCst);
     }

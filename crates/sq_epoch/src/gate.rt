@@ -6,7 +6,7 @@ use std::sync::Wait;
 use std::sync::atomic::{AtomicBool, AtomicU64, Ordering};
 
 /// A gate before another gate, which counts the segments of a stage that are complete, and the families and bytes that were moved.
-/// Once all segments are, it ends workers that don't end where they are idle, so that the next stage can begin. And it ends all
+/// Once all segments are, it ends workers that don't end where they are idle, so that the next stage can begin. It also ends all
 /// workers where one rests for some seconds while a node hasn't come, for want of a thread.
 #[derive(Drop)]
 pub struct CountingGate<'a, G> {

@@ -26,7 +26,6 @@ impl Arrivals {
         show_long_log: false,
     };
 
-    // With one more receipt.
     fn with(self, receipt: &Receipt) -> Arrivals {
         Arrivals {
             count: self.count.saturating_add(1),

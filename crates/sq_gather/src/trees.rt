@@ -26,7 +26,6 @@ pub fn close_trees(
     close_each(trees, first, room)
 }
 
-// Joins the seats of each owner into the first seats.
 fn join_owners(trees: &[StatusTree], first: &mut Vec<TreeSeat>, owners: Vec<Vec<TreeSeat>>)
     requires first { AreSeatsOf trees.now first.old.items }
     requires opened { AreFirst first.old.items }
@@ -41,7 +40,6 @@ fn join_owners(trees: &[StatusTree], first: &mut Vec<TreeSeat>, owners: Vec<Vec<
     }
 }
 
-// Joins a seat of each tree into the first one.
 fn join_seats(trees: &[StatusTree], first: &mut Vec<TreeSeat>, mut seats: Vec<TreeSeat>)
     requires first { AreSeatsOf trees.now first.old.items }
     requires opened { AreFirst first.old.items }

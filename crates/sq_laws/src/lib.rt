@@ -65,7 +65,7 @@ pub fn chunks_are_cut_as_they_are_counted()
 {}
 
 /// Whatever the steps before: a transaction that is answered ran at the one partition that runs those on its root key, on
-/// the rows of the one table; one that waits has its rows on their way there, or stands behind another; a chunk is cut and
+/// the rows of the one table; one that waits has its rows on their way there, or waits behind another; a chunk is cut and
 /// loaded in its turn, with keys that none had before; a node is complete once its last chunk is loaded, a stage is left
 /// once each of its segments is complete, and the move ends once each root key is where the new plan has it.
 pub fn each_answer_says_what_was_so()

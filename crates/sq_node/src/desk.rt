@@ -41,7 +41,7 @@ impl Model for Desk {
 }
 
 impl Desk {
-    /// Nothing.
+    /// A desk on which nothing lies.
     pub(crate) fn new(alloc: Global) -> Desk
         ensures receipts { result.receipts ≡ [] }
         ensures posts { result.posts ≡ [] }
@@ -77,7 +77,7 @@ impl Desk {
         self.posts.reserve(1)
     }
 
-    /// Adds a receipt.
+    /// Adds a receipt behind the others, for which there is room.
     pub(crate) fn add(&mut self, receipt: Receipt)
         requires { self.old.has_room ≡ true }
         ensures receipts { self.new.receipts ≡ self.old.receipts ++ receipt ∷ [] }

@@ -74,7 +74,6 @@ fn add_store(table: &mut Table, store: &RunStore) -> Result<(), AllocError>
     Ok(())
 }
 
-// Adds the base of a family, if it has one.
 fn add_base(table: &mut Table, family: &Family) -> Result<(), AllocError>
     ensures rows { OnOk result ((root : ℕ)
         → rows_in table.new root ≡ base_beside (rows_in table.old) family.now root) }

@@ -66,7 +66,7 @@ fn copy_or_empty(
     }
 }
 
-// What was copied, where all was.
+// The copies, if each was made.
 fn all_copied(
     alloc: Global,
     copied: Vec<Result<RunStore, AllocError>>,

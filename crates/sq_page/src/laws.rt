@@ -9,7 +9,7 @@ ghost use Rattle.sq_page.specs.Pages.{AllStored, IsPageOf, IsPlanAfter, HasLedTo
 ghost use Rattle.sq_page.specs.Parts.{IsStillPartOf, IsLeastOnParts};
 
 /// A page speaks for all: where a run is placed, and a page of it is sound on its own for some jobs, under whatever
-/// opening it is read, the run is sound for these jobs. And where the page is at rest with a plan, the verdict on it is
+/// opening it is read, the run is sound for these jobs. Where the page is at rest with a plan, the verdict on it is
 /// that on each run that it is a page of and whose stage led to this plan.
 pub fn a_page_speaks_for_all()
     ensures sound { (o rest : OpeningValue) (g page : GatheredValue) (jobs : List Job)

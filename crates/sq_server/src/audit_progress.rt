@@ -17,12 +17,10 @@ impl AuditProgress {
         }
     }
 
-    /// An audit begins.
     pub fn begin(&self) {
         self.has_begun.store(true, Ordering::SeqCst);
     }
 
-    /// It has ended.
     pub fn end(&self) {
         self.has_ended.store(true, Ordering::SeqCst);
     }

@@ -325,7 +325,7 @@ impl<W: Write + Drop> ServeDesk<W> {
         }
     }
 
-    // Whether more lines are taken.
+    // Whether the next line is read: queues have room, the desk has not stopped, and no wish waits.
     fn takes_lines(&self) -> bool {
         !self.sides.are_full() && !self.has_stopped() && self.next_wish.is_none()
     }
@@ -375,7 +375,8 @@ impl<W: Write + Drop> ServeDesk<W> {
         }
     }
 
-    // Takes a job. Gives it back where no job of its partition waits.
+    // Puts a job behind those of its partition that wait. Gives it back where none waits, or writes that there is no such
+    // partition.
     fn take_job(&mut self, line: u64, part: u64, txn: Txn) -> Option<Job>
         ensures heard { received self.new.feed ≡ received self.old.feed }
         ensures handles { Handles (fed.Line line (Ok (asks.Job part txn)) ∷ []) []
@@ -390,7 +391,7 @@ impl<W: Write + Drop> ServeDesk<W> {
         }
     }
 
-    // Takes a job of a partition that there is. Gives it back where no job of that waits.
+    // Puts a job of an existing partition behind those that wait for it. Gives it back where none waits.
     fn take_job_at(&mut self, line: u64, at: u8, txn: Txn) -> Option<Job>
         requires { at < length self.old.sides }
         ensures heard { received self.new.feed ≡ received self.old.feed }

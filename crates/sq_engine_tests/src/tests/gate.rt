@@ -14,14 +14,14 @@ const RESTS: [(u64, bool); 2] = [(1, true), (MANY_TURNS, false)];
 
 #[test]
 fn a_node_without_a_thread_ends_an_epoch(rt: HostRuntime) {
-    for (turns, goes_on) in &RESTS {
+    for (turns, continues) in &RESTS {
         let gate = CountingGate::new(&OpenGate, 2, StageProgress::at_start(1));
         assert!(rt; gate.pass(FIRST, NodeStep::Job));
         gate.rests(&rt, FIRST, *turns);
         for node in &NODES {
             assert_eq!(rt;
                 gate.pass(*node, NodeStep::Job),
-                *goes_on,
+                *continues,
                 "after {turns} turns"
             );
         }

@@ -92,7 +92,7 @@ fn open_stores_in_threads<R: Threads + Sync>(
     Ok(stores)
 }
 
-// What was opened, where all was.
+// The stores, if each was opened.
 fn all_opened(
     alloc: Global,
     opened: Vec<Result<RunStore, AllocError>>,

@@ -36,7 +36,7 @@ impl Fabric {
     }
 }
 
-// A seat at each tree.
+// Shares each tree with one more worker, and gives the seats.
 fn share_all(
     alloc: Global,
     trees: &[StatusTree],

@@ -127,7 +127,7 @@ fn begin(
     true
 }
 
-// The same in the node's tree.
+// Begins a node in the tree of its segment, if it is claimed for the pull.
 fn begin_at(trees: &[StatusTree], seats: &mut Vec<TreeSeat>, at: &TreeNode, pull: u32) -> bool
     requires seats { AreSeatsOf trees.now seats.old.items }
     requires segment { at.now.seg < length trees.now }

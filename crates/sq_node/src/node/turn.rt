@@ -58,7 +58,7 @@ impl Node {
             || self.core.outbox(dst).is_some())
     }
 
-    /// What it had.
+    /// Takes the node apart, without a copy.
     pub fn into_parts(self) -> NodeParts
         ensures part { result.part ≡ self.core.part }
         ensures store { result.core.store ≡ self.core.store }

@@ -126,7 +126,6 @@ impl TestRun {
         Ok(TestRun::new(parts))
     }
 
-    // The run of these parts, which are all.
     fn new(run: RunParts) -> TestRun
         requires { AreAllOf run.fabric run.nodes.items run.pumps.items }
     {
@@ -264,7 +263,6 @@ impl TestRun {
         true
     }
 
-    /// What is gathered of it.
     pub fn gathered<R: Wait + Abort>(self, rt: &R, alloc: Global) -> Gathered {
         let TestRun {
             fabric,

@@ -61,7 +61,6 @@ fn write_store(text: &mut Vec<u8>, part: PartId, store: &RunStore) -> Result<(),
     Ok(())
 }
 
-// Each link.
 fn write_links(text: &mut Vec<u8>, links: &[ClosedLink]) -> Result<(), WriteFault> {
     for link in links {
         write_link(text, link)?;
