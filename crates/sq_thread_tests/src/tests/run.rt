@@ -90,8 +90,7 @@ pub fn work_to_end<R: Threads + Wait + Sync>(
     count_receipts(&nodes)
 }
 
-/// A run: what its nodes share, all nodes and all pumps. It is let go in a function of its own, so that each way out of a test
-/// calls that one.
+/// A run: what its nodes share, all nodes and all pumps. Its drop is a function of its own, which each way out of a test calls.
 pub struct TestRun {
     fabric: Fabric,
     nodes: Vec<Node>,
