@@ -31,7 +31,7 @@ room=$(mktemp -d)
 trap 'rm -r "$room"' EXIT
 
 # The input: what moves, if anything does, how many jobs there are, and the limit of a chunk. Where nothing moves a range
-# without a family does, since a run is told by its segments. Numbers by chance are those of Park and Miller.
+# without a family does, since a run reports its segments. Numbers by chance are those of Park and Miller.
 input='
 function random(below) { state = (state * 16807) % 2147483647; return state % below }
 function range(from, to, part) { return "[" from "," to "," part "]" }
@@ -63,7 +63,7 @@ BEGIN {
     }
 }'
 
-# What a timeline tells: the milliseconds of the threads, those until all has moved, how many jobs are answered until then, the
+# What a timeline shows: the milliseconds of the threads, those until all has moved, how many jobs are answered until then, the
 # longest time without an answer, when the last job is answered, and how many waited. The threads start so many milliseconds
 # before its last line.
 tell='
@@ -83,7 +83,7 @@ END {
 # make NAME MOVES JOBS LIMIT: an input.
 make() { awk -v parts="$parts" -v moves="$2" -v jobs="$3" -v limit="$4" "$input" > "$room/$1"; }
 
-# run NAME: what is told of a run of an input.
+# run NAME: the figures of a run of an input.
 run() {
     local threads waited
     "$squall" live --turns 1000000000 --summary --timeline "$room/timeline.csv" "$room/$1" > "$room/line" 2> "$room/summary"
@@ -108,7 +108,7 @@ END {
     }
 }'
 
-# A round, from what is told of the jobs alone, of the move alone, and of both.
+# A round, from the figures of the jobs alone, of the move alone, and of both.
 line='{
     J = $5; M = $7; whole = $13; moved = $14; inside = $15; last = $17; rate = 4096 / J
     print J, M, whole, whole / (J + M), moved, inside, inside / moved / rate, J / (J + M), last, 4096 / last / rate, $18, $16

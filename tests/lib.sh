@@ -18,7 +18,7 @@ top=$(dirname "$tests")
 examples=$top/examples
 
 # What is tried without a case, since it needs more than words and an input: each KIND by try_KIND in tests/run.sh.
-kinds='numbers plans pairs helps streams late_write memory session header_session terminal told results serve pumps again rounds steps demo'
+kinds='numbers plans pairs helps streams late_write memory session header_session terminal reports results serve pumps again rounds steps demo'
 
 # --- cases ---
 
@@ -127,7 +127,7 @@ said() {
 
 # --- pages ---
 
-# What is told in the pages is what is stored: this needs no program.
+# The pages quote what is stored: this needs no program.
 try_pages() {
     try_tour
     try_readme
@@ -141,28 +141,28 @@ try_tour() {
     local page=$top/docs/guide/tour.md
     sed -n 's/^    > //p' "$page" > "$room/in"
     sed -n '/^    > /d; s/^    //p' "$page" > "$room/out"
-    count tour_as_it_is_told \
+    count tour_as_in_its_case \
         "$(difference "$tests/cases/run/tour/in" "$room/in"; difference "$tests/cases/run/tour/out" "$room/out")"
 }
 
 # The answers in the README are those of its first example.
 try_readme() {
-    sed -n '/^    ok$/,/^    at /s/^    //p' "$top/README.md" > "$room/told"
-    count answers_as_they_are_told "$(difference "$examples/first-move.out" "$room/told")"
+    sed -n '/^    ok$/,/^    at /s/^    //p' "$top/README.md" > "$room/got"
+    count answers_as_in_the_example "$(difference "$examples/first-move.out" "$room/got")"
 }
 
 # Each block of code in docs/guide/library.md is in a caller of the library: the first in that of a world, the second in that of an
 # engine.
 try_library() {
-    try_block 1 code_as_it_is_told crates/sq_examples/src/world.rt
-    try_block 2 code_of_an_engine_as_it_is_told crates/sq_examples/src/engine.rt
+    try_block 1 code_as_in_its_caller crates/sq_examples/src/world.rt
+    try_block 2 code_of_an_engine_as_in_its_caller crates/sq_examples/src/engine.rt
 }
 
 # try_block NUMBER NAME FILE: whether the block of this number isn't empty and stands in the file, line by line.
 try_block() {
     awk -v wanted="$1" '/^```rust$/ { block++; inside = 1; next } /^```$/ { inside = 0 } inside && block == wanted' \
-        "$top/docs/guide/library.md" > "$room/told"
-    if [ -s "$room/told" ] && [[ $'\n'$(< "$top/$3")$'\n' = *$'\n'"$(< "$room/told")"$'\n'* ]]; then
+        "$top/docs/guide/library.md" > "$room/got"
+    if [ -s "$room/got" ] && [[ $'\n'$(< "$top/$3")$'\n' = *$'\n'"$(< "$room/got")"$'\n'* ]]; then
         count "$2" ""
     else
         count "$2" "the block isn't in $3"
@@ -171,7 +171,7 @@ try_block() {
 
 # What the pages of docs/proof name is defined.
 try_names() {
-    count names_as_they_are_defined "$(bash "$tests/page_names.sh" > "$room/told" || head -n 1 "$room/told")"
+    count names_as_they_are_defined "$(bash "$tests/page_names.sh" > "$room/got" || head -n 1 "$room/got")"
 }
 
 # The pictures in docs: of the crates, as they are drawn; of what moves, as it is stored, of the example; of a tree before a
@@ -182,6 +182,6 @@ try_drawings() {
     count moves_as_they_are_drawn "$(difference "$tests/cases/pictures/two_ranges_svg/out" "$top/docs/moves.svg")"
     count moves_of_the_example "$(difference "$examples/ranges.txt" "$tests/cases/pictures/two_ranges_svg/in")"
     (cd "$top/docs" && sha256sum tree-before.svg tree-after.svg) | cut -d ' ' -f 1 > "$room/picture"
-    sed -nE 's/^const (BEFORE|AFTER): &str = "(.*)";$/\2/p' "$top/crates/sq_tests/src/tests/picture.rt" > "$room/told"
-    count trees_as_they_are_drawn "$(difference "$room/told" "$room/picture")"
+    sed -nE 's/^const (BEFORE|AFTER): &str = "(.*)";$/\2/p' "$top/crates/sq_tests/src/tests/picture.rt" > "$room/got"
+    count trees_as_they_are_drawn "$(difference "$room/got" "$room/picture")"
 }

@@ -226,7 +226,7 @@ is_moved() { printf '%s\n' ok ok 'cut 0 0 1 4 8 last 1' ok ok 'load 0 0 1 4 8 la
     printf '%s\n' 'end moving' 'at 1 5 1026 0.0=1034/-' 'at 1 6 1'
 } | output waiting_list_that_empties
 
-# A transaction whose log is full is passed over, and goes on waiting.
+# A transaction whose log is full is passed over, and still waits.
 {
     header
     repeat 4096 'txn 0 1 5 get 0 0'

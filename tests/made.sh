@@ -118,7 +118,7 @@ echoed() {
         { print lines[NR] " -> " $0 }' "$2"
 }
 
-# Each stored run with --echo, but for faults, for scripts that end in a line without an end, which are told apart, and for plans in
+# Each stored run with --echo, but for faults, for scripts that end in a line without an end, which have a test of their own, and for plans in
 # files of their own.
 make_echoes() {
     local case name
@@ -181,7 +181,7 @@ of_a_file() {
     cp "$examples/$2.out" "$case/out"
 }
 
-# An input may be a file that is named; one that can't be read is told by its name.
+# An input may be a file that is named; where one can't be read, the message has its name.
 make_files() {
     local word case
     of_a_file run first-move run
@@ -213,7 +213,7 @@ parts() {
     awk 'NR == 3; NR > 3 && (past || !/^row /) { past = 1; print }' "$whole" > "$1/in"
 }
 
-# in_parts OTHER: what comes of the parts of a stored case is what comes of the whole, and so it is if the rest is a file too.
+# in_parts OTHER: a stored case in parts has the output of the whole, also if the rest is a file too.
 in_parts() {
     local case=parts/${1#*/}
     parts "$case" "$1" "${1%/*}"
@@ -281,7 +281,7 @@ make_faults_in_parts() {
         'word 4 is missing: a number up to 18446744073709551615, in decimal digits without a leading zero'
 }
 
-# A part that can't be read is told by its name.
+# Where a part can't be read, the message has its name.
 make_missing_parts() {
     local word name case
     for word in run ranges live; do

@@ -58,11 +58,11 @@ hand_over() {
 run_lane() {
     local own="s/(^|: |\`)program( |:|\$)/\1squall\2/; s/'program'/'squall'/" data
     mapfile -t data < "$1/data"
-    (cd "$top/crates/squall" && rt try --steps 1 --cases "$1/given" "${data[@]}") > "$1/written" 2> "$1/told" || true
+    (cd "$top/crates/squall" && rt try --steps 1 --cases "$1/given" "${data[@]}") > "$1/written" 2> "$1/log" || true
     sed -E "$own" "$1/written" | awk -v folder="$room/outputs/" '
         /^== / { close(file); file = folder $2; printf "" > file; next }
         { print > file }'
-    sed -E "$own" "$1/told" | awk -v errors="$room/said/" -v ended="$room/ended/" '
+    sed -E "$own" "$1/log" | awk -v errors="$room/said/" -v ended="$room/ended/" '
         /^case=/ {
             name = substr($1, 6)
             printf "%s", text > (errors name); close(errors name)
@@ -71,7 +71,7 @@ run_lane() {
             next
         }
         { text = text $0 "\n" }'
-    tail -n 1 "$1/told"
+    tail -n 1 "$1/log"
 }
 
 # judge_tried FOLDER CASE: counts a case by what was written for it.
@@ -84,7 +84,7 @@ judge_tried() {
     judge_case "$1" "$2"
 }
 
-# test_functions CRATE: runs the test functions of a crate, and tells how many passed.
+# test_functions CRATE: runs the test functions of a crate, and prints how many passed.
 test_functions() {
     if (cd "$top/crates/$1" && rt try --test) > "$room/$1" 2>&1; then
         echo "$1: $(grep '^test result' "$room/$1")"

@@ -13,7 +13,7 @@
 #   vec          `apply`, `take` and `give` of a `VecStore`, with all families after each; one that is refused is called once more
 #   block        the same of a `SlabStore`
 #   runs         the same of a `RunStore`
-#   nodes        a tree and a link by themselves, and two pulls of a leaf, the second of which is under way at the end
+#   nodes        a tree and a link without nodes, and two pulls of a leaf, the second of which is under way at the end
 #   two_stages   a move in two stages with a fold between them
 #   page         a page of a run at rest, which is taken and audited
 #   engine       an engine: a client of three jobs at rest, a pause, a page, a move with a client, a move back without one, and the
@@ -21,7 +21,7 @@
 #                without a client
 #   chain        the epochs of an engine one by one: a move in two stages, a page between them, a move back, and the end
 #
-# All tell first that they start, so that an output that is empty is a run that died.
+# All print first that they start, so that an output that is empty is a run that died.
 #
 # A step that answered 222 changed nothing: made once more it answers as it was to, and so do all later ones, with the same
 # dump. Of a list at most one step is refused, and the rest is what the rules say of the script without it.
@@ -107,7 +107,7 @@ widened_tries() {
 # it was given are away then. `--steps 0` leaves out the interpreter, which would take as long as the program.
 run_inputs() {
     (cd "$room/crates/refused_calls" && rt try --steps 0 --cases "$room/inputs" --fail-alloc "$failing") \
-        > "$room/written" 2> "$room/told" || { cat "$room/told" >&2; exit 1; }
+        > "$room/written" 2> "$room/got" || { cat "$room/got" >&2; exit 1; }
     awk -v folder="$room/outputs/" '/^== / { close(file); file = folder $2; printf "" > file; next } { print > file }' \
         "$room/written"
     rm -f "$room"/inputs/*

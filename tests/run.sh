@@ -46,7 +46,7 @@ compare() {
     judge "$1" "$3" "$room/wanted" "$room/said"
 }
 
-# What is told of a number is of one table: the texts of faults in tests/texts, and what 'squall explain' tells of each number
+# The texts of a number are of one table: those of faults in tests/texts, and what 'squall explain' writes of each number
 # alone. The case usage/explain has the whole table.
 try_numbers() {
     local number text
@@ -260,7 +260,7 @@ try_session() {
     count session "$why"
 }
 
-# One who types a header at the program is told of a line's fault before the next line: of plans that can't be, of a size, of
+# One who types a header at the program reads of a line's fault before the next line: of plans that can't be, of a size, of
 # the first row and of a later one.
 try_header_session() {
     typed run
@@ -297,18 +297,18 @@ typed() {
     rm "$room/typed"
 }
 
-# At a terminal a live run tells how far it is, when it begins, then as it goes on, ten times a second at most, and when it ends,
+# At a terminal a live run says how far it is: when it begins, then ten times a second at most, and when it ends,
 # never less than before, on one line that is blank before the run's own line is written. A carriage return stands before each.
 try_terminal() {
-    local jobs=42 segments=4 told why= began=$SECONDS
+    local jobs=42 segments=4 lines why= began=$SECONDS
     script -qefc "exec '$squall' live < '$examples/live-move.txt'" /dev/null < /dev/null | tr '\r' '\n' > "$room/terminal"
-    grep " jobs, " "$room/terminal" > "$room/told" || true
-    told=$(wc -l < "$room/told")
-    if [ "$told" -gt $(((SECONDS - began + 1) * 10 + 3)) ]; then why="$told lines of progress"; fi
-    if ! awk '$1 < jobs || $5 < families || $8 < segments { exit 1 } { jobs = $1; families = $5; segments = $8 }' "$room/told"; then why='less than before'; fi
-    if [ "$(head -n 1 "$room/told")" != "0 of $jobs jobs, 0 families moved, 0 of $segments segments" ]; then why='another first line'; fi
+    grep " jobs, " "$room/terminal" > "$room/got" || true
+    lines=$(wc -l < "$room/got")
+    if [ "$lines" -gt $(((SECONDS - began + 1) * 10 + 3)) ]; then why="$lines lines of progress"; fi
+    if ! awk '$1 < jobs || $5 < families || $8 < segments { exit 1 } { jobs = $1; families = $5; segments = $8 }' "$room/got"; then why='less than before'; fi
+    if [ "$(head -n 1 "$room/got")" != "0 of $jobs jobs, 0 families moved, 0 of $segments segments" ]; then why='another first line'; fi
     # Each of the 20 root keys that move has its row from the beginning.
-    if [ "$(tail -n 1 "$room/told")" != "$jobs of $jobs jobs, 20 families moved, $segments of $segments segments" ]; then why='no line of the whole'; fi
+    if [ "$(tail -n 1 "$room/got")" != "$jobs of $jobs jobs, 20 families moved, $segments of $segments segments" ]; then why='no line of the whole'; fi
     printf '%72s\n%s\n' '' 'sound 21 families 41 committed' > "$room/wanted"
     tail -n 3 "$room/terminal" | head -n 2 > "$room/ends"
     count progress_at_a_terminal "$why$(difference "$room/wanted" "$room/ends")"
@@ -320,9 +320,9 @@ try_terminal() {
 # typed_input NAME FIRST WORD..: at a terminal a subcommand without a file says that it reads standard input, and with which
 # line that begins.
 typed_input() {
-    timeout 60 script -qefc "exec '$squall' ${*:3}" /dev/null < /dev/null | tr -d '\r' | head -n 1 > "$room/told" || true
+    timeout 60 script -qefc "exec '$squall' ${*:3}" /dev/null < /dev/null | tr -d '\r' | head -n 1 > "$room/got" || true
     echo "squall: reading standard input up to its end (Ctrl-D); it begins with the line '$2'" > "$room/wanted"
-    count "$1" "$(difference "$room/wanted" "$room/told")"
+    count "$1" "$(difference "$room/wanted" "$room/got")"
 }
 
 # counted: a summary without what depends on the threads: in how many chunks keys moved, at which partition a job was answered
@@ -335,7 +335,7 @@ counted() {
         { print }'
 }
 
-# summary NAME LINKS COUNTS [OPTION]: the summary of a stored live run tells these lines of links, and this of all partitions.
+# summary NAME LINKS COUNTS [OPTION]: the summary of a stored live run has these lines of links, and this of all partitions.
 summary() {
     local case=$tests/cases/live/$1
     {
@@ -351,8 +351,8 @@ summary() {
     judge "live --summary $1 ${*:4}" 0 "$case/out" "$room/said"
 }
 
-# What a live run tells besides its line: a summary, and a timeline of jobs and segments. Nothing of a fault.
-try_told() {
+# What a live run reports besides its line: a summary, and a timeline of jobs and segments. Nothing of a fault.
+try_reports() {
     local links why chart stages=$tests/cases/live/jobs_of_each_stage
     summary no_jobs_and_no_move '' '1 partitions, 0 committed, 0 aborted'
     summary moves_while_jobs_run ' 0 -> 1             4           1 chunks' '2 partitions, 3 committed, 1 aborted'
@@ -371,8 +371,8 @@ try_told() {
         END { if (jobs != 21 || segments != 3 || NR != 25) print "ends with " $0 }' "$room/moments.csv")
     count moments_of_a_run "$why"
     awk '$1 == "txn" { print $3 }' "$stages/in" | sort > "$room/wanted"
-    awk -F, 'NR > 1 && $5 != "" { print $5 }' "$room/moments.csv" | sort > "$room/told"
-    count jobs_of_a_timeline "$(difference "$room/wanted" "$room/told")"
+    awk -F, 'NR > 1 && $5 != "" { print $5 }' "$room/moments.csv" | sort > "$room/got"
+    count jobs_of_a_timeline "$(difference "$room/wanted" "$room/got")"
     give "$stages/in" live --timeline "$room/moments.svg"
     judge 'live --timeline moments.svg' 0 "$stages/out" /dev/null
     chart=$(cat "$room/moments.svg")
@@ -401,8 +401,8 @@ try_figures() {
     # Of 5, 6 and 13 that go to partition 1, and of 9 and 11 that go to 2, each has one row without a note: 32 and 24 bytes.
     echo '{"links":[{"bytes":168,"chunks":C,"dst":1,"families":3,"keys":8,"rows":3,"src":0,"stage":0},{"bytes":112,"chunks":C,"dst":2,"families":2,"keys":4,"rows":2,"src":0,"stage":1}]' > "$room/wanted"
     sed -E 's/"chunks":[1-9][0-9]*/"chunks":C/g; s/,"microseconds":\{"audits":[0-9]+,"reading":[0-9]+,"threads":[0-9]+\},"partitions":\[.*\],"whole":true\}$//' \
-        "$room/figures.json" > "$room/told"
-    count figures_of_links "$(difference "$room/wanted" "$room/told")"
+        "$room/figures.json" > "$room/got"
+    count figures_of_links "$(difference "$room/wanted" "$room/got")"
     # Of each partition: aborted, the longest, median and 99th of all, committed, its number, those that waited, the same of these,
     # and of their waits.
     why=$(sed 's/.*"partitions"//; s/p99/p/g; s/null/{"longest":0,"median":0,"p":0}/g; s/"aborted"/\n&/g' "$room/figures.json" | sed -E '1d; s/[^0-9]+/ /g' |
@@ -424,8 +424,8 @@ try_figures() {
         echo 'partition      median   99 of 100     longest'
         echo 'milliseconds: reading TIME, threads TIME, audits TIME'
     } > "$room/wanted"
-    sed -E '/^ *[0-9]+ +[0-9]+ +[0-9]+ +[0-9]+$/d; s/^(.* -> .*[^ ]) +[1-9][0-9]*$/\1 chunks/; s/[0-9]+\.[0-9]{3}/TIME/g' "$room/figures.txt" > "$room/told"
-    count figures_as_text "$(difference "$room/wanted" "$room/told")"
+    sed -E '/^ *[0-9]+ +[0-9]+ +[0-9]+ +[0-9]+$/d; s/^(.* -> .*[^ ]) +[1-9][0-9]*$/\1 chunks/; s/[0-9]+\.[0-9]{3}/TIME/g' "$room/figures.txt" > "$room/got"
+    count figures_as_text "$(difference "$room/wanted" "$room/got")"
     echo "squall: the file '$room/nowhere/figures.json' can't be written: No such file or directory (os error 2)" > "$room/said"
     give "$1/in" live --summary-out "$room/nowhere/figures.json"
     judge 'live --summary-out in no folder' 2 /dev/null "$room/said"
@@ -455,8 +455,8 @@ try_results() {
     { cat "$folder/jobs1"; sed 1d "$folder/jobs2"; sed 1d "$folder/jobs3"; } > "$folder/script"
     give "$folder/script" run --old "$folder/0.json" --new "$folder/0.json" --rows "$folder/rows0" --rows-out "$folder/rows"
     sed '/^end /,$d' "$room/out" > "$room/wanted"
-    cat "$folder"/replies[123] > "$room/told"
-    count replies_of_a_chain "$(difference "$room/wanted" "$room/told")"
+    cat "$folder"/replies[123] > "$room/got"
+    count replies_of_a_chain "$(difference "$room/wanted" "$room/got")"
     count rows_of_a_chain "$(difference "$folder/rows" "$folder/rows3")"
     give "$tests/cases/run/chunks_in_each_place/in" run --rows-out "$folder/moving"
     grep '^row ' "$tests/cases/run/chunks_in_each_place/in" > "$room/wanted"
@@ -688,7 +688,7 @@ try_again() {
 }
 
 # The script that `steps` writes makes the whole move of a header: behind it no step is refused, the move has ended, and as many
-# chunks are cut as `ranges --sizes` tells. The headers are those of live runs.
+# chunks are cut as `ranges --sizes` says. The headers are those of live runs.
 try_steps() {
     local case why cuts chunks
     for case in "$tests"/cases/live/*; do
@@ -704,7 +704,7 @@ try_steps() {
         cuts=$(grep -c '^cut ' "$room/out" || true)
         give "$room/header" ranges --sizes
         chunks=$(awk '$1 == "stage" { sum += $NF } END { print sum + 0 }' "$room/out")
-        why=; if [ "$cuts" != "$chunks" ]; then why="$cuts chunks are cut, and $chunks told"; fi
+        why=; if [ "$cuts" != "$chunks" ]; then why="$cuts chunks are cut, and $chunks listed"; fi
         count "chunks of ${case##*/}" "$why"
     done
 }
@@ -720,7 +720,7 @@ demo_of() {
 }
 
 # try_demo_of NAME PARTITIONS ROOTS ROWS JOBS HOT SEED [WORD]: an input to begin with has these sizes, its move is one that
-# 'ranges' tells, and its live run is sound and answers each job once, with this number of rows at the end.
+# 'ranges' lists, and its live run is sound and answers each job once, with this number of rows at the end.
 try_demo_of() {
     local files=$room/demo/$1 families=$3 why
     demo_of "$1" --partitions "$2" --roots "$3" --rows-per-root "$4" --jobs "$5" --hot "$6" --seed "$7" ${8:+"$8"}

@@ -73,8 +73,8 @@ said_so_far() {
 # miscounted JOBS ANSWERS: which answers to `status` don't have the number of the jobs in the lines before it that are answered behind it.
 miscounted() {
     awk 'NR == FNR { jobs += $1 == "txn"; if ($1 == "status") before[++asked] = jobs; next }
-        $1 == "commit" || $1 == "abort" { told++ }
-        / jobs open$/ { if (told + $(NF - 2) != before[++answered]) print told + 0, "answers, and then: " $0 }
+        $1 == "commit" || $1 == "abort" { answered_jobs++ }
+        / jobs open$/ { if (answered_jobs + $(NF - 2) != before[++answered]) print answered_jobs + 0, "answers, and then: " $0 }
         END { if (answered != asked) print answered + 0, "of", asked, "are answered" }' "$1" "$2"
 }
 
@@ -176,7 +176,7 @@ served_rows() {
     end_engine 'serve: rows' 'sound 2 families 3 committed'
 }
 
-# While rows move, and once a line before asked for it, they aren't told, and nothing changes.
+# While rows move, and once a line before asked for a move, they aren't written, and nothing changes.
 served_rows_in_a_move() {
     local plan='{"version":1,"partitions":2,"ranges":[[0,50000,OWNER],[50000,4294967296,0]]}'
     begin_engine
@@ -192,7 +192,7 @@ served_rows_in_a_move() {
     end_engine 'serve: rows while rows move' 'sound 50000 families 1 committed'
 }
 
-# Lines that ask nothing are told with their numbers, and the engine goes on: one that is none, one that is too long, an id that
+# Lines that ask nothing are reported with their numbers, and the engine runs on: one that is none, one that is too long, an id that
 # is taken, a partition and a table that aren't there, a text that is no plan, a plan for three partitions, and a line without
 # its end.
 served_faults() {
@@ -215,10 +215,10 @@ served_faults() {
 # The example, whose answers come in any order.
 served_example() {
     give "$examples/engine.txt" serve
-    grep -v ' jobs open$' "$room/out" | sort > "$room/told"
+    grep -v ' jobs open$' "$room/out" | sort > "$room/got"
     printf '%s\n' 'abort 4 0 small' 'commit 1 11' 'commit 2 12' 'commit 3 20/-' 'moved 1' 'moving 1' \
         'sound 2 families 3 committed' > "$room/wanted"
-    count 'serve: the example' "$(difference "$room/wanted" "$room/told")"
+    count 'serve: the example' "$(difference "$room/wanted" "$room/got")"
 }
 
 # An input that ends in the midst of a move: it goes to its end, and each job is answered.
@@ -229,9 +229,9 @@ served_end_in_a_move() {
         seq -f 'txn 0 %.0f 5 add 0 0 1' 1 100
     } > "$room/jobs"
     give "$room/jobs" serve
-    sed 's/^commit .*/commit/' "$room/out" | sort | uniq -c | sed 's/^ *//' > "$room/told"
+    sed 's/^commit .*/commit/' "$room/out" | sort | uniq -c | sed 's/^ *//' > "$room/got"
     printf '%s\n' '100 commit' '1 moved 1' '1 moving 1' '1 sound 2 families 100 committed' > "$room/wanted"
-    count 'serve: an end in a move' "$([ "$ended" = 0 ] || echo "status $ended; ")$(difference "$room/wanted" "$room/told")"
+    count 'serve: an end in a move' "$([ "$ended" = 0 ] || echo "status $ended; ")$(difference "$room/wanted" "$room/got")"
 }
 
 # Jobs on one root key that moves there and back, with pages meanwhile: each is answered once, and the numbers are 1, 2, 3 ..
@@ -302,14 +302,14 @@ END
 served_broken_input() {
     give <(opening; echo 'txn 0 1 5 add 0 0 5'; tr '\0' a < /dev/zero) serve
     printf '%s\n' 'commit 1 15' 'fault 122 6' 'sound 2 families 1 committed' > "$room/wanted"
-    sort "$room/out" > "$room/told"
-    count 'serve: an input without end' "$([ "$ended" = 2 ] || echo "status $ended; ")$(difference "$room/wanted" "$room/told")"
+    sort "$room/out" > "$room/got"
+    count 'serve: an input without end' "$([ "$ended" = 2 ] || echo "status $ended; ")$(difference "$room/wanted" "$room/got")"
     { opening; echo 'txn 0 1 5 add 0 0 5'; } > "$room/begin"
     ended=0
     timeout 60 "$squall" serve "$room/begin" < "$room" > "$room/out" 2> "$room/err" || ended=$?
     printf '%s\n' 'commit 1 15' 'fault 123 6' 'sound 2 families 1 committed' > "$room/wanted"
-    sort "$room/out" > "$room/told"
-    count 'serve: an input that is not read further' "$([ "$ended" = 2 ] || echo "status $ended; ")$(difference "$room/wanted" "$room/told")"
+    sort "$room/out" > "$room/got"
+    count 'serve: an input that is not read further' "$([ "$ended" = 2 ] || echo "status $ended; ")$(difference "$room/wanted" "$room/got")"
 }
 
 # More lines than a header may have: each is answered, with its number.
@@ -335,8 +335,8 @@ served_slow_client() {
     exec 7<&-
     wait "$engine" || ended=$?
     { seq 1 40000 | awk '{ print $1 % 8 == 0 ? "abort" : "commit", $1 }'; echo 'sound 2'; } | sort > "$room/wanted"
-    cut -d ' ' -f 1,2 "$room/out" | sort > "$room/told"
-    count 'serve: a client that reads late' "$([ "$ended" = 0 ] || echo "status $ended; ")$(difference "$room/wanted" "$room/told")$(cat "$room/err")"
+    cut -d ' ' -f 1,2 "$room/out" | sort > "$room/got"
+    count 'serve: a client that reads late' "$([ "$ended" = 0 ] || echo "status $ended; ")$(difference "$room/wanted" "$room/got")$(cat "$room/err")"
 }
 
 # Jobs for a partition whose queue is full wait beside it, while those of the other one are answered. In a move of 50,000 chunks far more
@@ -358,10 +358,10 @@ served_full_queue() {
     {
         grep -n -x -e 'commit 30100 100' -e 'moved 25' "$room/out" | cut -d : -f 2
         sed 's/^commit [0-9]* .*/commit/; s/^moving [0-9]* of .*/so far/' "$room/out" | sort | uniq -c | sed 's/^ *//'
-    } > "$room/told"
+    } > "$room/got"
     printf '%s\n' 'commit 30100 100' 'moved 25' '30100 commit' '1 moved 25' '1 moving 25' '1 so far' \
         '1 sound 50001 families 30100 committed' > "$room/wanted"
-    count 'serve: a full queue' "$why$(miscounted "$room/jobs" "$room/out")$([ "$ended" = 0 ] || echo "status $ended; ")$(difference "$room/wanted" "$room/told")"
+    count 'serve: a full queue' "$why$(miscounted "$room/jobs" "$room/out")$([ "$ended" = 0 ] || echo "status $ended; ")$(difference "$room/wanted" "$room/got")"
 }
 
 # Of 300,000 jobs for one partition 65,536 may wait beside its queue, which holds 4,096, and no line is taken while so many do: so half of
@@ -378,11 +378,11 @@ served_full_sides() {
     give "$room/jobs" serve
     open=$(sed -n -E 's/^(moving [0-9]* of 25 segments|at rest), ([0-9]*) jobs open$/\2/p' "$room/out")
     if [ "${open:-150000}" -ge 150000 ]; then why="$open jobs open; "; else why=; fi
-    grep -c '^commit ' "$room/out" > "$room/told" || true
-    tail -n 1 "$room/out" >> "$room/told"
+    grep -c '^commit ' "$room/out" > "$room/got" || true
+    tail -n 1 "$room/out" >> "$room/got"
     printf '%s\n' 300000 'sound 50000 families 300000 committed' > "$room/wanted"
     count 'serve: no more wait beside queues than there is room for' \
-        "$why$(miscounted "$room/jobs" "$room/out")$([ "$ended" = 0 ] || echo "status $ended; ")$(difference "$room/wanted" "$room/told")"
+        "$why$(miscounted "$room/jobs" "$room/out")$([ "$ended" = 0 ] || echo "status $ended; ")$(difference "$room/wanted" "$room/got")"
 }
 
 # With only some threads, counted over all its epochs, the engine does all, or ends with the fault 222 behind answers that it would have
@@ -403,19 +403,19 @@ served_without_threads() {
     wait
     for threads in 0 1 2 3 4 6 11 60; do
         last=$(tail -n 1 "$room/out.$threads")
-        grep -v -x "$last" "$room/out.$threads" | sort > "$room/told" || true
+        grep -v -x "$last" "$room/out.$threads" | sort > "$room/got" || true
         if [ "$threads" = 0 ]; then
             echo 'fault 222' > "$room/wanted"
             count 'serve: without a thread' "$(difference "$room/wanted" "$room/out.0")"
         elif [ "$threads" = 60 ]; then
-            sort "$room/out.60" > "$room/told"
-            count 'serve: with 60 threads' "$(difference "$room/all" "$room/told")"
+            sort "$room/out.60" > "$room/got"
+            count 'serve: with 60 threads' "$(difference "$room/all" "$room/got")"
         else
             case $(cat "$room/end.$threads") in
                 '2 fault 222' | '0 sound 2 families 2 committed') why= ;;
                 *) why="$(cat "$room/end.$threads"); " ;;
             esac
-            count "serve: with $threads threads" "$why$(comm -23 "$room/told" "$room/all")"
+            count "serve: with $threads threads" "$why$(comm -23 "$room/got" "$room/all")"
         fi
     done
 }
@@ -436,14 +436,14 @@ served_reports() {
     awk -F, 'NR == 1 { print; last = -1; next }
         NF != 8 || $1 % 10 != 0 || $1 <= last || $3 > $4 || $4 > $5 || ($2 > 0) != ($5 != "") { print "line " NR ": " $0 }
         { last = $1; answered += $2; families += $6; bytes += $7 }
-        END { print answered, families, bytes }' "$room/line.csv" > "$room/told"
+        END { print answered, families, bytes }' "$room/line.csv" > "$room/got"
     longest=$(awk -F, 'NR > 1 && $5 > most { most = $5 } END { print most + 0 }' "$room/line.csv")
     sed 's/^epochs: [0-9]*, longest pause [0-9]* us, all pauses [0-9]* us$/epochs/
-        s/from [0-9]* to [0-9]* us, committed [0-9]*, aborted [0-9]*, longest wait [0-9]* us$/.. us/' "$room/account" >> "$room/told"
+        s/from [0-9]* to [0-9]* us, committed [0-9]*, aborted [0-9]*, longest wait [0-9]* us$/.. us/' "$room/account" >> "$room/got"
     printf '%s\n' 'milliseconds,answered,median,p99,longest,families,bytes,segments' '101 2000 112000' \
         "jobs: committed 100, aborted 1, longest wait $longest us" 'epochs' \
         'move: segments 1, families 2000, bytes 112000, .. us' > "$room/wanted"
-    count 'serve: reports' "$([ "$ended" = 0 ] || echo "status $ended; ")$(difference "$room/wanted" "$room/told")"
+    count 'serve: reports' "$([ "$ended" = 0 ] || echo "status $ended; ")$(difference "$room/wanted" "$room/got")"
     : > "$room/wanted"
     for text in "$room/jobs" /dev/null; do
         give "$text" serve --timeline "$room/jobs" $([ "$text" = "$room/jobs" ] || echo "$room/jobs")
@@ -477,11 +477,11 @@ served_short_moves() {
     ask "move $four_at_1" 'moving 0' 'moved 0'
     ask "move $all_at_0" 'moving 1' 'moved 1'
     end_engine 'serve: short moves' 'sound 2 families 0 committed'
-    sed -n 's/, from .*//p' "$room/account" > "$room/told"
-    awk -F, 'NR > 1 { families += $6; bytes += $7 } END { print families, bytes }' "$room/line.csv" >> "$room/told"
+    sed -n 's/, from .*//p' "$room/account" > "$room/got"
+    awk -F, 'NR > 1 { families += $6; bytes += $7 } END { print families, bytes }' "$room/line.csv" >> "$room/got"
     printf '%s\n' 'move: segments 1, families 1, bytes 56' 'move: segments 0, families 0, bytes 0' \
         'move: segments 1, families 1, bytes 56' '2 112' > "$room/wanted"
-    count 'serve: reports of short moves' "$(difference "$room/wanted" "$room/told")"
+    count 'serve: reports of short moves' "$(difference "$room/wanted" "$room/got")"
 }
 
 # A closed output ends the engine at once, also while its input is silent; and so does a full device.
