@@ -10,7 +10,8 @@
 #
 # Another file is one that the words name, as KIND/NAME/FILE, since a case is run in the folder above its KIND.
 #
-# Cases that are stored stand in tests/cases. Others are made of them, or are too large to store.
+# Stored cases are in tests/cases. Others are made of them, or are too large to store. tests/serving.sh has what a client of
+# `squall serve` tries.
 export LC_ALL=C
 unset COLUMNS
 tests=$(cd "$(dirname "${BASH_SOURCE[0]}")" && pwd)
