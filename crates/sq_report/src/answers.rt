@@ -1,7 +1,7 @@
 // When jobs are answered, by whom, and which.
 use crate::wait_marks::WaitBegins;
-use sq_summary::{Event, Happened, TimedAnswer};
 use sq_node::Node;
+use sq_summary::{Event, Happened, TimedAnswer};
 use std::alloc::{AllocError, Global};
 use std::sync::atomic::{AtomicBool, AtomicU8, AtomicU64, Ordering};
 

@@ -16,8 +16,8 @@ use sq_live::{MAX_JOBS, Watch};
 use sq_node::Node;
 use sq_ranges::SEGMENT_LIMIT;
 use sq_summary::{
-    FiguresForm, PartFigures, RunFigures, Times, figures_json, moments_of, write_csv, write_figures,
-    write_svg, write_times,
+    FiguresForm, PartFigures, RunFigures, Times, figures_json, moments_of, write_csv,
+    write_figures, write_svg, write_times,
 };
 use std::alloc::{AllocError, Global};
 use std::io;

@@ -2,9 +2,9 @@
 use crate::answers::AnswerMarks;
 use crate::clock::Stopwatch;
 use crate::wait_marks::WaitMarks;
-use sq_summary::{Event, Happened, Moment, StageStart, TimedAnswer};
 use sq_driver::{NodeStep, WorkerEvent, WorkerId};
 use sq_node::Node;
+use sq_summary::{Event, Happened, Moment, StageStart, TimedAnswer};
 use std::alloc::{AllocError, Global};
 use std::sync::atomic::{AtomicU64, Ordering};
 use std::time::Clock;
