@@ -18,7 +18,7 @@
 # (65536, 32768 and 16384), and this move is made in both ways, in chunks of 8 KiB.
 #
 # The program is crates/squall/out/squall, which `rt run` leaves in crates/squall; SQUALL=PATH takes another. It has a pump at least. With
-# DEMAND=PATH of a build whose `serve` takes `--pumps 0` (in crates/sq_command/src/serve.rt `0..=MAX_PUMPS`, and `0` in `number_of`) both
+# DEMAND=PATH of a build whose `serve` takes `--pumps 0` (in crates/sq_command/src/serve.rt `0` for `1` in `counted` and `number_of`) both
 # moves are made by that build too, in the same two ways: with a pump, and on demand alone. Jobs then go where the new plan says as soon as
 # the move is asked for, since only a job that comes where its rows aren't yet asks for them. Without a pump, where rows are left once JOBS
 # / 3 jobs are posted after that, one is posted for each root key that moves (the sweep). Leaves are so wide that each of the three ranges
