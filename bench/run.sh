@@ -6,7 +6,7 @@
 #   bash bench/run.sh [SEED]      (a seed from 1 to 2147483646; 1 if left out)
 #
 # Prints for each script the seconds, the lines a second, the most memory that the program took, and the multiple of the
-# time that `LC_ALL=C wc -lw` takes on the same input, which is a measure that stands on every machine. Then it prints
+# time that `LC_ALL=C wc -lw` takes on the same input, which is a measure that every machine has. Then it prints
 # how the time of a transaction and of a chunk grows with the database, and that of a transaction with the rows of its root
 # key: the ratio of the time at many to that at 1,000, and the ratio of the instructions, where valgrind is there to count
 # them (a log has no room for as many transactions of one operation as could be timed beside so many rows, so these are

@@ -20,8 +20,8 @@ trap 'rm -r "$room"' EXIT
 passed=0
 failed=0
 
-# The checksum of a crate's code and definitions, without comments and imports (a name has one meaning in all crates), and blind
-# to blanks and ends of lines.
+# The checksum of a crate's code and definitions, without comments and imports (a word of a definition has one meaning in all
+# crates), and blind to blanks and ends of lines.
 checksum() {
     (
         cd "$top/crates/$1"
@@ -41,7 +41,7 @@ section() {
 changed() {
     local name
     for name in $(grep -oE '^[a-z_]+' "$top/crates.txt"); do
-        case $name in sq_tests | sq_*_tests | sq_trial | sq_million | sq_examples | sq_*_example | sq_examples) continue ;; esac
+        case $name in sq_tests | sq_*_tests | sq_trial | sq_million | sq_examples) continue ;; esac
         section "$name" | grep "$1" | grep -q "$(checksum "$name")" || echo "$name"
     done
 }
