@@ -219,8 +219,10 @@ fn take_row<R: Read>(
     Ok(())
 }
 
-// Takes the rows of the next lines, as long as these begin so, into an opening, one after another.
-fn take_rows<R: Read>(
+/// Takes the rows of the next lines into an opening, one after another, as long as lines begin with `row `. A refusal is the
+/// first fault of a row, as [`read_header`] has them; it counts the rows from the first that is taken here. The rows before it
+/// are in the opening. [`InputFault::Memory`] may come in place of any answer.
+pub fn take_rows<R: Read>(
     alloc: Global,
     lines: &mut LineReader<R>,
     opening: &mut Opening,

@@ -23,7 +23,7 @@ mod words;
 pub use answer_text::{write_answer, write_fault, write_refused};
 pub use dump::{write_at, write_end, write_way};
 pub use fault::LineFault;
-pub use header::{read_header, read_plans};
+pub use header::{read_header, read_plans, take_rows};
 pub use input_fault::InputFault;
 pub use located::{InputLine, LocatedFault, Meaning};
 pub use moves_text::write_moves;
