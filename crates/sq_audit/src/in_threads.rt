@@ -7,8 +7,8 @@ use std::alloc::AllocError;
 /// How many parts there are at most.
 const PARTS: usize = 8;
 
-/// How many families are worth a thread.
-const FEWEST: usize = 256;
+/// How many families are worth a thread, at least.
+const FEWEST: usize = 2_048;
 
 /// How many families a part has, of so many.
 pub(crate) fn part_size(families: usize) -> usize

@@ -120,7 +120,10 @@ impl<R: Read> Recalling<R> {
     fn keep(&mut self, bytes: &[u8])
         ensures { recalling_inner self.new ≡ recalling_inner self.old }
     {
-        self.kept.drain(..self.whole.min(self.kept.len()));
+        let whole = self.whole.min(self.kept.len());
+        let left = self.kept.len() - whole;
+        self.kept.as_mut_slice().copy_within(whole.., 0);
+        self.kept.truncate(left);
         self.lines_before = self.lines_before.saturating_add(self.whole_lines);
         let rest = self.kept.len();
         if rest > ROOM || self.kept.extend_from_slice(bytes).is_err() {

@@ -25,6 +25,9 @@ use std::thread::Threads;
 // The stage in which a run opens.
 const FIRST_STAGE: u64 = 0;
 
+// Fewer root keys than this are opened in one thread, which takes less time than to start others.
+const FEW_ROOTS: usize = 16_384;
+
 impl Fabric {
     /// What a run shares, its nodes, and this many pumps, in the first stage. The move has started.
     pub fn open(alloc: Global, opening: &Opening, pumps: u32) -> Result<RunParts, AllocError>
@@ -38,7 +41,8 @@ impl Fabric {
         open_with(alloc, opening, stores, pumps)
     }
 
-    /// The same as [`Fabric::open`]. The families of each partition are made in a thread of its own, where one can be had.
+    /// The same as [`Fabric::open`]. If there are many root keys, the families of each partition are made in a thread of its own,
+    /// where one can be had.
     pub fn open_in_threads<R: Threads + Sync>(
         rt: &R,
         alloc: Global,
@@ -69,7 +73,7 @@ fn open_stores(alloc: Global, opening: &Opening) -> Result<Vec<RunStore>, AllocE
     Ok(stores)
 }
 
-// The same, each partition in a thread of its own, where one can be had.
+// The same, each partition in a thread of its own if there are many root keys, where one can be had.
 fn open_stores_in_threads<R: Threads + Sync>(
     rt: &R,
     alloc: Global,
@@ -78,6 +82,9 @@ fn open_stores_in_threads<R: Threads + Sync>(
     ensures stores { IfOk result (λ stores. stores.items ≡ opened_stores opening.now) }
     ensures owned { OnOk result (HaveOwned opening.now) }
 {
+    if opening.table().len() < FEW_ROOTS {
+        return open_stores(alloc, opening);
+    }
     let parts = usize::from(opening.old_plan().parts());
     let opened = thread::map_indices(
         rt,
