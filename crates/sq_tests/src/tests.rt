@@ -11,4 +11,5 @@ mod readers;
 mod schema;
 mod status;
 mod store;
+mod tree;
 mod world;
