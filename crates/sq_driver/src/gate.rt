@@ -4,8 +4,8 @@ use std::sync::atomic::AtomicU64;
 use std::thread;
 use std::time::Duration;
 
-// After how many turns in a row without work a worker sleeps, where before it only let other threads go first.
-const TURNS_AWAKE: u64 = 256;
+// After how many tries what waits sleeps, where before it only lets other threads go first.
+const TRIES_AWAKE: u64 = 256;
 
 // How many microseconds a worker sleeps where it finds no work.
 const SLEEP: u64 = 50;
@@ -76,9 +76,9 @@ pub trait Gate {
 
     /// Hears that a worker has taken a turn without work, and how many it has taken in a row. A call may keep the
     /// worker for a while. By default other threads go first, and after many turns in a row the worker sleeps for some
-    /// microseconds.
+    /// microseconds. It hears nothing of a turn in which memory was lacking, or a worker that hasn't come yet.
     fn rests<R: Wait>(&self, rt: &R, _who: WorkerId, turns: u64) {
-        rest(rt, turns);
+        rest(rt, turns, SLEEP);
     }
 
     /// Whether a node ends where it is idle. Otherwise it continues until it may not pass, since more may come. It is
@@ -98,11 +98,12 @@ impl Gate for OpenGate {
     }
 }
 
-// Lets other threads go first, and sleeps after so many turns without work in a row.
-fn rest<R: Wait>(rt: &R, turns: u64) {
-    if turns <= TURNS_AWAKE {
+/// Lets other threads go first after each of the first 256 tries in a row that found nothing. After each further one it sleeps for
+/// as many microseconds as there were tries, but no longer than `longest`.
+pub fn rest<R: Wait>(rt: &R, tries: u64, longest: u64) {
+    if tries <= TRIES_AWAKE {
         thread::yield_now();
     } else {
-        AtomicU64::new(0).park_timeout(rt, 0, Duration::from_micros(SLEEP));
+        AtomicU64::new(0).park_timeout(rt, 0, Duration::from_micros(tries.min(longest)));
     }
 }

@@ -1,8 +1,11 @@
 //! Workers: each node and each pump of a run in a thread of its own, which takes its turns one after another. A gate is
-//! asked before each step, and may end a worker. A node may have a teller, who hears of each receipt that it writes.
+//! asked before each step, and may end a worker. Workers that lack a thread or memory for long give up. A node may have
+//! a teller, who hears of each receipt that it writes.
 #![tactic(auto)]
 
+mod attendance;
 mod gate;
+mod idleness;
 pub mod laws;
 mod nodes;
 mod pumps;
@@ -10,7 +13,8 @@ mod teller;
 mod worker;
 mod workers;
 
-pub use gate::{Gate, NodeStep, OpenGate, WorkerEvent, WorkerId};
+pub use attendance::WorkersEnd;
+pub use gate::{Gate, NodeStep, OpenGate, WorkerEvent, WorkerId, rest};
 pub use nodes::{drive, drive_telling};
 pub use pumps::drive_pump;
 pub use teller::{NoTeller, Teller, TellingNode};

@@ -3,6 +3,7 @@ ghost use Rattle.sq_node.specs.Prelude.{IsNodeOf};
 ghost use Rattle.sq_driver.specs.Nodes.{MakesStep, Driven};
 ghost use Rattle.sq_driver.specs.Told.{HasTold, DrivenAndTold, DrivenTelling};
 
+use crate::attendance::Attendance;
 use crate::gate::{Gate, NodeStep, WorkerEvent, WorkerId};
 use crate::teller::{NoTeller, Teller, TellingNode};
 use crate::worker::{Turn, Worker, take_turns};
@@ -87,13 +88,14 @@ impl<T: Teller> Worker for TellingNode<T> {
 /// none.
 ///
 /// It ends before where it is idle, unless the gate says that it continues then. It also ends where the gate says so,
-/// which is asked before each step. The gate hears of each step in which there was something to do, and where the node
-/// rests after a turn without work, during which it may keep it for a while.
+/// which is asked before each step, and once it has lacked memory for 5 seconds or some more and done nothing else. The
+/// gate hears of each step in which there was something to do, and where the node rests after a turn without work,
+/// during which it may keep it for a while.
 pub fn drive<R: Wait, G: Gate>(rt: &R, fabric: &Fabric, node: &mut Node, turns: u64, gate: &G)
     requires { IsNodeOf fabric.now node.old }
     ensures { Driven fabric.now node.old node.new }
 {
-    take_turns(rt, fabric, node, turns, gate);
+    take_turns(rt, fabric, node, turns, gate, &Attendance::alone());
 }
 
 /// Drives a node with its teller, as [`drive`] does. The teller hears of each receipt that the node writes, once, in
@@ -109,7 +111,7 @@ pub fn drive_telling<T: Teller, R: Wait, G: Gate>(
     requires { IsNodeOf fabric.now pair.old.node }
     ensures { DrivenTelling T.Tells fabric.now pair.old pair.new }
 {
-    take_turns(rt, fabric, pair, turns, gate);
+    take_turns(rt, fabric, pair, turns, gate, &Attendance::alone());
 }
 
 // Sends what is pending, and makes each step once. Where a chunk was cut or loaded, it continues with jobs for a while.
@@ -128,9 +130,8 @@ fn take_node_turn<T: Teller, R: Wait, G: Gate>(
     let mut turn = Turn::Rested;
     for step in TURN {
         match try_step(rt, fabric, node, teller, step, gate) {
-            Turn::Worked => turn = Turn::Worked,
-            Turn::Rested => {}
             Turn::Ended => return Turn::Ended,
+            tried => turn = turn.and(tried),
         }
     }
     if !serve_on(rt, fabric, node, teller, before, gate) {
@@ -170,7 +171,7 @@ fn serve_on<T: Teller, R: Wait, G: Gate>(
         }
         match serve(rt, fabric, node, teller, gate) {
             Turn::Worked => {}
-            Turn::Rested => return true,
+            Turn::Rested | Turn::Lacked => return true,
             Turn::Ended => return false,
         }
     }
@@ -189,7 +190,7 @@ fn serve<T: Teller, R: Wait, G: Gate>(
     ensures { DrivenAndTold T.Tells fabric.now node.old teller.old node.new teller.new }
 {
     match try_step(rt, fabric, node, teller, NodeStep::Resume, gate) {
-        Turn::Rested => try_step(rt, fabric, node, teller, NodeStep::Job, gate),
+        Turn::Rested | Turn::Lacked => try_step(rt, fabric, node, teller, NodeStep::Job, gate),
         turn => turn,
     }
 }
@@ -216,11 +217,14 @@ fn try_step<T: Teller, R: Wait, G: Gate>(
     }
     let receipts = node.receipts().len();
     let before = node.effort();
-    if step_and_tell(rt, fabric, node, teller, step) != Stepped::Did {
-        return Turn::Rested;
+    match step_and_tell(rt, fabric, node, teller, step) {
+        Stepped::Did => {
+            gate.did(who, event_of(node, step, receipts, before));
+            Turn::Worked
+        }
+        Stepped::Nothing => Turn::Rested,
+        Stepped::Memory => Turn::Lacked,
     }
-    gate.did(who, event_of(node, step, receipts, before));
-    Turn::Worked
 }
 
 // Makes a step of a node, and informs its teller of the receipt that it wrote, if it wrote one.

@@ -2,6 +2,7 @@
 ghost use Rattle.sq_pull.specs.Seats.{AreSeatsOf};
 ghost use Rattle.sq_driver.specs.Pumps.{PumpDriven};
 
+use crate::attendance::Attendance;
 use crate::gate::{Gate, NodeStep, WorkerEvent, WorkerId};
 use crate::worker::{Turn, Worker, take_turns};
 use sq_node::Fabric;
@@ -38,12 +39,11 @@ impl Worker for Pump {
         if self.is_done() || !gate.pass(who, NodeStep::Pump) {
             return Turn::Ended;
         }
-        if claims(rt, fabric, self) {
+        let turn = claim(rt, fabric, self);
+        if turn == Turn::Worked {
             gate.did(who, WorkerEvent::Made(NodeStep::Pump));
-            Turn::Worked
-        } else {
-            Turn::Rested
         }
+        turn
     }
 
     ghost no_turn = { pump_no_turn };
@@ -59,13 +59,14 @@ impl Worker for Pump {
 /// it.
 ///
 /// It ends before where it is done: there was nothing to claim in any segment of the running stage, and nothing is
-/// pending. It also ends where the gate says so, which is asked before each turn. The gate hears of each claim, and
-/// where the pump rests, during which it may keep it for a while.
+/// pending. It also ends where the gate says so, which is asked before each turn, and once it has lacked memory for
+/// 5 seconds or some more. The gate hears of each claim, and where the pump rests, during which it may keep it for a
+/// while.
 pub fn drive_pump<R: Wait, G: Gate>(rt: &R, fabric: &Fabric, pump: &mut Pump, turns: u64, gate: &G)
     requires { AreSeatsOf fabric.now.trees pump.old.seats }
     ensures { PumpDriven fabric.now pump.old pump.new }
 {
-    take_turns(rt, fabric, pump, turns, gate);
+    take_turns(rt, fabric, pump, turns, gate, &Attendance::alone());
 }
 
 // Splits each segment into as many parts as are to be claimed.
@@ -106,12 +107,16 @@ fn parts_of_a_segment(partitions: u8, segments: u64) -> u64 {
     LEAVES
 }
 
-// Claims a node for a source that has few requests, and whether something was claimed.
-fn claims<R: Wait>(rt: &R, fabric: &Fabric, pump: &mut Pump) -> bool
+// Claims a node for a source that has few requests, if there is one.
+fn claim<R: Wait>(rt: &R, fabric: &Fabric, pump: &mut Pump) -> Turn
     requires { AreSeatsOf fabric.now.trees pump.old.seats }
     ensures { PumpDriven fabric.now pump.old pump.new }
 {
-    finds_source(rt, fabric, pump) && claims_next(rt, fabric, pump)
+    if finds_source(rt, fabric, pump) {
+        claim_next(rt, fabric, pump)
+    } else {
+        Turn::Rested
+    }
 }
 
 // Puts segments off until the source of the next one has few requests. Whether there is such a one, or the round is over.
@@ -140,13 +145,14 @@ fn has_few_requests<R: Wait>(rt: &R, fabric: &Fabric, seg: SegId) -> bool {
         .is_some_and(|queue| queue.len(rt) < ENOUGH_REQUESTS)
 }
 
-// A turn of a pump, and whether something was claimed.
-fn claims_next<R: Wait>(rt: &R, fabric: &Fabric, pump: &mut Pump) -> bool
+// Claims a node of the next segment.
+fn claim_next<R: Wait>(rt: &R, fabric: &Fabric, pump: &mut Pump) -> Turn
     requires { AreSeatsOf fabric.now.trees pump.old.seats }
     ensures { PumpDriven fabric.now pump.old pump.new }
 {
     match pump.turn(rt, &fabric.shared()) {
-        Ok(PumpTurn::Won(_, _)) => true,
-        Ok(PumpTurn::Nothing | PumpTurn::Spent) | Err(_) => false,
+        Ok(PumpTurn::Won(_, _)) => Turn::Worked,
+        Ok(PumpTurn::Nothing | PumpTurn::Spent) => Turn::Rested,
+        Err(_) => Turn::Lacked,
     }
 }

@@ -1,7 +1,9 @@
 // Workers, and how they are driven.
 ghost use Rattle.sq_node.specs.Prelude.{FabricValue};
 
+use crate::attendance::{Attendance, WorkersEnd};
 use crate::gate::{Gate, WorkerId};
+use crate::idleness::Idleness;
 use sq_node::Fabric;
 use std::sync::Wait;
 
@@ -12,8 +14,22 @@ pub(crate) enum Turn {
     Worked,
     /// There was nothing to do.
     Rested,
+    /// There was no memory for what there was to do.
+    Lacked,
     /// The worker ends.
     Ended,
+}
+
+impl Turn {
+    /// The outcome of a turn with one more step: it worked where a step did, and else lacked memory where a step did.
+    pub(crate) fn and(self, step: Turn) -> Turn {
+        match (self, step) {
+            (Turn::Ended, _) | (_, Turn::Ended) => Turn::Ended,
+            (Turn::Worked, _) | (_, Turn::Worked) => Turn::Worked,
+            (Turn::Lacked, _) | (_, Turn::Lacked) => Turn::Lacked,
+            (Turn::Rested, Turn::Rested) => Turn::Rested,
+        }
+    }
 }
 
 /// A node or a pump of a run, which takes its turns one after another.
@@ -50,27 +66,31 @@ pub(crate) trait Worker {
         → Driven fabric first old → Driven fabric old new → Driven fabric first new };
 }
 
-/// Drives a worker: it takes this many turns, or fewer where it stops. The gate hears where it rests.
+/// Drives a worker: it takes this many turns, or fewer where it stops. The gate hears where it rests. It gives up where it has no
+/// work for long while another worker hasn't come, or lacks memory for long, and where another worker has given up.
 pub(crate) fn take_turns<W: Worker, R: Wait, G: Gate>(
     rt: &R,
     fabric: &Fabric,
     worker: &mut W,
     turns: u64,
     gate: &G,
+    attendance: &Attendance,
 )
     requires { W.IsOf fabric.now worker.old }
     ensures { W.Driven fabric.now worker.old worker.new }
 {
     worker.begin(fabric);
     let who = worker.id();
-    let mut rested = 0u64;
+    attendance.note(who);
+    let mut idleness = Idleness::new();
     for _turn in 0..turns {
+        if attendance.end() != WorkersEnd::Done {
+            return;
+        }
         match worker.take_turn(rt, fabric, gate) {
-            Turn::Worked => rested = 0,
-            Turn::Rested => {
-                rested = rested.saturating_add(1);
-                gate.rests(rt, who, rested);
-            }
+            Turn::Worked => idleness = Idleness::new(),
+            Turn::Rested => idleness.rest(rt, who, gate, attendance),
+            Turn::Lacked => idleness.lack(rt, attendance),
             Turn::Ended => return,
         }
     }

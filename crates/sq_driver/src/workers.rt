@@ -6,6 +6,7 @@ ghost use Rattle.sq_driver.specs.Nodes.{AllDriven};
 ghost use Rattle.sq_driver.specs.Told.{AllDrivenTelling};
 ghost use Rattle.sq_driver.specs.Pumps.{HasAllSeats, AllPumpsDriven};
 
+use crate::attendance::{Attendance, WorkersEnd};
 use crate::gate::Gate;
 use crate::teller::{Teller, TellingNode};
 use crate::worker::{Worker, take_turns};
@@ -16,7 +17,11 @@ use std::thread;
 use std::thread::{Threads, join_mut};
 
 /// Drives each node and each pump in a thread of its own, with this many turns each. All of them have ended when it returns,
-/// and the run takes no more jobs until [`Fabric::open_jobs`]. Where a thread can't be made, workers go one after another.
+/// and the run takes no more jobs until [`Fabric::open_jobs`]. It says how they ended.
+///
+/// Where a thread can't be made, workers go one after another. They all give up once one of them has had no work for
+/// 5 seconds, or some more, while a node hasn't come, or no pump has, and so once one of them has lacked memory for as
+/// long and could do nothing meanwhile.
 pub fn run_workers<R: Threads + Wait + Sync, G: Gate + Sync>(
     rt: &R,
     fabric: &Fabric,
@@ -24,13 +29,15 @@ pub fn run_workers<R: Threads + Wait + Sync, G: Gate + Sync>(
     pumps: &mut [Pump],
     turns: u64,
     gate: &G,
-)
+) -> WorkersEnd
     requires nodes { All (IsNodeOf fabric.now) nodes.old }
     requires pumps { All (HasAllSeats fabric.now) pumps.old }
     ensures nodes { AllDriven fabric.now nodes.old nodes.new }
     ensures pumps { AllPumpsDriven fabric.now pumps.old pumps.new }
 {
-    run_all(rt, fabric, nodes, pumps, turns, gate);
+    let attendance = Attendance::new(nodes.len(), pumps.len());
+    run_all(rt, fabric, nodes, pumps, turns, gate, &attendance);
+    attendance.end()
 }
 
 /// Drives each node, with its teller, and each pump, as [`run_workers`] does. A teller hears of each receipt that its
@@ -42,13 +49,15 @@ pub fn run_telling<T: Teller + Send, R: Threads + Wait + Sync, G: Gate + Sync>(
     pumps: &mut [Pump],
     turns: u64,
     gate: &G,
-)
+) -> WorkersEnd
     requires nodes { All (λ pair. IsNodeOf fabric.now pair.node) pairs.old }
     requires pumps { All (HasAllSeats fabric.now) pumps.old }
     ensures nodes { AllDrivenTelling T.Tells fabric.now pairs.old pairs.new }
     ensures pumps { AllPumpsDriven fabric.now pumps.old pumps.new }
 {
-    run_all(rt, fabric, pairs, pumps, turns, gate);
+    let attendance = Attendance::new(pairs.len(), pumps.len());
+    run_all(rt, fabric, pairs, pumps, turns, gate, &attendance);
+    attendance.end()
 }
 
 // Drives each of these workers, and each pump, in a thread of its own.
@@ -59,6 +68,7 @@ fn run_all<W: Worker + Send, R: Threads + Wait + Sync, G: Gate + Sync>(
     pumps: &mut [Pump],
     turns: u64,
     gate: &G,
+    attendance: &Attendance,
 )
     requires workers { All (W.IsOf fabric.now) workers.old }
     requires pumps { All (HasAllSeats fabric.now) pumps.old }
@@ -70,11 +80,11 @@ fn run_all<W: Worker + Send, R: Threads + Wait + Sync, G: Gate + Sync>(
         &mut ||
             requires { All (W.IsOf fabric.now) workers.now }
             ensures { EachDriven (W.Driven fabric.entry.now) workers.entry.now workers.exit.now }
-        { run_each(rt, fabric, workers, turns, gate) },
+        { run_each(rt, fabric, workers, turns, gate, attendance) },
         &mut ||
             requires { All (HasAllSeats fabric.now) pumps.now }
             ensures { AllPumpsDriven fabric.entry.now pumps.entry.now pumps.exit.now }
-        { run_each(rt, fabric, pumps, turns, gate) },
+        { run_each(rt, fabric, pumps, turns, gate, attendance) },
     );
     fabric.close_jobs(rt);
 }
@@ -86,6 +96,7 @@ fn run_each<W: Worker + Send, R: Threads + Wait + Sync, G: Gate + Sync>(
     workers: &mut [W],
     turns: u64,
     gate: &G,
+    attendance: &Attendance,
 )
     requires { All (W.IsOf fabric.now) workers.old }
     ensures { EachDriven (W.Driven fabric.now) workers.old workers.new }
@@ -98,6 +109,6 @@ fn run_each<W: Worker + Send, R: Threads + Wait + Sync, G: Gate + Sync>(
         &|_, worker|
             requires { W.IsOf fabric.now worker.now }
             ensures { W.Driven fabric.entry.now worker.entry.now worker.exit.now }
-        { take_turns(rt, fabric, worker, turns, gate) },
+        { take_turns(rt, fabric, worker, turns, gate, attendance) },
     );
 }

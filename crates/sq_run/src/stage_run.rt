@@ -9,7 +9,7 @@ ghost use Rattle.sq_driver.specs.Pumps.{AllPumpsDriven};
 ghost use Rattle.sq_gather.specs.Reopened.{IsNextStageOf, IsFirstStageAfter};
 ghost use Rattle.sq_run.specs.StageRunValue.{BeganFrom, StaysBegun, RanFrom};
 
-use sq_driver::{Gate, run_workers};
+use sq_driver::{Gate, WorkersEnd, run_workers};
 use sq_gather::{Gathered, gather, move_on, reopen};
 use sq_node::{Fabric, Node, RunParts};
 use sq_ranges::Opening;
@@ -118,8 +118,13 @@ impl StageRun {
         &self.parts.nodes
     }
 
-    /// Drives each node and each pump in a thread of its own, as [`run_workers`] does.
-    pub fn drive<R: Threads + Wait + Sync, G: Gate + Sync>(&mut self, rt: &R, turns: u64, gate: &G)
+    /// Drives each node and each pump in a thread of its own, as [`run_workers`] does, and says how they ended.
+    pub fn drive<R: Threads + Wait + Sync, G: Gate + Sync>(
+        &mut self,
+        rt: &R,
+        turns: u64,
+        gate: &G,
+    ) -> WorkersEnd
         ensures fabric { self.new.fabric ≡ self.old.fabric }
         ensures nodes { AllDriven self.old.fabric self.old.nodes self.new.nodes }
         ensures pumps { AllPumpsDriven self.old.fabric self.old.pumps self.new.pumps }
@@ -132,7 +137,7 @@ impl StageRun {
             &mut self.parts.pumps,
             turns,
             gate,
-        );
+        )
     }
 
     /// Gathers what it left, once its threads are done, as [`gather`] does. Where there is no memory, it comes back as it was.

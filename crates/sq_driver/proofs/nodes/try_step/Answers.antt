@@ -14,8 +14,11 @@ made g c =
 pub returns-then-not-pass : goal.returns-then-not-pass
 returns-then-not-pass g c = telling_no_turn g.T.Teller.Tells c.args.fabric.now c.args.node.now c.args.teller.now c.requires
 
-pub returns-then-ne : goal.returns-then-ne
-returns-then-ne g c = made g (goal.at.returns-then-ne g c).After-step_and_tell
+pub returns-in-Did : goal.returns-in-Did
+returns-in-Did g c = made g (goal.at.returns-in-Did g c).After-step_and_tell
 
-pub returns : goal.returns
-returns g c = made g (goal.at.returns g c).After-step_and_tell
+pub returns-in-Nothing : goal.returns-in-Nothing
+returns-in-Nothing g c = made g (goal.at.returns-in-Nothing g c).After-step_and_tell
+
+pub returns-in-Memory : goal.returns-in-Memory
+returns-in-Memory g c = made g (goal.at.returns-in-Memory g c).After-step_and_tell

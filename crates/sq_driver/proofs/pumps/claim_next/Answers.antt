@@ -1,5 +1,5 @@
 use Rattle.sq_driver.proofs.Pumping.{turned}
-use Rattle.sq_driver.proofs.pumps.claims_next.Goals as goal
+use Rattle.sq_driver.proofs.pumps.claim_next.Goals as goal
 
 pub returns-in-Ok-Won : goal.returns-in-Ok-Won
 returns-in-Ok-Won g c =

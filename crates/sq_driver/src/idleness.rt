@@ -1,0 +1,70 @@
+// For how long a worker has had no work, and when it gives up.
+ghost use Rattle.std.specs.Prelude.{◌≡◌, ◌+◌, ◌-◌, ◌^◌, min, nat_le};
+
+use crate::attendance::Attendance;
+use crate::gate::{Gate, WorkerId, rest};
+use std::sync::Wait;
+
+/// After so many turns in a row that lack something, a worker gives up: after some 5 seconds, since it sleeps after most of them.
+pub(crate) const TURNS_LACKING: u64 = 20_000;
+
+// How many microseconds a worker sleeps after a turn that lacks something.
+const SLEEP_LACKING: u64 = 200;
+
+/// How many turns in a row a worker has had no work.
+#[derive(Clone, Copy)]
+pub(crate) struct Idleness {
+    rested: u64,
+    /// In how many of them, the latest, a worker without which it may have no work hadn't come.
+    waited: u64,
+    /// In how many of the turns, the latest, it lacked memory.
+    lacked: u64,
+}
+
+impl Idleness {
+    /// A worker that has just worked.
+    pub(crate) fn new() -> Idleness {
+        Idleness {
+            rested: 0,
+            waited: 0,
+            lacked: 0,
+        }
+    }
+
+    /// Lets a worker rest after a turn in which there was nothing to do. The gate hears of it, unless another worker hasn't come:
+    /// then it waits for that one, and in the end gives up.
+    pub(crate) fn rest<R: Wait, G: Gate>(
+        &mut self,
+        rt: &R,
+        who: WorkerId,
+        gate: &G,
+        attendance: &Attendance,
+    ) {
+        self.rested = self.rested.saturating_add(1);
+        self.lacked = 0;
+        if attendance.is_whole() {
+            self.waited = 0;
+            gate.rests(rt, who, self.rested);
+        } else if lacks_for_long(rt, &mut self.waited) {
+            attendance.lack_threads();
+        }
+    }
+
+    /// Lets a worker rest after a turn in which it lacked memory for what there was to do. In the end it gives up.
+    pub(crate) fn lack<R: Wait>(&mut self, rt: &R, attendance: &Attendance) {
+        self.rested = self.rested.saturating_add(1);
+        if lacks_for_long(rt, &mut self.lacked) {
+            attendance.lack_memory();
+        }
+    }
+}
+
+// Counts a turn that lacks something, and sleeps after it. Whether there were enough of them to give up.
+fn lacks_for_long<R: Wait>(rt: &R, turns: &mut u64) -> bool
+    ensures turns { turns.new ≡ min (turns.old + 1) (2 ^ 64 - 1) }
+    ensures long { result ≡ nat_le TURNS_LACKING turns.new }
+{
+    *turns = turns.saturating_add(1);
+    rest(rt, *turns, SLEEP_LACKING);
+    *turns >= TURNS_LACKING
+}
