@@ -1,5 +1,5 @@
 -- Whole inputs of live runs.
-use Rattle.std.proofs.Common.{◌≡◌, ℕ, List, [], inl, inr, refl, subst}
+use Rattle.std.proofs.Common.{◌≡◌, ◌⊎◌, ℕ, List, [], inl, inr, refl, subst}
 use Rattle.std.specs.Prelude.{Option, None, Ok, Err}
 use Rattle.sq_text.specs.declared.input_fault.InputFault.TheVariants.{Memory}
 use Rattle.sq_text.specs.Located.{located}
@@ -13,8 +13,10 @@ use Rattle.sq_audit.specs.declared.job.Job.{Job}
 use Rattle.sq_live.specs.declared.fault.LiveFault.{LiveFault}
 use Rattle.sq_live.specs.declared.fault.LiveFault.TheVariants.{Input}
 use Rattle.sq_live.specs.JobLines.{jobs_in, AreJobs, IsFirstFault}
-use Rattle.sq_live.specs.Live.{ComesToSpell, ComesToFail, HaveFault}
-use Rattle.sq_live.specs.Faults.{out_of_memory}
+use Rattle.sq_live.specs.declared.fault.RunFault.{RunFault}
+use Rattle.sq_live.specs.declared.fault.RunFault.TheVariants as run
+use Rattle.sq_live.specs.Live.{SpellJobs, ComesToSpell, ComesToFail, HaveFault, HaveTooFewThreads}
+use Rattle.sq_live.specs.Faults.{out_of_memory, live_fault}
 use Rattle.sq_lines.specs.declared.reader.ReadState.TheVariants.{Open}
 use Rattle.sq_lines.specs.Pieces.{PieceValue, pieces}
 use Rattle.sq_lines.specs.Given.{IsGiven}
@@ -64,3 +66,9 @@ none_read tables known =
       record { input = some.more; end = some.end; comes = some.comes; are = refl },
       inl (record { located = located Memory None; is = refl; left = []; opens = λ apart. absurd (apart refl) }),
     )
+
+-- there is a fault for each reason for which a run of jobs that are spelled has no outcome
+pub unfinished : (tables : ℕ) (given : List PieceValue) (o : OpeningValue) (jobs : List Job) (why : RunFault) → SpellJobs tables given o jobs
+    → HaveFault tables given (live_fault why) ⊎ HaveTooFewThreads tables given (live_fault why)
+unfinished tables given o jobs run.Memory spelled = inl (inr (record { opening = o; left = spelled.left; opens = spelled.opens; first = λ apart. absurd (apart refl) }))
+unfinished tables given o jobs run.Threads spelled = inr (record { is = refl; opening = o; jobs = jobs; spelled = spelled })

@@ -14,7 +14,7 @@ use Rattle.sq_node_model.specs.BeganWith.{BeganWith}
 use Rattle.sq_audit.specs.declared.job.Job.{Job}
 use Rattle.sq_audit.specs.Answers.{IdsDiffer}
 use Rattle.sq_live.specs.declared.fault.LiveFault.{LiveFault}
-use Rattle.sq_live.specs.declared.fault.LiveFault.TheVariants.{Input}
+use Rattle.sq_live.specs.declared.fault.LiveFault.TheVariants.{Input, Threads}
 use Rattle.sq_live.specs.declared.outcome.LiveOutcome.{LiveOutcome}
 use Rattle.sq_live.specs.declared.ending.LiveEnding.{LiveEnding}
 use Rattle.sq_live.specs.declared.ending.LiveEnding.TheVariants.{Done, Fault}
@@ -49,6 +49,13 @@ pub record HasJobFault (tables : ℕ) (given : List PieceValue) (fault : LiveFau
 abbrev pub HaveFault : ℕ → List PieceValue → LiveFault → Type 0
 HaveFault tables given fault = HasHeaderFault tables given fault ⊎ HasJobFault tables given fault
 
+-- the pieces spell jobs, but the system granted fewer threads than their run has partitions
+pub record HaveTooFewThreads (tables : ℕ) (given : List PieceValue) (fault : LiveFault) : Type 0 where
+  pub is : fault ≡ Threads
+  pub opening : OpeningValue
+  pub jobs : List Job
+  pub spelled : SpellJobs tables given opening jobs
+
 -- jobs were run from an opening, stage by stage, with or without folds between them. Whatever the threads did, what
 -- each stage left is placed and continues what it began with, and this is the outcome of the last one
 pub record WereRun (folds : Bool) (o : OpeningValue) (jobs : List Job) (outcome : LiveOutcome) : Type 0 where
@@ -63,11 +70,11 @@ pub record WereRun (folds : Bool) (o : OpeningValue) (jobs : List Job) (outcome 
   pub ran : RanFrom account.opening began gathered
   pub came : CameTo folds account gathered outcome
 
--- the jobs that the pieces spell were run with this outcome, or the pieces have this fault
+-- the jobs that the pieces spell were run with this outcome, or the pieces have this fault, or a run of their jobs lacked threads
 abbrev pub EndsLive : Bool → ℕ → List PieceValue → LiveEnding → Type 0
 EndsLive folds tables given (Done outcome) =
     (o : OpeningValue) × (jobs : List Job) × SpellJobs tables given o jobs × WereRun folds o jobs outcome
-EndsLive folds tables given (Fault fault) = HaveFault tables given fault
+EndsLive folds tables given (Fault fault) = HaveFault tables given fault ⊎ HaveTooFewThreads tables given fault
 
 -- the line that is written
 abbrev pub ending_line : LiveEnding → List ℕ

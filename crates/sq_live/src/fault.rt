@@ -1,7 +1,8 @@
 // Why an input gives no live run.
 ghost use Rattle.std.specs.Prelude.{◌≡◌};
-ghost use Rattle.sq_live.specs.Faults.{job_fault_number, live_fault_number, fault_at};
+ghost use Rattle.sq_live.specs.Faults.{job_fault_number, live_fault_number, fault_at, run_fault};
 
+use sq_driver::WorkersEnd;
 use sq_explain::meaning;
 use sq_schema::{OUT_OF_MEMORY, TxnFault};
 use sq_text::{InputFault, LocatedFault};
@@ -46,6 +47,29 @@ pub enum LiveFault {
     Input(LocatedFault),
     /// A line behind the header gives no job.
     Job(JobLineFault),
+    /// The system grants fewer threads than the run has partitions.
+    Threads,
+}
+
+/// Why a run has no outcome.
+#[derive(Clone, Copy, Debug, PartialEq, Eq)]
+pub(crate) enum RunFault {
+    /// Memory ran out.
+    Memory,
+    /// A partition, or the pumps, had no thread.
+    Threads,
+}
+
+impl RunFault {
+    /// Why a stage has no outcome whose workers ended so. Where they were done, it is memory.
+    pub(crate) fn of(end: WorkersEnd) -> RunFault
+        ensures { result ≡ run_fault end }
+    {
+        match end {
+            WorkersEnd::LacksThreads => RunFault::Threads,
+            WorkersEnd::LacksMemory | WorkersEnd::Done => RunFault::Memory,
+        }
+    }
 }
 
 impl JobFault {
@@ -83,11 +107,13 @@ impl LiveFault {
         match self {
             LiveFault::Input(located) => located.fault.number(),
             LiveFault::Job(told) => told.fault.number(),
+            LiveFault::Threads => OUT_OF_MEMORY,
         }
     }
 }
 
-/// Says the line by its number, where the fault belongs to one, the number of the fault, and what it means.
+/// Says the line by its number, where the fault belongs to one, the number of the fault, and what it means. The number for want
+/// of threads is that for want of memory, whose meaning it doesn't have.
 impl Display for LiveFault {
     fn fmt<W: Write>(&self, f: &mut Formatter<W>) -> fmt::Result {
         match self {
@@ -95,6 +121,11 @@ impl Display for LiveFault {
             LiveFault::Job(JobLineFault { fault, line }) => {
                 write!(f, "line {line}: fault {}: {fault}", fault.number())
             }
+            LiveFault::Threads => write!(
+                f,
+                "fault {}: the system grants fewer threads than the run has partitions",
+                self.number()
+            ),
         }
     }
 }
@@ -116,5 +147,28 @@ impl From<AllocError> for LiveFault {
 
     fn from(_error: AllocError) -> LiveFault {
         LiveFault::Input(InputFault::Memory.at_no_line())
+    }
+}
+
+impl From<AllocError> for RunFault {
+    ghost use Rattle.sq_live.specs.declared.fault.RunFault.TheVariants as runs;
+
+    ghost from_gives = { λ _ fault. fault ≡ runs.Memory };
+
+    fn from(_error: AllocError) -> RunFault {
+        RunFault::Memory
+    }
+}
+
+impl From<RunFault> for LiveFault {
+    ghost use Rattle.sq_live.specs.Faults.{live_fault};
+
+    ghost from_gives = { λ why fault. fault ≡ live_fault why };
+
+    fn from(why: RunFault) -> LiveFault {
+        match why {
+            RunFault::Memory => LiveFault::from(AllocError),
+            RunFault::Threads => LiveFault::Threads,
+        }
     }
 }

@@ -9,7 +9,7 @@ ghost use Rattle.sq_live.specs.Live.{EndsLive, WereRun, ending_line, RunsLive, C
 
 use crate::account::Account;
 use crate::ending::LiveEnding;
-use crate::fault::LiveFault;
+use crate::fault::{LiveFault, RunFault};
 use crate::job_list::{JobList, read_jobs};
 use crate::outcome::{LiveOutcome, write_outcome};
 use crate::stages::{RunManner, run_stages};
@@ -30,8 +30,10 @@ use std::thread::Threads;
 /// has them. Where it has a fault, no thread is started, and the line has the fault. Else the stages of the move run
 /// one after another: each partition and each pump runs in a thread of its own, each of them up to so many turns in a
 /// stage, and asks `watch` before each step. A stage whose segments aren't all complete then stops the run. Where
-/// `manner` folds, the jobs that are answered are audited between two stages, and the logs folded. Where memory runs out, the
-/// line is that of its fault.
+/// `manner` folds, the jobs that are answered are audited between two stages, and the logs folded.
+///
+/// Where memory runs out, or a thread lacks it for 5 seconds or some more, the line is that of its fault. So it is where a
+/// partition has no thread, some 5 seconds after the others have no more work.
 ///
 /// An error is a write or a flush that failed.
 ///
@@ -127,7 +129,7 @@ fn run_input<T: Threads + Wait + Sync, G: Watch>(
     jobs: JobList,
     manner: RunManner,
     watch: &G,
-) -> Result<LiveOutcome, AllocError>
+) -> Result<LiveOutcome, RunFault>
     ensures { IfOk result (WereRun manner.folds opening jobs) }
 {
     let moving = start_move(&opening)?;

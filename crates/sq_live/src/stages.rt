@@ -1,5 +1,5 @@
 // The stages of a live run.
-ghost use Rattle.std.specs.Prelude.{◌≡◌, ◌≤◌, ◌+◌, IfOk};
+ghost use Rattle.std.specs.Prelude.{◌≡◌, ◌≤◌, ◌+◌, IfOk, IfErr, OnOk};
 ghost use Rattle.sq_pull.specs.declared.numbers.TheConstants.{MAX_PUMPS};
 ghost use Rattle.sq_ranges.specs.Prelude.{OpeningValue, IsOpening};
 ghost use Rattle.sq_node_model.specs.Prelude.{BeganWith, first_began, IsPlaced, IsStageDone, next_began};
@@ -7,14 +7,18 @@ ghost use Rattle.sq_run.specs.StageRunValue.{BeganFrom, RanFrom};
 ghost use Rattle.sq_live.specs.Account.{first_account};
 ghost use Rattle.sq_stages.specs.Leading.{leading};
 ghost use Rattle.sq_live.specs.Stages.{IsReady, ComesAfterStage, GoesOnTo};
+ghost use Rattle.sq_driver.specs.declared.attendance.WorkersEnd.TheVariants as ends;
+ghost use Rattle.sq_live.specs.Faults.{run_fault};
 ghost use Rattle.sq_live.specs.Live.{WereRun};
 
 use crate::account::Account;
 use crate::continuing::continue_with;
+use crate::fault::RunFault;
 use crate::judging::{judge_end, judge_stopped, moved_segments};
 use crate::outcome::LiveOutcome;
 use crate::watch::Watch;
 use sq_audit::Job;
+use sq_driver::WorkersEnd;
 use sq_gather::Gathered;
 use sq_leader::Moving;
 use sq_node::Fabric;
@@ -49,7 +53,7 @@ pub(crate) struct Ready {
 
 /// Runs the jobs of an account stage by stage, from the first to the last one or to the first that stops it: each
 /// partition and each pump runs in a thread of its own, and so again in each stage. Gives the outcome of the whole
-/// run, whatever the threads did.
+/// run, whatever the threads did, unless they gave up for want of threads or of memory.
 pub(crate) fn run_stages<R: Threads + Wait + Sync, G: Watch>(
     rt: &R,
     alloc: Global,
@@ -57,7 +61,7 @@ pub(crate) fn run_stages<R: Threads + Wait + Sync, G: Watch>(
     moving: Moving,
     manner: RunManner,
     watch: &G,
-) -> Result<LiveOutcome, AllocError>
+) -> Result<LiveOutcome, RunFault>
     requires first { account ≡ first_account account.opening account.jobs }
     requires led { moving ≡ leading account.opening 0 }
     ensures { IfOk result (WereRun manner.folds account.opening account.jobs) }
@@ -109,7 +113,7 @@ fn run_stage<R: Threads + Wait + Sync, G: Watch>(
     ready: Ready,
     manner: RunManner,
     watch: &G,
-) -> Result<ControlFlow<LiveOutcome, Ready>, AllocError>
+) -> Result<ControlFlow<LiveOutcome, Ready>, RunFault>
     requires ready { (began : BeganWith) × IsReady began ready }
     ensures { IfOk result (λ after. (began : BeganWith) → IsReady began ready
         → ComesAfterStage manner.folds ready.account began after) }
@@ -148,7 +152,7 @@ fn go_on<R: Threads + Sync>(
     gathered: Gathered,
     moving: Moving,
     manner: RunManner,
-) -> Result<ControlFlow<LiveOutcome, Ready>, AllocError>
+) -> Result<ControlFlow<LiveOutcome, Ready>, RunFault>
     requires placed { IsPlaced account.opening gathered }
     requires done { IsStageDone account.opening gathered }
     requires led { moving ≡ leading account.opening (gathered.stage + 1) }
@@ -171,19 +175,36 @@ fn drive_all<R: Threads + Wait + Sync, G: Watch>(
     mut run: StageRun,
     turns: u64,
     watch: &G,
-) -> Result<Gathered, AllocError>
+) -> Result<Gathered, RunFault>
     ensures { IfOk result (λ g. (o : OpeningValue) (began : BeganWith)
         → IsOpening o → BeganFrom o began run → RanFrom o began g) }
 {
     watch.stage_begins();
-    run.drive(rt, turns, watch);
+    let end = run.drive(rt, turns, watch);
     watch.stage_ends(run.nodes());
+    let gathered = gather_from(rt, alloc, run, end)?;
+    watch.gathers(&gathered);
+    Ok(gathered)
+}
+
+// Gathers what the workers of a stage left, unless they gave up.
+fn gather_from<R: Wait>(
+    rt: &R,
+    alloc: Global,
+    run: StageRun,
+    end: WorkersEnd,
+) -> Result<Gathered, RunFault>
+    ensures ran { IfOk result (λ g. (o : OpeningValue) (began : BeganWith)
+        → IsOpening o → BeganFrom o began run → RanFrom o began g) }
+    ensures done { OnOk result (end ≡ ends.Done) }
+    ensures fault { IfErr result (λ fault. fault ≡ run_fault end) }
+{
+    if end != WorkersEnd::Done {
+        return Err(RunFault::of(end));
+    }
     match run.gather(rt, alloc) {
-        Ok(gathered) => {
-            watch.gathers(&gathered);
-            Ok(gathered)
-        }
-        Err(_) => Err(AllocError),
+        Ok(gathered) => Ok(gathered),
+        Err(_) => Err(RunFault::of(end)),
     }
 }
 

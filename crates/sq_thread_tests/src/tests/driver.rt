@@ -2,7 +2,7 @@
 use super::gates::{FIRST_PUMP, Lasting, Recorder, RecorderEnd};
 use super::node::PAIR;
 use super::run::TestRun;
-use sq_driver::{NodeStep, OpenGate};
+use sq_driver::{NodeStep, OpenGate, WorkersEnd};
 use sq_node::Stepped;
 use std::alloc::Global;
 use std::process::Abort;
@@ -49,6 +49,19 @@ fn a_gate_ends_a_node(rt: HostRuntime) {
         assert!(rt; gate.told() == (0, heard));
         assert!(rt; run.receipts() == receipts);
     }
+}
+
+// Workers that have threads and memory are done where a gate ends them, where they are idle, and after their turns.
+#[test]
+fn workers_are_done(rt: HostRuntime) {
+    let alloc = rt.alloc();
+    let mut run = two_jobs(&rt, alloc);
+    let gate = Recorder::new(Some(RecorderEnd::Answered));
+    assert!(rt; run.work(&rt, 1_000_000, &gate) == WorkersEnd::Done);
+    assert!(rt; run.work(&rt, 1_000_000, &OpenGate) == WorkersEnd::Done);
+    let mut pair = TestRun::opened(&rt, alloc, PAIR, 1);
+    assert!(rt; pair.work(&rt, 0, &OpenGate) == WorkersEnd::Done);
+    assert!(rt; pair.work(&rt, 1_000_000, &OpenGate) == WorkersEnd::Done);
 }
 
 // It has answered both jobs and found nothing to do for so many turns.

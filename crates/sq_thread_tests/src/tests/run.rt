@@ -8,7 +8,7 @@ ghost use Rattle.sq_audit.specs.Answers.{IdsDiffer};
 
 use super::text::{receipts_text, text_of};
 use sq_audit::Job;
-use sq_driver::{Gate, OpenGate, drive, drive_pump, run_workers};
+use sq_driver::{Gate, OpenGate, WorkersEnd, drive, drive_pump, run_workers};
 use sq_gather::{Gathered, gather};
 use sq_lines::LineReader;
 use sq_model::Step;
@@ -228,8 +228,13 @@ impl TestRun {
         }
     }
 
-    /// Runs all workers.
-    pub fn work<R: Threads + Wait + Sync, G: Gate + Sync>(&mut self, rt: &R, turns: u64, gate: &G) {
+    /// Runs all workers, and says how they ended.
+    pub fn work<R: Threads + Wait + Sync, G: Gate + Sync>(
+        &mut self,
+        rt: &R,
+        turns: u64,
+        gate: &G,
+    ) -> WorkersEnd {
         run_workers(
             rt,
             &self.fabric,
@@ -237,7 +242,7 @@ impl TestRun {
             &mut self.pumps,
             turns,
             gate,
-        );
+        )
     }
 
     /// The receipts of the node of a partition, in lines.

@@ -1,4 +1,4 @@
 use Rattle.sq_live.proofs.stages.drive_all.Goals as goal
 
-pub returns-in-Ok : goal.returns-in-Ok
-returns-in-Ok g c = λ o began is run. c.in-Ok.ensures.ran o began is (c.drive.ensures.stays o began is run)
+pub returns : goal.returns
+returns g c = λ o began is run. c.in_ok-gathered.ensures.ran o began is (c.drive-end.ensures.stays o began is run)
