@@ -1,5 +1,5 @@
 -- An epoch that was served runs still.
-use Rattle.std.proofs.Common.{◌≡◌, Bool, true, List, ◌++◌, refl, ap, ◌∙◌, subst, append_assoc}
+use Rattle.std.proofs.Common.{◌≡◌, ℕ, Bool, true, List, ◌++◌, refl, ap, ◌∙◌, subst, append_assoc}
 use Rattle.std.proofs.lemmas.List.{append-nil}
 use Rattle.sq_ranges.specs.OpeningValue.{OpeningValue}
 use Rattle.sq_ranges.specs.Opening.{IsOpening}
@@ -9,19 +9,20 @@ use Rattle.sq_audit.specs.declared.job.Job.{Job}
 use Rattle.sq_epoch.specs.declared.serving.ServedParts.{ServedParts}
 use Rattle.sq_engine.specs.Values.{EpochValue}
 use Rattle.sq_engine.specs.History.{Episode, RunsAfter, OnlyDriven}
-use Rattle.sq_epoch.specs.Exchanges.{ClientCall, posted_in}
+use Rattle.sq_epoch.specs.Exchanges.{ClientCall, ExchangesEach, InStage, posted_in}
 use Rattle.sq_epoch.specs.Serving.{AllAreGiven, IsServedWith}
 use Rattle.sq_epoch.proofs.Passing.{none_posted}
-use Rattle.sq_engine.specs.Served.{EpochIsServed}
+use Rattle.sq_engine.specs.Served.{EpochIsServed, segments_of_epoch}
 use Rattle.sq_engine.proofs.Epochs.{driven_runs}
 
 -- what happens to the parts of an epoch happens to the epoch
-pub epoch_served : {X : Type 0} (becomes : X → ClientCall → X → Type 0) (old : EpochValue) (nodes : List NodeState) (before : X) (parts : ServedParts) (after : X)
-    → nodes ≡ old.nodes → IsServedWith becomes old.fabric nodes old.pumps old.jobs before parts after
+pub epoch_served : {X : Type 0} (becomes : X → ClientCall → X → Type 0) (old : EpochValue) (nodes : List NodeState) (segments : ℕ) (before : X) (parts : ServedParts) (after : X)
+    → nodes ≡ old.nodes → segments ≡ segments_of_epoch old
+    → IsServedWith (InStage segments becomes) old.fabric nodes old.pumps old.jobs before parts after
     → EpochIsServed becomes old before (record old { jobs = parts.jobs; nodes = parts.nodes.items; pumps = parts.pumps.items }) after parts.is_whole parts.lacks_threads
-epoch_served becomes old nodes before parts after same served = record {
+epoch_served becomes old nodes segments before parts after same stage served = record {
   exchanges = served.exchanges;
-  client = served.client;
+  client = subst (λ (n : ℕ). ExchangesEach (InStage n becomes) before served.exchanges after) stage served.client;
   driven = record {
     opening = refl;
     jobs = served.jobs_posted;

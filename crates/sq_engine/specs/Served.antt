@@ -1,5 +1,5 @@
 -- An epoch that was served, and an engine.
-use Rattle.std.specs.Prelude.{◌≡◌, Bool, true, List, [], ◌∷◌, ◌++◌}
+use Rattle.std.specs.Prelude.{◌≡◌, ℕ, Bool, true, List, [], ◌∷◌, ◌++◌}
 use Rattle.std.specs.List.{flat_map}
 use Rattle.std.specs.List.Sorted.{IsPermutation}
 use Rattle.sq_node_model.specs.NodeValue.{ReceiptValue}
@@ -8,7 +8,8 @@ use Rattle.sq_engine.specs.History.{OnlyDriven}
 use Rattle.sq_engine.specs.declared.standing.Standing.{Standing}
 use Rattle.sq_engine.specs.declared.standing.Standing.TheVariants.{Running}
 use Rattle.sq_engine.specs.Engine.{receipts_in, KeepsHistory, KeepsHistoryAndJobs}
-use Rattle.sq_epoch.specs.Exchanges.{ClientCall, Exchange, Answers, Posts, Refuses, Rests, Ends, ExchangesEach, posted_in, commands_in}
+use Rattle.sq_epoch.specs.Exchanges.{ClientCall, Exchange, Answers, Posts, Refuses, Rests, Ends, ExchangesEach, InStage, posted_in, commands_in}
+use Rattle.sq_epoch.specs.Progress.{stage_segments}
 use Rattle.sq_epoch.specs.Serving.{AllAreGiven}
 
 abbrev pub told_answer : Exchange → List ReceiptValue
@@ -26,12 +27,16 @@ told_answers exchanges = flat_map told_answer exchanges
 abbrev pub GrowByTold : List ReceiptValue → List Exchange → List ReceiptValue → Type 0
 GrowByTold old exchanges new = IsPermutation (old ++ told_answers exchanges) new
 
--- a client posted jobs, the workers ran, nothing else changed, and the client was given the answers that the nodes wrote. Where a
--- node had no thread it was asked for nothing, so that it posted none
+-- how many segments move in the stage of an epoch
+abbrev pub segments_of_epoch : EpochValue → ℕ
+segments_of_epoch epoch = stage_segments epoch.opening.recon epoch.fabric.stage
+
+-- a client posted jobs, the workers ran, nothing else changed, and the client was given the answers that the nodes wrote. What it was
+-- told of the stage was true. Where a node had no thread it was asked for nothing, so that it posted none
 pub record EpochIsServed {X : Type 0} (becomes : X → ClientCall → X → Type 0) (old : EpochValue) (before : X)
     (new : EpochValue) (after : X) (is_whole lacks_threads : Bool) : Type 0 where
   pub exchanges : List Exchange
-  pub client : ExchangesEach becomes before exchanges after
+  pub client : ExchangesEach (InStage (segments_of_epoch old) becomes) before exchanges after
   pub driven : OnlyDriven (record old { jobs = old.jobs ++ posted_in exchanges }) new
   pub given : AllAreGiven is_whole exchanges old.nodes new.nodes
   pub none_asked : lacks_threads ≡ true → commands_in exchanges ≡ []

@@ -87,6 +87,8 @@ pub struct EngineServed {
     pub is_whole: bool,
     /// Whether the epoch ended since no thread could be had for a node, as in [`Served`].
     pub lacks_threads: bool,
+    /// Whether it ended since a worker lacked memory for some seconds, as in [`Served`].
+    pub lacks_memory: bool,
     /// How far its stage was as the epoch ended, by the reports of the workers.
     pub progress: StageProgress,
 }
@@ -249,6 +251,7 @@ impl Engine {
                         epoch,
                         is_whole,
                         lacks_threads,
+                        lacks_memory,
                     },
                 ) => {
                     let progress = epoch.progress();
@@ -257,6 +260,7 @@ impl Engine {
                         engine: Engine { standing, pumps },
                         is_whole,
                         lacks_threads,
+                        lacks_memory,
                         progress,
                     })
                 }

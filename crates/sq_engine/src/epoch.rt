@@ -141,8 +141,8 @@ impl Epoch {
     /// Runs the workers: each partition and each pump in a thread of its own, for this many turns at most. All of them
     /// have ended when it returns. A node ends before where it is idle, and each worker where the gate says so. Where
     /// nodes that are idle continue by the gate, they end once each segment that moves in the stage is complete. All
-    /// end too where one of them rests for some seconds while no thread can be had for a node. Jobs may be posted after
-    /// that, and the workers run again.
+    /// end too where one of them has no work for some seconds while no thread can be had for another, and where one lacks
+    /// memory for as long. Jobs may be posted after that, and the workers run again.
     pub fn run<R: Threads + Wait + Sync, G: Gate + Sync>(
         self,
         rt: &R,
@@ -159,7 +159,7 @@ impl Epoch {
             mut run,
             progress,
         } = self;
-        let counting = CountingGate::new(gate, run.fabric.parts(), progress);
+        let counting = CountingGate::new(gate, progress);
         run_workers(
             rt,
             &run.fabric,

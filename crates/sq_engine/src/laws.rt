@@ -1,23 +1,30 @@
 //! What holds of engines. The functions do nothing: each states a law, which the checker proves.
 ghost use Rattle.std.specs.Prelude.{◌≡◌, ◌∷◌, List, []};
-ghost use Rattle.sq_ranges.specs.Prelude.{OpeningValue};
+ghost use Rattle.sq_ranges.specs.Prelude.{OpeningValue, IsOpening};
 ghost use Rattle.sq_node_model.specs.Prelude.{GatheredValue, IsPlaced};
 ghost use Rattle.sq_page.specs.declared.page.Page.{Page};
 ghost use Rattle.sq_page.specs.Pages.{IsPageOf};
 ghost use Rattle.sq_epoch.specs.Exchanges.{Exchange};
 ghost use Rattle.sq_epoch.specs.declared.long_log.TheConstants.{LONG_LOG};
-ghost use Rattle.sq_engine.specs.Values.{PauseValue};
+ghost use Rattle.sq_engine.specs.Values.{EpochValue, PauseValue};
 ghost use Rattle.sq_engine.specs.History.{Episode, pause_after, HaveCome};
 ghost use Rattle.sq_engine.specs.Ending.{EndsItsMove, IsSoundEngine, SpeaksForPause, EngineEndsAsPlanned};
 ghost use Rattle.sq_engine.specs.declared.closed.Closed.{Closed};
 ghost use Rattle.sq_engine.specs.declared.standing.Standing.{Standing};
 ghost use Rattle.sq_engine.specs.Engine.{receipts_in};
 ghost use Rattle.sq_engine.specs.Taken.{TakesItsPage, HasClosedAfter};
+ghost use Rattle.sq_engine.specs.Served.{segments_of_epoch};
 ghost use Rattle.sq_engine.specs.Told.{AreAnswersGiven, TellsInTurn};
 
 /// The limit of engines, in digits.
 pub fn the_limits()
     ensures { LONG_LOG ≡ 3071 }
+{}
+
+/// No segment moves in an epoch at rest, so its client is told that nothing moves.
+pub fn no_segment_moves_at_rest()
+    ensures { (epoch : EpochValue) → IsOpening epoch.opening → epoch.opening.recon.ranges ≡ []
+        → segments_of_epoch epoch ≡ 0 }
 {}
 
 /// What an engine has come by is placed under the opening that was in force: after each epoch, whatever its threads did, and

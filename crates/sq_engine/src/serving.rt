@@ -21,6 +21,8 @@ pub struct Served {
     pub is_whole: bool,
     /// Whether it ended since no thread could be had for a node. Its client wasn't asked for anything then, and posted no job.
     pub lacks_threads: bool,
+    /// Whether it ended since a worker lacked memory for some seconds, and could do nothing meanwhile.
+    pub lacks_memory: bool,
 }
 
 impl Epoch {
@@ -28,9 +30,10 @@ impl Epoch {
     /// in this thread meanwhile: it is asked for jobs, which are posted, and is given each answer as soon as it comes.
     ///
     /// The epoch ends where its client wants that, where each segment that moves in its stage is complete, where an answer is
-    /// missing for lack of memory, and where no thread can be had for a node; at rest also where an answer comes whose receipt has
-    /// [`LONG_LOG`](crate::LONG_LOG) or a later position. All workers have ended when it returns, and the client has been given
-    /// the answers that were still on their way. Where there is no memory for the rings over which answers come, the epoch comes
+    /// missing for lack of memory, where no thread can be had for a node, and where a worker lacks memory for some seconds; at rest
+    /// also where an answer comes whose receipt has [`LONG_LOG`](crate::LONG_LOG) or a later position. All workers have ended when
+    /// it returns, and the client has been given the answers that were still on their way. What the client is told of the stage is
+    /// true of this epoch: as many segments move. Where there is no memory for the rings over which answers come, the epoch comes
     /// back as it was, and the client was not called.
     pub fn serve<C: Client, R: Threads + Wait + Sync>(
         self,
@@ -49,6 +52,7 @@ impl Epoch {
         ensures returned { IfErr result (λ back. back ≡ self) }
         ensures not_called { OnErr result (client.new ≡ client.old) }
     {
+        let told = self.progress();
         let Epoch {
             opening,
             jobs,
@@ -60,7 +64,7 @@ impl Epoch {
             nodes,
             pumps,
         } = run;
-        match make_ready(alloc, fabric.parts(), progress, nodes) {
+        match make_ready(alloc, fabric.parts(), told, nodes) {
             Ok(ready) => {
                 let parts = serve_with(rt, &fabric, ready, jobs, pumps, turns, client);
                 fabric.open_jobs(rt);
@@ -77,6 +81,7 @@ impl Epoch {
                     },
                     is_whole: parts.is_whole,
                     lacks_threads: parts.lacks_threads,
+                    lacks_memory: parts.lacks_memory,
                 })
             }
             Err(nodes) => Err(Epoch {

@@ -1,7 +1,9 @@
-// Engines that have jobs at random, what their client says where an answer is lost, the gate of an epoch, workers that end while jobs
-// are posted, and the caller that the guide shows.
+// Engines that have jobs at random, and engines at rest; what their client says where an answer is lost; a teller that nobody hears;
+// workers that end while jobs are posted; and the caller that the guide shows.
+mod at_rest;
+mod breaking_off;
+mod desks;
 mod ending;
-mod gate;
 mod hearing;
 mod serving;
 mod there_and_back;

@@ -1,5 +1,5 @@
 -- What passes between an epoch and its client, one exchange after another.
-use Rattle.std.proofs.Common.{◌≡◌, inl, inr, ℕ, zero, suc, ◌<◌, if◌then◌else◌, Bool, false, true≢false, List, [], ◌∷◌, ◌++◌, length, get_or, set, slice_get, Option, Some, refl, sym, ap, ◌∙◌, subst, append_assoc, eq-eqb, arith, take, drop, get_or-set_same, get_or-set_other}
+use Rattle.std.proofs.Common.{◌≡◌, inl, inr, ℕ, zero, suc, ◌<◌, if◌then◌else◌, Bool, true, false, true≢false, List, [], ◌∷◌, ◌++◌, length, get_or, set, slice_get, Option, Some, refl, sym, ap, ◌∙◌, subst, append_assoc, eq-eqb, arith, take, drop, get_or-set_same, get_or-set_other}
 use Rattle.std.proofs.Math.Seq.{take-append_seam}
 use Rattle.std.specs.Option.{option_map_or}
 use Rattle.std.proofs.lemmas.Bool.{cases_eq, ne_eqb}
@@ -12,7 +12,7 @@ use Rattle.sq_node_model.specs.NodeValue.{ReceiptValue}
 use Rattle.sq_audit.specs.declared.job.Job.{Job}
 use Rattle.sq_epoch.specs.declared.client.Command.{Command}
 use Rattle.sq_epoch.specs.declared.client.Command.TheVariants.{Post, Rest, End}
-use Rattle.sq_epoch.specs.Exchanges.{ClientCall, Told, Asked, Exchange, Answers, Posts, Refuses, Rests, Ends, ExchangesEach, answer_at, given_from, posted_job, posted_in, command_in, commands_in, IsOffered, DoesWish}
+use Rattle.sq_epoch.specs.Exchanges.{ClientCall, Told, Exchange, Answers, Posts, Refuses, Rests, Ends, ExchangesEach, InStage, IsAsked, answer_at, given_from, posted_job, posted_in, command_in, commands_in, IsOffered, DoesWish}
 use Rattle.sq_epoch.specs.Rings.{received_at, AreSameRings, Passes, GivesCome, Serves, GivesGrown}
 
 exchanges_on : {X : Type 0} (becomes : X → ClientCall → X → Type 0) (first mid last : X) (one more : List Exchange)
@@ -33,6 +33,9 @@ asked_on one more = flat_map-append command_in one more
 -- where a client was asked for nothing before and behind it was asked for nothing
 none_asked_on : (one more : List Exchange) → commands_in one ≡ [] → commands_in more ≡ [] → commands_in (one ++ more) ≡ []
 none_asked_on one more first second = asked_on one more ∙ ap (λ (list : List Command). list ++ commands_in more) first ∙ second
+
+not_none : (command : Command) (more : List Command) → command ∷ more ≡ [] → ⊥
+not_none command more none = cc
 
 -- a client that was asked for nothing posted no job
 pub none_posted : (exchanges : List Exchange) → commands_in exchanges ≡ [] → posted_in exchanges ≡ []
@@ -82,7 +85,7 @@ module _ {X : Type 0} (becomes : X → ClientCall → X → Type 0) where
 
   -- what a client wants is done
   pub wish_posts : (job : Job) (old_jobs : List Job) (before between : X) (new_jobs : List Job) (after : X)
-      → becomes before (Asked (Post job)) between → IsOffered becomes job old_jobs between new_jobs after
+      → IsAsked becomes before (Post job) between → IsOffered becomes job old_jobs between new_jobs after
       → DoesWish becomes old_jobs before new_jobs after
   wish_posts job old_jobs before between new_jobs after asked offered =
       elim offered [
@@ -100,7 +103,7 @@ module _ {X : Type 0} (becomes : X → ClientCall → X → Type 0) where
         }
       ]
 
-  pub wish_rests : (jobs : List Job) (before after : X) → becomes before (Asked Rest) after → DoesWish becomes jobs before jobs after
+  pub wish_rests : (jobs : List Job) (before after : X) → IsAsked becomes before Rest after → DoesWish becomes jobs before jobs after
   wish_rests jobs before after asked = record {
     exchanges = Rests ∷ [];
     client = (after, asked, refl);
@@ -108,13 +111,24 @@ module _ {X : Type 0} (becomes : X → ClientCall → X → Type 0) where
     none_given = λ part. refl;
   }
 
-  pub wish_ends : (jobs : List Job) (before after : X) → becomes before (Asked End) after → DoesWish becomes jobs before jobs after
+  pub wish_ends : (jobs : List Job) (before after : X) → IsAsked becomes before End after → DoesWish becomes jobs before jobs after
   wish_ends jobs before after asked = record {
     exchanges = Ends ∷ [];
     client = (after, asked, refl);
     jobs = sym (append-nil jobs);
     none_given = λ part. refl;
   }
+
+  -- who was asked for nothing was told nothing of a stage
+  pub each_in_stage : (segments : ℕ) (exchanges : List Exchange) (first last : X) → commands_in exchanges ≡ []
+      → ExchangesEach becomes first exchanges last → ExchangesEach (InStage segments becomes) first exchanges last
+  each_in_stage segments [] first last none same = same
+  each_in_stage segments (Answers part receipt ∷ more) first last none went =
+      (went.0, went.1, each_in_stage segments more went.0 last none went.2)
+  each_in_stage segments (Posts job ∷ more) first last none went = absurd (not_none (Post job) (commands_in more) none)
+  each_in_stage segments (Refuses job fault ∷ more) first last none went = absurd (not_none (Post job) (commands_in more) none)
+  each_in_stage segments (Rests ∷ more) first last none went = absurd (not_none Rest (commands_in more) none)
+  each_in_stage segments (Ends ∷ more) first last none went = absurd (not_none End (commands_in more) none)
 
 module _ {A P : Type 0} where
   pub same_through : (one two three : Consumer ReceiptValue A P) → SameConsumer one two → SameConsumer two three → SameConsumer one three
@@ -217,6 +231,31 @@ module _ {A P : Type 0} where
     pub come_none : (rings : List (Consumer ReceiptValue A P)) (client : X) → GivesCome becomes rings client rings client
     come_none rings client = record { exchanges = []; passes = passes_none rings client; none_asked = refl }
 
+    -- the same, with what a client is told of a stage
+    pub come_in_stage : (segments : ℕ) (old : List (Consumer ReceiptValue A P)) (before : X)
+        (new : List (Consumer ReceiptValue A P)) (after : X)
+        → GivesCome becomes old before new after → GivesCome (InStage segments becomes) old before new after
+    come_in_stage segments old before new after come = record {
+      exchanges = come.exchanges;
+      passes = record {
+        client = each_in_stage becomes segments come.exchanges before after come.none_asked come.passes.client;
+        rings = come.passes.rings;
+        given = come.passes.given;
+      };
+      none_asked = come.none_asked;
+    }
+
+    -- who was asked for nothing was served, whether a node has no thread or not
+    pub serves_any : (old_jobs : List Job) (old : List (Consumer ReceiptValue A P)) (before : X)
+        (new_jobs : List Job) (new : List (Consumer ReceiptValue A P)) (after : X) (lacks_threads : Bool)
+        → Serves becomes old_jobs old before new_jobs new after true → Serves becomes old_jobs old before new_jobs new after lacks_threads
+    serves_any old_jobs old before new_jobs new after lacks_threads serves = record {
+      exchanges = serves.exchanges;
+      passes = serves.passes;
+      jobs = serves.jobs;
+      none_asked = λ lacks. serves.none_asked refl;
+    }
+
     pub serves_none : (jobs : List Job) (rings : List (Consumer ReceiptValue A P)) (client : X) (lacks_threads : Bool)
         → Serves becomes jobs rings client jobs rings client lacks_threads
     serves_none jobs rings client lacks_threads = record {
@@ -275,9 +314,9 @@ written old new len whole = ap (λ n. take n (new ++ drop (length new) old)) who
 pub come_lent : {A P X : Type 0} (becomes : X → ClientCall → X → Type 0) (jobs : List Job)
     (old lent : List (Consumer ReceiptValue A P)) (before : X) (new : List (Consumer ReceiptValue A P)) (after : X) (len : ℕ)
     → lent ≡ old → length lent ≡ len → GivesCome becomes lent before new after
-    → Serves becomes jobs old before jobs (take len (new ++ drop (length new) old)) after false
+    → Serves becomes jobs old before jobs (take len (new ++ drop (length new) old)) after true
 come_lent {A} {P} becomes jobs old lent before new after len same whole come =
     let all = written old new len (omega (arith, whole, come.passes.rings.count)) in
-    come_serves becomes jobs old before (take len (new ++ drop (length new) old)) after false
+    come_serves becomes jobs old before (take len (new ++ drop (length new) old)) after true
     (subst (λ (p : List (Consumer ReceiptValue A P) × List (Consumer ReceiptValue A P)). GivesCome becomes p.0 before p.1 after)
     (λ i. (same i, sym all i)) come)

@@ -6,12 +6,21 @@ use Rattle.sq_audit.specs.declared.job.Job.{Job}
 use Rattle.sq_epoch.specs.declared.posted.PostFault.{PostFault}
 use Rattle.sq_epoch.specs.declared.client.Command.{Command}
 use Rattle.sq_epoch.specs.declared.client.Command.TheVariants.{Post, Rest, End}
+use Rattle.sq_epoch.specs.declared.stage_progress.StageProgress.{StageProgress}
 
--- a client was asked for its next command, was given an answer of a partition, or had a job returned that isn't posted
+-- a client was told how far its stage is and asked for its next command, was given an answer of a partition, or had a job returned
+-- that isn't posted
 pub data ClientCall : Type 0 where
-  Asked : (command : Command) → ClientCall
+  Asked : (progress : StageProgress) → (command : Command) → ClientCall
   Told : (part : ℕ) → (receipt : ReceiptValue) → ClientCall
   Returned : (job : Job) → (fault : PostFault) → ClientCall
+
+-- what a call makes of a client, which is told of a stage in which this many segments move
+abbrev pub InStage : {X : Type 0} → ℕ → (X → ClientCall → X → Type 0) → X → ClientCall → X → Type 0
+InStage segments becomes old (Asked progress command) new =
+    (progress.segments ≡ segments) × becomes old (Asked progress command) new
+InStage segments becomes old (Told part receipt) new = becomes old (Told part receipt) new
+InStage segments becomes old (Returned job fault) new = becomes old (Returned job fault) new
 
 -- an answer was given, a job was posted or refused, or the client wanted nothing, or that the epoch ends
 pub data Exchange : Type 0 where
@@ -21,14 +30,18 @@ pub data Exchange : Type 0 where
   Rests : Exchange
   Ends : Exchange
 
+-- a client was asked, and this was its command
+abbrev pub IsAsked : {X : Type 0} → (X → ClientCall → X → Type 0) → X → Command → X → Type 0
+IsAsked becomes old command new = (progress : StageProgress) × becomes old (Asked progress command) new
+
 -- what an exchange makes of a client
 abbrev pub Exchanges : {X : Type 0} → (X → ClientCall → X → Type 0) → X → Exchange → X → Type 0
 Exchanges becomes old (Answers part receipt) new = becomes old (Told part receipt) new
-Exchanges becomes old (Posts job) new = becomes old (Asked (Post job)) new
+Exchanges becomes old (Posts job) new = IsAsked becomes old (Post job) new
 Exchanges {X} becomes old (Refuses job fault) new =
-    (between : X) × becomes old (Asked (Post job)) between × becomes between (Returned job fault) new
-Exchanges becomes old Rests new = becomes old (Asked Rest) new
-Exchanges becomes old Ends new = becomes old (Asked End) new
+    (between : X) × IsAsked becomes old (Post job) between × becomes between (Returned job fault) new
+Exchanges becomes old Rests new = IsAsked becomes old Rest new
+Exchanges becomes old Ends new = IsAsked becomes old End new
 
 -- what these exchanges, one after another, make of a client
 abbrev pub ExchangesEach : {X : Type 0} → (X → ClientCall → X → Type 0) → X → List Exchange → X → Type 0

@@ -4,8 +4,13 @@ ghost use Rattle.sq_epoch.specs.Exchanges.{ClientCall, Asked, Told, Returned};
 use crate::posted::PostFault;
 use crate::stage_progress::StageProgress;
 use sq_audit::Job;
+use sq_driver::rest;
 use sq_node::Receipt;
 use sq_plan::PartId;
+use std::sync::Wait;
+
+// How many microseconds the thread of a client sleeps at most by default.
+const LONGEST_REST: u64 = 2_000;
 
 /// What a client wants next.
 #[derive(Debug, Drop)]
@@ -26,7 +31,7 @@ pub trait Client {
     /// What it wants next, where the stage is so far by the reports of the workers. A call has to return, since no
     /// answer is given meanwhile.
     fn next(&mut self, progress: StageProgress) -> Command
-        ensures { Becomes self.old (Asked result) self.new };
+        ensures { Becomes self.old (Asked progress result) self.new };
 
     /// Takes an answer: the receipt of a job, by the partition that wrote it.
     fn take(&mut self, part: PartId, receipt: Receipt)
@@ -35,4 +40,11 @@ pub trait Client {
     /// Takes a job back that isn't posted.
     fn take_back(&mut self, job: Job, fault: PostFault)
         ensures { Becomes self.old (Returned job fault) self.new };
+
+    /// Waits a while, after it wanted nothing `tries` times in a row while nothing moves and each job has its answer. It may wait
+    /// until it wants something, and has to return after some milliseconds in any case. By default other threads go first, and
+    /// after many tries in a row it sleeps, for two milliseconds at most.
+    fn wait<R: Wait>(&self, rt: &R, tries: u64) {
+        rest(rt, tries, LONGEST_REST);
+    }
 }

@@ -1,6 +1,7 @@
 // The workers of an epoch that is served.
 ghost use Rattle.std.specs.Prelude.{◌≡◌, length};
 ghost use Rattle.sq_epoch.specs.Crew.{IsCrewOf, IsDriven};
+ghost use Rattle.sq_epoch.specs.Exchanges.{InStage};
 ghost use Rattle.sq_epoch.specs.Rings.{Serves};
 
 use crate::client::Client;
@@ -32,8 +33,8 @@ impl Crew {
         requires { IsCrewOf fabric.now self.old }
         ensures { IsDriven fabric.now self.old self.new }
     {
-        run_telling(rt, fabric, &mut self.pairs, &mut self.pumps, turns, gate);
-        gate.workers_end();
+        let end = run_telling(rt, fabric, &mut self.pairs, &mut self.pumps, turns, gate);
+        gate.workers_end(end);
     }
 }
 
@@ -50,7 +51,8 @@ pub(crate) fn run_and_serve<C: Client, R: Threads + Wait + Sync>(
     requires crew { IsCrewOf fabric.now crew.old }
     requires rings { length front.old.rings.items ≡ fabric.now.parts }
     ensures crew { IsDriven fabric.now crew.old crew.new }
-    ensures front { Serves C.Becomes front.old.jobs front.old.rings.items client.old
+    ensures front { Serves (InStage gate.now.segments C.Becomes)
+        front.old.jobs front.old.rings.items client.old
         front.new.jobs front.new.rings.items client.new front.new.lacks_threads }
 {
     join_mut(
@@ -61,8 +63,9 @@ pub(crate) fn run_and_serve<C: Client, R: Threads + Wait + Sync>(
         { crew.run(rt, fabric, turns, gate) },
         &mut ||
             requires { length front.now.rings.items ≡ fabric.now.parts }
-            ensures { Serves C.Becomes front.entry.now.jobs front.entry.now.rings.items
-                client.entry.now front.exit.now.jobs front.exit.now.rings.items client.exit.now
+            ensures { Serves (InStage gate.entry.now.segments C.Becomes)
+                front.entry.now.jobs front.entry.now.rings.items client.entry.now
+                front.exit.now.jobs front.exit.now.rings.items client.exit.now
                 front.exit.now.lacks_threads }
         { front.serve(rt, fabric, gate, client) },
     );

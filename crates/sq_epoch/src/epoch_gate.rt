@@ -1,17 +1,30 @@
 // When an epoch that is served ends.
-use crate::attendance::Attendance;
+ghost use Rattle.std.specs.Prelude.{◌≡◌, IfOk};
+
+use crate::node_bell::NodeBell;
+use crate::nodes_here::NodesHere;
 use crate::stage_progress::StageProgress;
-use sq_driver::{Gate, NodeStep, WorkerEvent, WorkerId};
+use sq_driver::{Gate, NodeStep, WorkerEvent, WorkerId, WorkersEnd, rest};
+use sq_plan::PartId;
+use std::alloc::{AllocError, Global};
+use std::sync::Wait;
 use std::sync::atomic::{AtomicBool, AtomicU64, Ordering};
 
+// How many microseconds a worker sleeps at most after a turn without work, while rows move.
+const SHORT_REST: u64 = 50;
+
 /// The gate of an epoch that is served: it lets each worker pass until the epoch ends. It ends where its client wants that,
-/// where each segment of its stage is complete, and where an answer is missing.
+/// where each segment of its stage is complete, and where an answer is missing. While nothing moves, a node without work sleeps
+/// until a job comes for it.
 #[derive(Drop)]
 pub(crate) struct EpochGate {
     is_over: AtomicBool,
     have_ended: AtomicBool,
-    nodes: Attendance,
-    segments: u64,
+    lack_threads: AtomicBool,
+    lack_memory: AtomicBool,
+    nodes: NodesHere,
+    bells: Vec<NodeBell>,
+    pub(crate) segments: u64,
     complete: AtomicU64,
     moved: AtomicU64,
     moved_bytes: AtomicU64,
@@ -19,24 +32,34 @@ pub(crate) struct EpochGate {
 }
 
 impl EpochGate {
-    /// For an epoch of so many partitions whose stage is so far, and whose workers haven't begun. Where the stage is done it is
-    /// over.
-    pub(crate) fn new(parts: u8, progress: StageProgress) -> EpochGate {
-        EpochGate {
+    /// For an epoch of `parts` partitions whose stage is so far, and whose workers haven't begun. If the stage is done it is over.
+    pub(crate) fn new(
+        alloc: Global,
+        parts: u8,
+        progress: StageProgress,
+    ) -> Result<EpochGate, AllocError>
+        ensures { IfOk result (λ gate. gate.segments ≡ progress.segments) }
+    {
+        let bells = bells_of(alloc, parts)?;
+        Ok(EpochGate {
             is_over: AtomicBool::new(progress.is_done()),
             have_ended: AtomicBool::new(false),
-            nodes: Attendance::new(parts),
+            lack_threads: AtomicBool::new(false),
+            lack_memory: AtomicBool::new(false),
+            nodes: NodesHere::new(parts),
+            bells,
             segments: progress.segments,
             complete: AtomicU64::new(progress.complete),
             moved: AtomicU64::new(progress.moved),
             moved_bytes: AtomicU64::new(progress.moved_bytes),
             answers: AtomicU64::new(0),
-        }
+        })
     }
 
     /// Ends the epoch: no worker makes a step any more.
     pub(crate) fn end(&self) {
         self.is_over.store(true, Ordering::SeqCst);
+        self.wake_all();
     }
 
     /// Whether the epoch ends.
@@ -44,13 +67,14 @@ impl EpochGate {
         self.is_over.load(Ordering::SeqCst)
     }
 
-    pub(crate) fn workers_end(&self) {
+    /// Takes note of how the workers have ended.
+    pub(crate) fn workers_end(&self, end: WorkersEnd) {
+        match end {
+            WorkersEnd::Done => {}
+            WorkersEnd::LacksThreads => self.lack_threads.store(true, Ordering::SeqCst),
+            WorkersEnd::LacksMemory => self.lack_memory.store(true, Ordering::SeqCst),
+        }
         self.have_ended.store(true, Ordering::SeqCst);
-    }
-
-    /// Whether each node has asked whether it may pass, so that each of them has a thread.
-    pub(crate) fn have_all_come(&self) -> bool {
-        self.nodes.are_all_here()
     }
 
     /// Whether the workers have ended.
@@ -58,8 +82,57 @@ impl EpochGate {
         self.have_ended.load(Ordering::SeqCst)
     }
 
+    /// Whether the workers have ended since one of them had no thread.
+    pub(crate) fn workers_lack_threads(&self) -> bool {
+        self.lack_threads.load(Ordering::SeqCst)
+    }
+
+    /// Whether the workers have ended since one of them lacked memory for long.
+    pub(crate) fn workers_lack_memory(&self) -> bool {
+        self.lack_memory.load(Ordering::SeqCst)
+    }
+
+    /// Whether each node has asked whether it may pass, so that each of them has a thread.
+    pub(crate) fn have_all_come(&self) -> bool {
+        self.nodes.are_all_here()
+    }
+
+    /// Whether some node has asked whether it may pass, so that the workers run beside this thread.
+    pub(crate) fn has_one_come(&self) -> bool {
+        self.nodes.is_one_here()
+    }
+
+    /// Wakes the node of a partition, if it sleeps. To be called after a job was posted to it.
+    pub(crate) fn wake(&self, part: PartId) {
+        if let Some(bell) = self.bells.get(usize::from(part.number())) {
+            bell.ring();
+        }
+    }
+
+    // The bell of a node. A pump has none.
+    fn bell_of(&self, who: WorkerId) -> Option<&NodeBell> {
+        match who {
+            WorkerId::Node(part) => self.bells.get(usize::from(part)),
+            WorkerId::Pump(_) => None,
+        }
+    }
+
+    // Wakes each node that sleeps.
+    fn wake_all(&self) {
+        for bell in &self.bells {
+            bell.ring();
+        }
+    }
+
+    /// Whether nothing moves in the stage.
+    pub(crate) fn is_rest(&self) -> bool {
+        self.segments == 0
+    }
+
     /// How far the stage is.
-    pub(crate) fn progress(&self) -> StageProgress {
+    pub(crate) fn progress(&self) -> StageProgress
+        ensures { result.segments ≡ self.now.segments }
+    {
         StageProgress {
             segments: self.segments,
             complete: self.complete.load(Ordering::SeqCst).min(self.segments),
@@ -95,11 +168,31 @@ impl Gate for EpochGate {
                 self.moved.fetch_add(families, Ordering::SeqCst);
                 self.moved_bytes.fetch_add(bytes, Ordering::SeqCst);
             }
-            WorkerEvent::Waits { .. } | WorkerEvent::Made(_) => {}
+            WorkerEvent::Waits { .. } | WorkerEvent::Made(_) => {
+                if self.is_rest() {
+                    self.wake_all();
+                }
+            }
+        }
+    }
+
+    fn rests<R: Wait>(&self, rt: &R, who: WorkerId, turns: u64) {
+        match self.bell_of(who) {
+            Some(bell) if self.is_rest() => bell.wait(rt, turns),
+            _ => rest(rt, turns, SHORT_REST),
         }
     }
 
     fn ends_idle(&self) -> bool {
         false
     }
+}
+
+// A bell for each of `parts` nodes.
+fn bells_of(alloc: Global, parts: u8) -> Result<Vec<NodeBell>, AllocError> {
+    let mut bells = Vec::with_capacity(alloc, usize::from(parts))?;
+    for _part in 0..parts {
+        bells.push(NodeBell::new())?;
+    }
+    Ok(bells)
 }

@@ -1,21 +1,28 @@
 // Where an epoch and its client meet.
-ghost use Rattle.std.specs.Prelude.{◌≡◌, false, length};
+ghost use Rattle.std.specs.Prelude.{◌≡◌, true, false, length};
 ghost use Rattle.sq_epoch.specs.Rings.{Serves};
-ghost use Rattle.sq_epoch.specs.Exchanges.{IsOffered, DoesWish};
+ghost use Rattle.sq_epoch.specs.Exchanges.{InStage, IsOffered, DoesWish};
 
-use crate::attendance::{TURNS_ALONE, rest, wait_for_nodes};
 use crate::client::{Client, Command};
 use crate::epoch_gate::EpochGate;
 use crate::posted::PostedJobs;
 use crate::posting::post_job;
-use crate::rings::give_come;
+use crate::rings::{Arrivals, give_come};
 use rtrb::Consumer;
 use sq_audit::Job;
+use sq_driver::rest;
 use sq_node::{Fabric, Receipt};
 use std::sync::Wait;
 
-// How many microseconds it sleeps after a turn without work.
-const SLEEP: u64 = 50;
+// How many turns the nodes have to come, with a sleep after most of them. After these 4 seconds, or some more, it is taken for
+// granted that a node has no thread. The workers by themselves give up later.
+const TURNS_ALONE: u64 = 20_000;
+
+// How many microseconds it sleeps after such a turn.
+const REST_ALONE: u64 = 200;
+
+// How many microseconds it sleeps at most after a turn without work, while jobs are open or rows move.
+const SHORT_REST: u64 = 50;
 
 /// Where an epoch and its client meet: the jobs that were posted and not folded, and for each partition the end of the ring
 /// over which its answers come.
@@ -23,26 +30,29 @@ const SLEEP: u64 = 50;
 pub(crate) struct Front {
     pub(crate) jobs: PostedJobs,
     pub(crate) rings: Vec<Consumer<Receipt>>,
-    pub(crate) given: u64,
+    // How many of the jobs had an answer before the epoch.
+    answered: u64,
+    given: u64,
     /// Whether a node has no thread.
     pub(crate) lacks_threads: bool,
 }
 
 impl Front {
-    /// With these jobs, and these rings, over which nothing has come.
-    pub(crate) fn new(jobs: PostedJobs, rings: Vec<Consumer<Receipt>>) -> Front
+    /// With these jobs, of which `answered` have their answer, and these rings, over which nothing has come.
+    pub(crate) fn new(jobs: PostedJobs, rings: Vec<Consumer<Receipt>>, answered: u64) -> Front
         ensures { (result.jobs ≡ jobs) × (result.rings ≡ rings) }
     {
         Front {
             jobs,
             rings,
+            answered,
             given: 0,
             lacks_threads: false,
         }
     }
 
-    /// Serves a client until the workers have ended, once each node has come. Where one doesn't come, for want of a thread, the
-    /// epoch is over: who comes then makes no step, and the client isn't asked.
+    /// Serves a client until the workers have ended, once each node has come. If one doesn't come, for want of a thread, the
+    /// epoch is over: who comes then makes no step, and the client isn't asked. It is given answers in any case.
     pub(crate) fn serve<C: Client, R: Wait>(
         &mut self,
         rt: &R,
@@ -51,16 +61,71 @@ impl Front {
         client: &mut C,
     )
         requires { length self.old.rings.items ≡ fabric.now.parts }
-        ensures { Serves C.Becomes self.old.jobs self.old.rings.items client.old
+        ensures { Serves (InStage gate.now.segments C.Becomes)
+            self.old.jobs self.old.rings.items client.old
             self.new.jobs self.new.rings.items client.new self.new.lacks_threads }
     {
-        if !nodes_come(rt, gate) {
+        if self.meets_nodes(rt, fabric, gate, client) {
+            self.take_turns(rt, fabric, gate, client);
+            self.lacks_threads = false;
+        } else {
             gate.end();
+            self.empty_rings(rt, fabric, gate, client);
             self.lacks_threads = true;
-            return;
         }
-        self.take_turns(rt, fabric, gate, client);
-        self.lacks_threads = false;
+    }
+
+    // Waits until each node has come, or the workers have ended, and gives a client each answer that comes. Whether no node lacked
+    // a thread within some seconds.
+    fn meets_nodes<C: Client, R: Wait>(
+        &mut self,
+        rt: &R,
+        fabric: &Fabric,
+        gate: &EpochGate,
+        client: &mut C,
+    ) -> bool
+        requires { length self.old.rings.items ≡ fabric.now.parts }
+        ensures { Serves (InStage gate.now.segments C.Becomes)
+            self.old.jobs self.old.rings.items client.old
+            self.new.jobs self.new.rings.items client.new true }
+    {
+        for turn in 0..TURNS_ALONE {
+            if gate.have_all_come() {
+                return true;
+            }
+            if gate.have_ended() {
+                return !gate.workers_lack_threads();
+            }
+            self.give_come(fabric, gate, client);
+            rest(rt, turn, REST_ALONE);
+        }
+        false
+    }
+
+    // Gives a client each answer that comes, until the workers have ended, so that no teller waits for room in its ring. If no
+    // node has come, the workers may begin only after this thread is done here, and make no step then.
+    fn empty_rings<C: Client, R: Wait>(
+        &mut self,
+        rt: &R,
+        fabric: &Fabric,
+        gate: &EpochGate,
+        client: &mut C,
+    )
+        requires { length self.old.rings.items ≡ fabric.now.parts }
+        ensures { Serves (InStage gate.now.segments C.Becomes)
+            self.old.jobs self.old.rings.items client.old
+            self.new.jobs self.new.rings.items client.new true }
+    {
+        let mut tries = 0u64;
+        for _ in rt.forever() {
+            if gate.have_ended() || !gate.has_one_come() {
+                return;
+            }
+            self.give_come(fabric, gate, client);
+            tries = tries.saturating_add(1);
+            rest(rt, tries, REST_ALONE);
+        }
+        unreachable!()
     }
 
     // Gives a client each answer that comes, and does what it wants, until the workers have ended.
@@ -72,22 +137,55 @@ impl Front {
         client: &mut C,
     )
         requires { length self.old.rings.items ≡ fabric.now.parts }
-        ensures { Serves C.Becomes self.old.jobs self.old.rings.items client.old
+        ensures { Serves (InStage gate.now.segments C.Becomes)
+            self.old.jobs self.old.rings.items client.old
             self.new.jobs self.new.rings.items client.new false }
     {
-        let mut rested = 0u64;
+        let mut tries = 0u64;
         for _ in rt.forever() {
             if gate.have_ended() {
                 return;
             }
             if self.take_turn(rt, fabric, gate, client) {
-                rested = 0;
+                tries = 0;
             } else {
-                rested = rested.saturating_add(1);
-                rest(rt, rested, SLEEP);
+                tries = tries.saturating_add(1);
+                self.wait(rt, gate, client, tries);
             }
         }
         unreachable!()
+    }
+
+    // Waits a while, after so many turns without work in a row: as its client likes, if only that can give work.
+    fn wait<C: Client, R: Wait>(&self, rt: &R, gate: &EpochGate, client: &C, tries: u64) {
+        if gate.is_rest() && !gate.is_over() && self.are_answered() {
+            client.wait(rt, tries);
+        } else {
+            rest(rt, tries, SHORT_REST);
+        }
+    }
+
+    // Whether each job has its answer, by their numbers.
+    fn are_answered(&self) -> bool {
+        let answered = self.answered.saturating_add(self.given);
+        self.jobs.as_slice().len() as u64 <= answered
+    }
+
+    // Gives a client each answer that has come, and says what came.
+    fn give_come<C: Client>(
+        &mut self,
+        fabric: &Fabric,
+        gate: &EpochGate,
+        client: &mut C,
+    ) -> Arrivals
+        requires { length self.old.rings.items ≡ fabric.now.parts }
+        ensures { Serves (InStage gate.now.segments C.Becomes)
+            self.old.jobs self.old.rings.items client.old
+            self.new.jobs self.new.rings.items client.new true }
+    {
+        let came = give_come(fabric.parts(), &mut self.rings, client);
+        self.given = self.given.saturating_add(came.count);
+        came
     }
 
     // Gives a client what has come, and does what it wants next, unless the epoch is over. It is over where an answer
@@ -101,12 +199,12 @@ impl Front {
         client: &mut C,
     ) -> bool
         requires { length self.old.rings.items ≡ fabric.now.parts }
-        ensures { Serves C.Becomes self.old.jobs self.old.rings.items client.old
+        ensures { Serves (InStage gate.now.segments C.Becomes)
+            self.old.jobs self.old.rings.items client.old
             self.new.jobs self.new.rings.items client.new false }
     {
         let told = gate.answers();
-        let came = give_come(fabric.parts(), &mut self.rings, client);
-        self.given = self.given.saturating_add(came.count);
+        let came = self.give_come(fabric, gate, client);
         if self.given < told || (came.show_long_log && gate.progress().is_rest()) {
             gate.end();
         }
@@ -125,11 +223,12 @@ fn ask<C: Client, R: Wait>(
     jobs: &mut PostedJobs,
     client: &mut C,
 ) -> bool
-    ensures { DoesWish C.Becomes jobs.old client.old jobs.new client.new }
+    ensures { DoesWish (InStage gate.now.segments C.Becomes)
+        jobs.old client.old jobs.new client.new }
 {
     match client.next(gate.progress()) {
         Command::Post(job) => {
-            offer(rt, fabric, jobs, job, client);
+            offer(rt, fabric, gate, jobs, job, client);
             true
         }
         Command::Rest => false,
@@ -140,28 +239,19 @@ fn ask<C: Client, R: Wait>(
     }
 }
 
-// Posts a job, or gives it back to its client.
+// Posts a job, and wakes its node, or gives the job back to its client.
 fn offer<C: Client, R: Wait>(
     rt: &R,
     fabric: &Fabric,
+    gate: &EpochGate,
     jobs: &mut PostedJobs,
     job: Job,
     client: &mut C,
 )
     ensures { IsOffered C.Becomes job jobs.old client.old jobs.new client.new }
 {
-    if let Err(fault) = post_job(rt, fabric, jobs, job.part, &job.txn) {
-        client.take_back(job, fault);
+    match post_job(rt, fabric, jobs, job.part, &job.txn) {
+        Ok(()) => gate.wake(job.part),
+        Err(fault) => client.take_back(job, fault),
     }
-}
-
-// Waits until each node has come, or the workers have ended. Whether that is so within some seconds.
-fn nodes_come<R: Wait>(rt: &R, gate: &EpochGate) -> bool {
-    for turn in 0..TURNS_ALONE {
-        if gate.have_all_come() || gate.have_ended() {
-            return true;
-        }
-        wait_for_nodes(rt, turn);
-    }
-    false
 }

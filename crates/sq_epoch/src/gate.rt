@@ -1,13 +1,11 @@
 // The gate of an epoch.
-use crate::attendance::{Attendance, TURNS_ALONE, wait_for_nodes};
 use crate::stage_progress::StageProgress;
 use sq_driver::{Gate, NodeStep, WorkerEvent, WorkerId};
 use std::sync::Wait;
-use std::sync::atomic::{AtomicBool, AtomicU64, Ordering};
+use std::sync::atomic::{AtomicU64, Ordering};
 
 /// A gate before another gate, which counts the segments of a stage that are complete, and the families and bytes that were moved.
-/// Once all segments are, it ends workers that don't end where they are idle, so that the next stage can begin. It also ends all
-/// workers where one rests for some seconds while a node hasn't come, for want of a thread.
+/// Once all segments are, it ends workers that don't end where they are idle, so that the next stage can begin.
 #[derive(Drop)]
 pub struct CountingGate<'a, G> {
     gate: &'a G,
@@ -15,21 +13,17 @@ pub struct CountingGate<'a, G> {
     complete: AtomicU64,
     moved: AtomicU64,
     moved_bytes: AtomicU64,
-    nodes: Attendance,
-    lacks_threads: AtomicBool,
 }
 
 impl<'a, G: Gate> CountingGate<'a, G> {
-    /// Before this gate, with so many partitions, in a stage that is so far.
-    pub fn new(gate: &'a G, parts: u8, progress: StageProgress) -> CountingGate<'a, G> {
+    /// Before this gate, in a stage that is so far.
+    pub fn new(gate: &'a G, progress: StageProgress) -> CountingGate<'a, G> {
         CountingGate {
             gate,
             segments: progress.segments,
             complete: AtomicU64::new(progress.complete),
             moved: AtomicU64::new(progress.moved),
             moved_bytes: AtomicU64::new(progress.moved_bytes),
-            nodes: Attendance::new(parts),
-            lacks_threads: AtomicBool::new(false),
         }
     }
 
@@ -43,20 +37,15 @@ impl<'a, G: Gate> CountingGate<'a, G> {
         }
     }
 
-    // Whether no worker continues: a node has no thread, or the stage is done and workers that are idle don't end.
+    // Whether no worker continues: the stage is done, and workers that are idle don't end.
     fn is_over(&self) -> bool {
-        self.lacks_threads.load(Ordering::SeqCst)
-            || (self.progress().is_done() && !self.gate.ends_idle())
+        self.progress().is_done() && !self.gate.ends_idle()
     }
 }
 
 impl<G: Gate> Gate for CountingGate<'_, G> {
     fn pass(&self, who: WorkerId, step: NodeStep) -> bool {
-        self.nodes.note(who);
-        if self.is_over() {
-            return false;
-        }
-        self.gate.pass(who, step)
+        !self.is_over() && self.gate.pass(who, step)
     }
 
     fn did(&self, who: WorkerId, event: WorkerEvent) {
@@ -75,14 +64,6 @@ impl<G: Gate> Gate for CountingGate<'_, G> {
 
     fn rests<R: Wait>(&self, rt: &R, who: WorkerId, turns: u64) {
         self.gate.rests(rt, who, turns);
-        if self.nodes.are_all_here() {
-            return;
-        }
-        if turns < TURNS_ALONE {
-            wait_for_nodes(rt, turns);
-        } else {
-            self.lacks_threads.store(true, Ordering::SeqCst);
-        }
     }
 
     fn ends_idle(&self) -> bool {

@@ -3,13 +3,14 @@
 #![tactic(auto)]
 
 mod answered;
-mod attendance;
 mod client;
 mod crew;
 mod epoch_gate;
 mod front;
 mod gate;
 mod long_log;
+mod node_bell;
+mod nodes_here;
 mod posted;
 mod posting;
 mod rings;

@@ -3,6 +3,7 @@ ghost use Rattle.std.specs.Prelude.{◌≡◌, length, All, IfOk, IfErr};
 ghost use Rattle.sq_node.specs.NodeState.{IsNodeOf};
 ghost use Rattle.sq_driver.specs.Pumps.{HasAllSeats};
 ghost use Rattle.sq_driver.specs.Told.{nodes_of};
+ghost use Rattle.sq_epoch.specs.Exchanges.{InStage};
 ghost use Rattle.sq_epoch.specs.Serving.{IsReadyToServe, IsServedWith};
 
 use crate::client::Client;
@@ -46,6 +47,8 @@ pub struct ServedParts {
     pub is_whole: bool,
     /// Whether it ended since no thread could be had for a node.
     pub lacks_threads: bool,
+    /// Whether it ended since a worker lacked memory for long.
+    pub lacks_memory: bool,
 }
 
 /// Gives the nodes of so many partitions, whose stage is so far, tellers. Where there is no memory they come back.
@@ -58,6 +61,7 @@ pub fn make_ready(
     requires { length nodes.items ≡ parts }
     ensures ready { IfOk result (IsReadyToServe parts) }
     ensures nodes { IfOk result (λ ready. nodes_of ready.pairs.items ≡ nodes.items) }
+    ensures stage { IfOk result (λ ready. ready.gate.segments ≡ progress.segments) }
     ensures returned { IfErr result (λ back. back ≡ nodes) }
 {
     let Ok(room) = Vec::with_capacity(alloc, nodes.len()) else {
@@ -66,8 +70,10 @@ pub fn make_ready(
     let Ok((tellers, rings)) = open_rings(alloc, parts) else {
         return Err(nodes);
     };
+    let Ok(gate) = EpochGate::new(alloc, parts, progress) else {
+        return Err(nodes);
+    };
     let pairs = with_tellers(alloc, nodes, tellers)?;
-    let gate = EpochGate::new(parts, progress);
     Ok(ReadyToServe {
         pairs,
         rings,
@@ -89,7 +95,8 @@ pub fn serve_with<C: Client, R: Threads + Wait + Sync>(
     requires ready { IsReadyToServe fabric.now.parts ready }
     requires nodes { All (IsNodeOf fabric.now) (nodes_of ready.pairs.items) }
     requires pumps { All (HasAllSeats fabric.now) pumps.items }
-    ensures { IsServedWith C.Becomes fabric.now (nodes_of ready.pairs.items) pumps.items jobs
+    ensures { IsServedWith (InStage ready.gate.segments C.Becomes)
+        fabric.now (nodes_of ready.pairs.items) pumps.items jobs
         client.old result client.new }
 {
     let ReadyToServe {
@@ -98,15 +105,16 @@ pub fn serve_with<C: Client, R: Threads + Wait + Sync>(
         room,
         gate,
     } = ready;
+    let answered = count_receipts(fabric, &pairs);
     let mut crew = Crew { pairs, pumps };
-    let mut front = Front::new(jobs, rings);
+    let mut front = Front::new(jobs, rings, answered);
     run_and_serve(rt, fabric, &mut crew, &mut front, turns, &gate, client);
     let Crew { mut pairs, pumps } = crew;
     let Front {
         jobs,
         mut rings,
         lacks_threads,
-        given: _,
+        ..
     } = front;
     let is_whole = are_whole(&pairs);
     give_rest(fabric.parts(), &mut pairs, &mut rings, client);
@@ -117,5 +125,15 @@ pub fn serve_with<C: Client, R: Threads + Wait + Sync>(
         progress: gate.progress(),
         is_whole,
         lacks_threads,
+        lacks_memory: gate.workers_lack_memory(),
     }
+}
+
+// How many receipts there are since the last page.
+fn count_receipts(fabric: &Fabric, pairs: &[TellingNode<RingTeller>]) -> u64 {
+    let mut count = fabric.receipts().len() as u64;
+    for pair in pairs {
+        count = count.saturating_add(pair.node.receipts().len() as u64);
+    }
+    count
 }

@@ -1,5 +1,5 @@
 // How far the segments of a stage are.
-ghost use Rattle.std.specs.Prelude.{◌≡◌};
+ghost use Rattle.std.specs.Prelude.{◌≡◌, ◌↔◌, IsTrue};
 ghost use Rattle.sq_node_model.specs.Prelude.{is_complete_in, AllGrown};
 ghost use Rattle.sq_epoch.specs.Progress.{stage_segments, is_complete_in_stage, complete_segments_in};
 
@@ -35,7 +35,9 @@ impl StageProgress {
     }
 
     /// Whether nothing moves in the stage.
-    pub(crate) fn is_rest(self) -> bool {
+    pub fn is_rest(self) -> bool
+        ensures { IsTrue result ↔ (self.segments ≡ 0) }
+    {
         self.segments == 0
     }
 
@@ -46,7 +48,9 @@ impl StageProgress {
 }
 
 /// How far the stage of an opening is that begins with this.
-pub fn progress_at_start(opening: &Opening, fabric: &Fabric) -> StageProgress {
+pub fn progress_at_start(opening: &Opening, fabric: &Fabric) -> StageProgress
+    ensures { result.segments ≡ stage_segments opening.now.recon fabric.now.stage }
+{
     StageProgress::at_start(stage_segments(opening.recon(), fabric.stage()))
 }
 

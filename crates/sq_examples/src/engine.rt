@@ -169,7 +169,8 @@ fn go_to<R: Threads + Wait + Sync>(
 }
 
 // Serves the broker for an epoch, which ends with so many jobs done. `None` where an answer is missing, for which the broker would
-// wait forever, and where no thread can be had for a partition. This caller takes no page here, and gives up where one is wanted.
+// wait forever, where no thread can be had for a partition, and where a worker lacks memory. This caller takes no page here, and
+// gives up where one is wanted.
 fn serve_until<R: Threads + Wait + Sync>(
     rt: &R,
     alloc: Global,
@@ -184,9 +185,10 @@ fn serve_until<R: Threads + Wait + Sync>(
         engine,
         is_whole,
         lacks_threads,
+        lacks_memory,
         ..
     } = engine.serve(rt, alloc, TURNS, broker).ok()?;
-    if lacks_threads || !is_whole || engine.wants_page() {
+    if lacks_threads || lacks_memory || !is_whole || engine.wants_page() {
         return None;
     }
     Some(engine)

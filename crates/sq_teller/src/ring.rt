@@ -1,16 +1,18 @@
 // Tellers that send receipts over a ring.
-ghost use Rattle.std.specs.Prelude.{◌≡◌, [], ◌∷◌, ◌++◌, IfOk};
+ghost use Rattle.std.specs.Prelude.{◌≡◌, true, false, [], ◌∷◌, ◌++◌, IfOk};
 ghost use Rattle.rtrb.specs.Ring.{sent, SameProducer};
 
 use rtrb::{Producer, PushError};
-use sq_driver::Teller;
+use sq_driver::{Teller, rest};
 use sq_node::Receipt;
 use std::alloc::AllocError;
 use std::sync::Wait;
-use std::thread;
 
-/// A teller that sends each receipt over a ring, to another thread. It waits while the ring is full. Where there is no memory
-/// for a receipt it breaks off: it sends neither that one nor a later one.
+// How many microseconds it sleeps at most before it tries a full ring again.
+const LONGEST_REST: u64 = 2_000;
+
+/// A teller that sends each receipt over a ring, to another thread. It waits while the ring is full. If there is no memory for a
+/// receipt, or the ring is full and its other end is gone, it breaks off: it sends neither that receipt nor a later one.
 #[derive(Drop)]
 pub struct RingTeller {
     /// The end of the ring on which it sends.
@@ -29,7 +31,7 @@ impl Teller for RingTeller {
             return;
         }
         match copy_of(receipt) {
-            Ok(copy) => push_waiting(rt, &mut self.producer, copy),
+            Ok(copy) => self.broke_off = !push_waiting(rt, &mut self.producer, copy),
             Err(_) => self.broke_off = true,
         }
     }
@@ -46,18 +48,24 @@ fn copy_of(receipt: &Receipt) -> Result<Receipt, AllocError>
     })
 }
 
-// Sends a receipt. Waits while the ring is full.
-fn push_waiting<R: Wait>(rt: &R, producer: &mut Producer<Receipt>, receipt: Receipt)
+// Sends a receipt. Waits while the ring is full, unless its other end is gone. Whether it was sent.
+fn push_waiting<R: Wait>(rt: &R, producer: &mut Producer<Receipt>, receipt: Receipt) -> bool
     ensures ring { SameProducer producer.old producer.new }
-    ensures sent { sent producer.new ≡ sent producer.old ++ receipt ∷ [] }
+    ensures sent { result ≡ true → sent producer.new ≡ sent producer.old ++ receipt ∷ [] }
+    ensures not_sent { result ≡ false → sent producer.new ≡ sent producer.old }
 {
     let mut receipt = receipt;
+    let mut tries = 0u64;
     for _ in rt.forever() {
         match producer.push(receipt) {
-            Ok(()) => return,
+            Ok(()) => return true,
             Err(PushError::Full(back)) => receipt = back,
         }
-        thread::yield_now();
+        if producer.is_abandoned() {
+            return false;
+        }
+        tries = tries.saturating_add(1);
+        rest(rt, tries, LONGEST_REST);
     }
     unreachable!()
 }

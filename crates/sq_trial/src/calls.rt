@@ -80,7 +80,7 @@ fn post<R: Wait>(
     value_if(engine, outcome)
 }
 
-// Serves a client for an epoch. Each node has a thread, and each answer that was written is given.
+// Serves a client for an epoch. Each node has a thread, no worker lacks memory, and each answer that was written is given.
 fn serve<R: Threads + Wait + Sync>(
     rt: &R,
     alloc: Global,
@@ -93,16 +93,19 @@ fn serve<R: Threads + Wait + Sync>(
                 engine,
                 is_whole,
                 lacks_threads,
+                lacks_memory,
                 ..
             },
-        ) => value_if(engine, check_served(is_whole, lacks_threads)),
+        ) => value_if(engine, check_served(is_whole, lacks_threads, lacks_memory)),
         Err(engine) => value_if(engine, Err(Failure::Memory)),
     }
 }
 
-fn check_served(is_whole: bool, lacks_threads: bool) -> Result<(), Failure> {
+fn check_served(is_whole: bool, lacks_threads: bool, lacks_memory: bool) -> Result<(), Failure> {
     if lacks_threads {
         Err(Failure::NoThread)
+    } else if lacks_memory {
+        Err(Failure::Memory)
     } else if is_whole {
         Ok(())
     } else {

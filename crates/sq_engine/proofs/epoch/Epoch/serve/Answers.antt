@@ -1,10 +1,10 @@
-use Rattle.std.proofs.Common.{sym, subst}
+use Rattle.std.proofs.Common.{◌≡◌, ◌∙◌, ap, sym, subst}
 use Rattle.std.specs.Prelude.{All}
 use Rattle.sq_node.specs.NodeState.{IsNodeOf}
 use Rattle.sq_gather.proofs.Workers.{nodes_of, pumps_of}
 use Rattle.sq_engine.specs.Values.{EpochValue, epoch_value}
 use Rattle.sq_engine.specs.History.{RunsAfter, OnlyDriven}
-use Rattle.sq_engine.specs.Served.{EpochIsServed}
+use Rattle.sq_engine.specs.Served.{EpochIsServed, segments_of_epoch}
 use Rattle.sq_engine.proofs.ServedRuns.{epoch_served, not_asked, served_runs}
 use Rattle.sq_engine.proofs.epoch.Epoch.serve.Given.{Over}
 use Rattle.sq_engine.proofs.epoch.Epoch.serve.Goals as goal
@@ -22,6 +22,12 @@ serve_with-parts-requires-clause-pumps g c κs within =
     let run = c.self.invariant.2.3.run in
     pumps_of inside.run.fabric inside.run.nodes.items inside.run.pumps.items run.all
 
+-- what the client is told of the stage is true of the epoch
+told_of : (g : Over) (c : After-serve_with-parts g) → let inside = c.self.inside in
+    c.progress-told.result.segments ≡ segments_of_epoch (epoch_value inside.opening inside.jobs inside.run.fabric inside.run.nodes.items inside.run.pumps.items)
+told_of g c =
+    c.progress-told.ensures.segments ∙ ap segments_of_epoch (sym c.self.view_is)
+
 -- what happened to the parts of the epoch happened to it
 served : (g : Over) (c : After-serve_with-parts g) → let inside = c.self.inside in
     let old = epoch_value inside.opening inside.jobs inside.run.fabric inside.run.nodes.items inside.run.pumps.items in
@@ -30,8 +36,9 @@ served : (g : Over) (c : After-serve_with-parts g) → let inside = c.self.insid
     c.serve_with-parts.new.client parts.is_whole parts.lacks_threads
 served g c =
     let inside = c.self.inside in
-    epoch_served g.C.Client.Becomes (epoch_value inside.opening inside.jobs inside.run.fabric inside.run.nodes.items inside.run.pumps.items) _
-    c.args.client.now c.serve_with-parts.result c.serve_with-parts.new.client c.in-Ok.ensures.nodes c.serve_with-parts.ensures
+    epoch_served g.C.Client.Becomes (epoch_value inside.opening inside.jobs inside.run.fabric inside.run.nodes.items inside.run.pumps.items) _ _
+    c.args.client.now c.serve_with-parts.result c.serve_with-parts.new.client c.in-Ok.ensures.nodes
+    (c.in-Ok.ensures.stage ∙ told_of g c) c.serve_with-parts.ensures
 
 pub invariant_of-result : goal.invariant_of-result
 invariant_of-result g c =

@@ -1,4 +1,5 @@
 use Rattle.std.proofs.Common.{◌≡◌, false, length}
+use Rattle.sq_epoch.specs.Exchanges.{InStage}
 use Rattle.sq_epoch.specs.Rings.{Serves}
 use Rattle.sq_epoch.proofs.front.Front.take_turns.Given as goal
 
@@ -6,6 +7,6 @@ use Rattle.sq_epoch.proofs.front.Front.take_turns.Given as goal
 abbrev pub invariant-loop : goal.invariant-loop
 invariant-loop g l = record {
   parts : length l.self.rings.items ≡ l.fabric.parts;
-  serves : Serves g.C.Client.Becomes l.initial.self.jobs l.initial.self.rings.items l.initial.client
+  serves : Serves (InStage l.gate.segments g.C.Client.Becomes) l.initial.self.jobs l.initial.self.rings.items l.initial.client
       l.self.jobs l.self.rings.items l.client false;
 }

@@ -1,0 +1,12 @@
+use Rattle.std.proofs.Common.{◌≡◌, true, length}
+use Rattle.sq_epoch.specs.Exchanges.{InStage}
+use Rattle.sq_epoch.specs.Rings.{Serves}
+use Rattle.sq_epoch.proofs.front.Front.empty_rings.Given as goal
+
+-- the client was served so far
+abbrev pub invariant-loop : goal.invariant-loop
+invariant-loop g l = record {
+  parts : length l.self.rings.items ≡ l.fabric.parts;
+  serves : Serves (InStage l.gate.segments g.C.Client.Becomes) l.initial.self.jobs l.initial.self.rings.items l.initial.client
+      l.self.jobs l.self.rings.items l.client true;
+}
