@@ -3,3 +3,6 @@ pub mod ServeLines
 pub mod ServeAnswers
 pub mod Following
 pub mod Portions
+pub mod CountedLines
+pub mod FaultyLines
+pub mod ServeWords

@@ -1,12 +1,14 @@
 -- The lines that an engine answers, other than those of jobs.
-use Rattle.std.specs.Prelude.{ℕ, List, [], ◌∷◌, codes, decimal}
+use Rattle.std.specs.Prelude.{ℕ, List, [], ◌∷◌, codes, decimal, Some, None}
 use Rattle.sq_text.specs.Texts.{line}
 use Rattle.sq_serve.specs.declared.serve_answer.ServeAnswer.{ServeAnswer}
 use Rattle.sq_serve.specs.declared.serve_answer.ServeAnswer.TheVariants.{Fault, Moving, Moved, Folded, Rows, AtRest, Progress}
 
 -- the line of an answer
 abbrev pub serve_answer_line : ServeAnswer → List ℕ
-serve_answer_line (Fault fault number) = line (codes "fault" ∷ decimal fault ∷ decimal number ∷ [])
+serve_answer_line (Fault fault number None) = line (codes "fault" ∷ decimal fault ∷ decimal number ∷ [])
+serve_answer_line (Fault fault number (Some id)) =
+    line (codes "fault" ∷ decimal fault ∷ decimal number ∷ codes "id" ∷ decimal id ∷ [])
 serve_answer_line (Moving segments) = line (codes "moving" ∷ decimal segments ∷ [])
 serve_answer_line (Moved segments) = line (codes "moved" ∷ decimal segments ∷ [])
 serve_answer_line (Folded families committed) = line (codes "folded" ∷ decimal families ∷ decimal committed ∷ [])

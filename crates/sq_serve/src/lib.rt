@@ -1,18 +1,26 @@
 //! The lines of an engine behind a pipe: what they ask, and what it answers. And readers of its input.
 #![tactic(auto)]
 
+mod counted_lines;
+mod faulty_line;
 mod following;
+mod line_place;
 mod portions;
 mod rows_file;
 mod serve_answer;
 mod serve_fault;
 mod serve_line;
+mod serve_word;
 mod watch;
 
+pub use counted_lines::{CountedLines, FileLines};
+pub use faulty_line::{FaultyLine, LineRefusal};
 pub use following::Following;
+pub use line_place::{HeaderFault, LinePlace, LinePlaces, LineSource};
 pub use portions::Portions;
 pub use rows_file::RowsFile;
 pub use serve_answer::{ServeAnswer, write_plan, write_serve_answer};
 pub use serve_fault::ServeFault;
 pub use serve_line::{ServeLine, read_serve_line};
+pub use serve_word::begins_serve_line;
 pub use watch::{ServeMark, ServeWatch};

@@ -1,7 +1,7 @@
 // What an engine answers to lines other than jobs.
 ghost use Rattle.std.specs.Prelude.{OnOk};
 ghost use Rattle.std.specs.Io.KnownBytes.{Appends};
-ghost use Rattle.sq_serve.specs.declared.serve_answer.ServeAnswer.TheVariants.{AtRest, Progress};
+ghost use Rattle.sq_serve.specs.declared.serve_answer.ServeAnswer.TheVariants.{Fault, AtRest, Progress};
 ghost use Rattle.sq_serve.specs.ServeAnswers.{serve_answer_line, plan_line};
 
 use sq_text::WriteFault;
@@ -11,10 +11,11 @@ use std::io::Write;
 /// What an engine answers to a line that isn't a job, or that asks nothing.
 #[derive(Clone, Copy, Debug)]
 pub enum ServeAnswer {
-    /// The line with this number has this fault.
+    /// The line with this number has this fault. It has the job with this id, if it has one.
     Fault {
         fault: u16,
         line: u64,
+        id: Option<u64>,
     },
     /// A move of so many segments begins.
     Moving {
@@ -60,7 +61,7 @@ fn write_answer_line<W: Write>(writer: &mut W, answer: ServeAnswer) -> io::Resul
         (serve_answer_line answer)) }
 {
     match answer {
-        ServeAnswer::Fault { fault, line } => writeln!(writer, "fault {fault} {line}"),
+        ServeAnswer::Fault { fault, line, id } => write_fault(writer, fault, line, id),
         ServeAnswer::Moving { segments } => writeln!(writer, "moving {segments}"),
         ServeAnswer::Moved { segments } => writeln!(writer, "moved {segments}"),
         ServeAnswer::Folded {
@@ -74,6 +75,17 @@ fn write_answer_line<W: Write>(writer: &mut W, answer: ServeAnswer) -> io::Resul
             segments,
             unanswered,
         } => write_progress(writer, complete, segments, unanswered),
+    }
+}
+
+// Writes that a line has a fault.
+fn write_fault<W: Write>(writer: &mut W, fault: u16, line: u64, id: Option<u64>) -> io::Result<()>
+    ensures { OnOk result (Appends (W.contents writer.old) (W.contents writer.new)
+        (serve_answer_line (Fault fault line id))) }
+{
+    match id {
+        Some(id) => writeln!(writer, "fault {fault} {line} id {id}"),
+        None => writeln!(writer, "fault {fault} {line}"),
     }
 }
 

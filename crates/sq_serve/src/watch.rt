@@ -1,6 +1,7 @@
 // Who watches an engine that is served.
 ghost use Rattle.std.specs.Prelude.{ℕ, Bool, List, is_ok};
 
+use crate::faulty_line::LineRefusal;
 use sq_plan::PartId;
 use std::io;
 
@@ -45,6 +46,9 @@ pub trait ServeWatch {
 
     /// Takes note of what is done.
     fn mark(&self, mark: ServeMark);
+
+    /// Takes note of a line that is answered with a fault or a refusal.
+    fn refuses(&self, refusal: LineRefusal<'_>);
 
     /// Saves a text under a name.
     fn save(&self, name: &str, text: &[u8]) -> io::Result<()>

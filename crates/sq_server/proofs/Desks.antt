@@ -1,45 +1,65 @@
 -- How a desk changes, step by step.
-use Rattle.std.proofs.Common.{◌≡◌, ⊎_elim, ℕ, ◌<◌, ◌≤◌, ◌==◌, ◌||◌, Bool, true, false, if◌then◌else◌, List, [], ◌∷◌, ◌++◌, length, map, refl, sym, ap, subst, ◌∙◌, append_assoc, append-nil, arith}
-use Rattle.std.specs.Prelude.{Option, Ok}
+use Rattle.std.proofs.Common.{◌≡◌, ◌⊎◌, ⊎_elim, inl, inr, ℕ, ◌<◌, ◌≤◌, ◌==◌, ◌||◌, Bool, true, false, if◌then◌else◌, List, [], ◌∷◌, ◌++◌, length, map, refl, sym, ap, subst, ◌∙◌, append_assoc, append-nil, arith}
+use Rattle.std.specs.Prelude.{Option, Some, None, Ok, Err}
 use Rattle.std.specs.List.{flat_map}
 use Rattle.std.specs.Io.KnownBytes.{Appends}
-use Rattle.std.proofs.lemmas.List.{map-append}
 use Rattle.std.proofs.lemmas.Grind.{flat_map-append}
-use Rattle.std.proofs.lemmas.List.Elements.{filter-append}
 use Rattle.std.proofs.lemmas.Bool.{or_parts, cases_eq, eq-eqb, ne_eqb}
 use Rattle.sq_audit.specs.declared.job.Job.{Job}
 use Rattle.sq_schema.specs.TxnValue.{TxnValue}
 use Rattle.sq_text.proofs.Appending.{both, appends_none}
-use Rattle.sq_serve.specs.declared.serve_line.ServeLine.{ServeLine}
+use Rattle.sq_serve.specs.declared.faulty_line.FaultyLine.{FaultyLine}
+use Rattle.sq_serve.specs.declared.line_place.LinePlace.{LinePlace}
+use Rattle.sq_plan.specs.declared.fault.PlanFault.{PlanFault}
+use Rattle.sq_plan.specs.Fault.{plan_fault_number}
+use Rattle.sq_serve.specs.declared.serve_answer.ServeAnswer.{ServeAnswer}
+use Rattle.sq_serve.specs.declared.serve_answer.ServeAnswer.TheVariants.{Fault}
+use Rattle.sq_serve.specs.ServeFaults.{serve_fault_number}
+use Rattle.sq_serve.specs.declared.serve_fault.ServeFault.{ServeFault}
+use Rattle.sq_serve.specs.declared.serve_fault.ServeFault.TheVariants.{NotAServeLine, TooLong, Txn, Plan, Memory}
 use Rattle.sq_serve.specs.declared.serve_line.ServeLine.TheVariants as asks
 use Rattle.sq_server.specs.declared.feed.Fed.{Fed}
 use Rattle.sq_server.specs.declared.feed.Fed.TheVariants as fed
 use Rattle.sq_server.specs.declared.desk.AskedTxn.{AskedTxn}
+use Rattle.sq_server.specs.declared.desk.MoveProgress.{MoveProgress}
+use Rattle.sq_server.specs.declared.desk.Wish.{Wish}
 use Rattle.sq_server.specs.declared.outlet.Outlet.{Outlet}
-use Rattle.sq_server.specs.Saying.{Says, OtherLine, other_line}
+use Rattle.sq_server.specs.Saying.{Says, OtherLine, Answered, Refused, other_line}
+use Rattle.sq_server.specs.Settling.{refusal_of, AnswersFault, SettlesFed, SettlesEach}
 use Rattle.sq_server.specs.Sides.{waiting_at, ChangesAt, TakesFirst}
-use Rattle.sq_server.specs.Becoming.{ServeDeskValue, job_asked, asked_by, jobs_waiting, jobs_for, Handles, Hears, Speaks, WritesBytes}
+use Rattle.sq_server.specs.Becoming.{ServeDeskValue, asked_by, asked_at, jobs_for, Handles, Hears, Speaks, WritesBytes, WritesStatus, Stops, KeepsWish, TakesWish}
 
 pub false-not-true : {P : Type 0} → true ≡ false → P
 false-not-true e = cc
 
--- jobs that go through two steps, one after another
-pub through : (held asked more first second between left all_asked all : List Job)
-    → held ++ asked ≡ first ++ between → between ++ more ≡ second ++ left → all_asked ≡ asked ++ more → all ≡ first ++ second
-    → held ++ all_asked ≡ all ++ left
-through held asked more first second between left all_asked all one two asks goes =
-    ap (λ (l : List Job). held ++ l) asks
-    ∙ sym (append_assoc held asked more)
-    ∙ ap (λ (l : List Job). l ++ more) one
-    ∙ append_assoc first between more
-    ∙ ap (λ (l : List Job). first ++ l) two
-    ∙ sym (append_assoc first second left)
-    ∙ ap (λ (l : List Job). l ++ left) (sym goes)
+-- what is settled after something else
+pub settles_then : (parts : ℕ) (moving : Option MoveProgress) (first more : List Fed) (lines lines' : List OtherLine) (kept kept' : List Wish)
+    → SettlesEach parts moving first lines kept → SettlesEach parts moving more lines' kept'
+    → SettlesEach parts moving (first ++ more) (lines ++ lines') (kept ++ kept')
+settles_then parts moving [] more lines lines' kept kept' one two =
+    subst (λ (l : List OtherLine). SettlesEach parts moving more (l ++ lines') (kept ++ kept')) (sym one.0)
+    (subst (λ (k : List Wish). SettlesEach parts moving more lines' (k ++ kept')) (sym one.1) two)
+settles_then parts moving (fed ∷ first) more lines lines' kept kept' one two = (
+  one.0,
+  one.1,
+  one.2 ++ lines',
+  one.3 ++ kept',
+  one.4,
+  settles_then parts moving first more one.2 lines' one.3 kept' one.5 two,
+  ap (λ (l : List OtherLine). l ++ lines') one.6 ∙ append_assoc one.0 one.2 lines',
+  ap (λ (k : List Wish). k ++ kept') one.7 ∙ append_assoc one.1 one.3 kept',
+)
 
--- what is handled after something else, where nothing came back
-pub handles_then : (more more' : List Fed) (back offered offered' : List Job) (a b c : ServeDeskValue)
-    → Handles more back a offered b → Handles more' [] b offered' c → Handles (more ++ more') back a (offered ++ offered') c
-handles_then more more' back offered offered' a b c one two =
+-- one alone
+pub settles_one : (parts : ℕ) (moving : Option MoveProgress) (fed : Fed) (lines : List OtherLine) (kept : List Wish)
+    → SettlesFed parts moving fed lines kept → SettlesEach parts moving (fed ∷ []) lines kept
+settles_one parts moving fed lines kept is =
+    (lines, kept, [], [], is, (refl, refl), sym (append-nil lines), sym (append-nil kept))
+
+-- what is handled after something else by which no job was offered
+pub handles_then : (more more' : List Fed) (back offered : List Job) (a b c : ServeDeskValue)
+    → Handles more back a [] b → Handles more' [] b offered c → Handles (more ++ more') back a offered c
+handles_then more more' back offered a b c one two =
     record {
       goes_on = λ still. one.goes_on (two.goes_on still);
       others = one.others ++ two.others;
@@ -47,43 +67,116 @@ handles_then more more' back offered offered' a b c one two =
           both a.written b.written c.written (flat_map other_line one.others) (flat_map other_line two.others)
           (flat_map other_line (one.others ++ two.others)) (one.written (two.goes_on still)) (two.written still)
           (sym (flat_map-append other_line one.others two.others));
+      kept = one.kept ++ two.kept;
+      wishes = λ still.
+          two.wishes still ∙ ap (λ (l : List Wish). l ++ two.kept) (one.wishes (two.goes_on still))
+          ∙ append_assoc a.wishes one.kept two.kept;
+      settled = λ still.
+          settles_then (length a.waiting) a.moving more more' one.others two.others one.kept two.kept
+          (one.settled (two.goes_on still))
+          (subst (λ (moving : Option MoveProgress). SettlesEach (length a.waiting) moving more' two.others two.kept) one.moving
+          (subst (λ (parts : ℕ). SettlesEach parts b.moving more' two.others two.kept) one.count (two.settled still)));
       count = two.count ∙ one.count;
+      moving = two.moving ∙ one.moving;
       jobs = λ still part within.
-          through (jobs_for part back ++ jobs_waiting a.waiting part) (flat_map (asked_by part) more)
-          (flat_map (asked_by part) more') (jobs_for part offered) (jobs_for part offered')
-          (jobs_waiting b.waiting part) (jobs_waiting c.waiting part) (flat_map (asked_by part) (more ++ more'))
-          (jobs_for part (offered ++ offered')) (one.jobs (two.goes_on still) part within)
-          (two.jobs still part (subst (λ (n : ℕ). part < n) (sym one.count) within))
-          (flat_map-append (asked_by part) more more') (filter-append (λ (job : Job). job.part == part) offered offered');
+          let held = asked_at a.offered_at part back ++ waiting_at a.waiting part in
+          let asked = flat_map (asked_by part) more in
+          let later = flat_map (asked_by part) more' in
+          ap (λ (l : List AskedTxn). held ++ l) (flat_map-append (asked_by part) more more')
+          ∙ sym (append_assoc held asked later)
+          ∙ ap (λ (l : List AskedTxn). l ++ later) (one.jobs (two.goes_on still) part within)
+          ∙ two.jobs still part (subst (λ (n : ℕ). part < n) (sym one.count) within);
     }
 
--- what is heard after something else, where nothing came back
-pub hears_then : (back offered offered' : List Job) (a b c : ServeDeskValue)
-    → Hears back a offered b → Hears [] b offered' c → Hears back a (offered ++ offered') c
-hears_then back offered offered' a b c first second =
+-- what is heard after something else by which no job was offered
+pub hears_then : (back offered : List Job) (a b c : ServeDeskValue) → Hears back a [] b → Hears [] b offered c → Hears back a offered c
+hears_then back offered a b c first second =
     record {
       more = first.more ++ second.more;
       heard =
           second.heard ∙ ap (λ (l : List Fed). l ++ second.more) first.heard
           ∙ append_assoc a.heard first.more second.more;
       handles =
-          handles_then first.more second.more back offered offered' a b c first.handles second.handles;
+          handles_then first.more second.more back offered a b c first.handles second.handles;
     }
 
--- nothing that is handled asks for a job, and only lines are written
-pub speaks_handles : (more : List Fed) (a b : ServeDeskValue) → Speaks a b
-    → ((part : ℕ) → part < length a.waiting → flat_map (asked_by part) more ≡ []) → Handles more [] a [] b
-speaks_handles more a b says none =
+-- a line is answered at once that asks for no job
+pub answers_one : (fed : Fed) (line : OtherLine) (a b : ServeDeskValue) → WritesBytes (other_line line) a b
+    → SettlesFed (length a.waiting) a.moving fed (line ∷ []) [] → ((part : ℕ) → part < length a.waiting → asked_by part fed ≡ [])
+    → Handles (fed ∷ []) [] a [] b
+answers_one fed line a b says is none =
     record {
       goes_on = says.goes_on;
-      others = says.others;
-      written = says.written;
+      others = line ∷ [];
+      written = λ still.
+          subst (λ (bytes : List ℕ). Appends a.written b.written bytes) (sym (append-nil (other_line line))) (says.written still);
+      kept = [];
+      wishes = λ still. says.wishes ∙ sym (append-nil a.wishes);
+      settled = λ still. settles_one (length a.waiting) a.moving fed (line ∷ []) [] is;
       count = ap (λ (w : List (List AskedTxn)). length w) says.waiting;
+      moving = says.moving;
       jobs = λ still part within.
-          ap (λ (l : List Job). jobs_waiting a.waiting part ++ l) (none part within)
-          ∙ append-nil (jobs_waiting a.waiting part)
-          ∙ ap (λ (w : List (List AskedTxn)). jobs_waiting w part) (sym says.waiting);
+          ap (λ (l : List AskedTxn). waiting_at a.waiting part ++ (l ++ [])) (none part within)
+          ∙ append-nil (waiting_at a.waiting part)
+          ∙ ap (λ (w : List (List AskedTxn)). waiting_at w part) (sym says.waiting);
     }
+
+-- nothing is written of what was handed on, which asks for no job, and these wishes are kept
+keeps_all : (fed : Fed) (wished : List Wish) (a : ServeDeskValue) → SettlesFed (length a.waiting) a.moving fed [] wished
+    → ((part : ℕ) → part < length a.waiting → asked_by part fed ≡ [])
+    → Handles (fed ∷ []) [] a [] (record a { wishes = a.wishes ++ wished })
+keeps_all fed wished a is none =
+    record {
+      goes_on = λ still. still;
+      others = [];
+      written = λ still. appends_none a.written;
+      kept = wished;
+      wishes = λ still. refl;
+      settled = λ still. settles_one (length a.waiting) a.moving fed [] wished is;
+      count = refl;
+      moving = refl;
+      jobs = λ still part within.
+          ap (λ (l : List AskedTxn). waiting_at a.waiting part ++ (l ++ [])) (none part within)
+          ∙ append-nil (waiting_at a.waiting part);
+    }
+
+pub keeps_one : (fed : Fed) (wish : Wish) (a b : ServeDeskValue) → KeepsWish wish a b
+    → SettlesFed (length a.waiting) a.moving fed [] (wish ∷ []) → ((part : ℕ) → part < length a.waiting → asked_by part fed ≡ [])
+    → Handles (fed ∷ []) [] a [] b
+keeps_one fed wish a b keeps is none =
+    subst (λ (d : ServeDeskValue). Handles (fed ∷ []) [] a [] d) (sym keeps) (keeps_all fed (wish ∷ []) a is none)
+
+-- a wish of a line is kept or refused
+pub wishes_one : (fed : Fed) (wish : Wish) (a b : ServeDeskValue)
+    → SettlesFed (length a.waiting) a.moving fed [] (wish ∷ []) → SettlesFed (length a.waiting) a.moving fed (Refused 217 ∷ []) []
+    → ((part : ℕ) → part < length a.waiting → asked_by part fed ≡ [])
+    → KeepsWish wish a b ⊎ WritesBytes (other_line (Refused 217)) a b → Handles (fed ∷ []) [] a [] b
+wishes_one fed wish a b kept refused none did =
+    ⊎_elim (λ keeps. keeps_one fed wish a b keeps kept none) (λ says. answers_one fed (Refused 217) a b says refused none) did
+
+-- nothing changed
+pub same_handles : (a b : ServeDeskValue) → b ≡ a → Handles [] [] a [] b
+same_handles a b same =
+    subst (λ (d : ServeDeskValue). Handles [] [] a [] d) (sym same)
+    (record {
+      goes_on = λ still. still;
+      others = [];
+      written = λ still. appends_none a.written;
+      kept = [];
+      wishes = λ still. sym (append-nil a.wishes);
+      settled = λ still. (refl, refl);
+      count = refl;
+      moving = refl;
+      jobs = λ still part within. append-nil (waiting_at a.waiting part);
+    })
+
+-- nothing but the end of the input
+pub ends_whole : (fed : Fed) (a b : ServeDeskValue) → b ≡ a → SettlesFed (length a.waiting) a.moving fed [] []
+    → ((part : ℕ) → part < length a.waiting → asked_by part fed ≡ []) → Handles (fed ∷ []) [] a [] b
+ends_whole fed a b same is none =
+    subst (λ (d : ServeDeskValue). Handles (fed ∷ []) [] a [] d) (sym same)
+    (subst (λ (w : List Wish). Handles (fed ∷ []) [] a [] (record a { wishes = w })) (append-nil a.wishes)
+    (keeps_all fed [] a is none))
 
 -- what is handled of what was heard
 pub handles_hears : (more : List Fed) (back offered : List Job) (a b : ServeDeskValue) → b.heard ≡ a.heard ++ more
@@ -95,8 +188,27 @@ pub handles_unheard : (back offered : List Job) (a b : ServeDeskValue) → b.hea
 handles_unheard back offered a b same is =
     handles_hears [] back offered a b (same ∙ sym (append-nil a.heard)) is
 
-pub speaks_hears : (a b : ServeDeskValue) → Speaks a b → Hears [] a [] b
-speaks_hears a b says = handles_unheard [] [] a b says.heard (speaks_handles [] a b says (λ part within. refl))
+pub same_hears : (a b : ServeDeskValue) → b ≡ a → Hears [] a [] b
+same_hears a b same =
+    handles_unheard [] [] a b (ap (λ (d : ServeDeskValue). d.heard) same) (same_handles a b same)
+
+-- no bytes were written
+pub nothing_hears : (a b : ServeDeskValue) → WritesBytes [] a b → Hears [] a [] b
+nothing_hears a b writes =
+    handles_unheard [] [] a b writes.heard
+    (record {
+      goes_on = writes.goes_on;
+      others = [];
+      written = writes.written;
+      kept = [];
+      wishes = λ still. writes.wishes ∙ sym (append-nil a.wishes);
+      settled = λ still. (refl, refl);
+      count = ap (λ (w : List (List AskedTxn)). length w) writes.waiting;
+      moving = writes.moving;
+      jobs = λ still part within.
+          append-nil (waiting_at a.waiting part)
+          ∙ ap (λ (w : List (List AskedTxn)). waiting_at w part) (sym writes.waiting);
+    })
 
 -- nothing changed
 pub silent : (a b : ServeDeskValue) → b ≡ a → Speaks a b
@@ -115,87 +227,93 @@ pub writes_nothing : (a b : ServeDeskValue) → WritesBytes [] a b → Speaks a 
 writes_nothing a b writes =
     record { goes_on = writes.goes_on; others = []; written = writes.written; heard = writes.heard; waiting = writes.waiting }
 
--- nothing was written
-pub quiet : (more : List Fed) (back offered : List Job) (a b : ServeDeskValue) → b.written ≡ a.written → b.has_stopped ≡ a.has_stopped
-    → length b.waiting ≡ length a.waiting
+-- one line was
+pub line_speaks : (line : OtherLine) (a b : ServeDeskValue) → WritesBytes (other_line line) a b → Speaks a b
+line_speaks line a b writes =
+    record {
+      goes_on = writes.goes_on;
+      others = line ∷ [];
+      written = λ still.
+          subst (λ (bytes : List ℕ). Appends a.written b.written bytes) (sym (append-nil (other_line line))) (writes.written still);
+      heard = writes.heard;
+      waiting = writes.waiting;
+    }
+
+-- nothing was written or wished of a job
+pub quiet : (more : List Fed) (back offered : List Job) (a b : ServeDeskValue) → b.moving ≡ a.moving → b.written ≡ a.written → b.has_stopped ≡ a.has_stopped
+    → b.wishes ≡ a.wishes → length b.waiting ≡ length a.waiting → SettlesEach (length a.waiting) a.moving more [] []
     → ((part : ℕ) → part < length a.waiting
-    → (jobs_for part back ++ jobs_waiting a.waiting part) ++ flat_map (asked_by part) more
-    ≡ jobs_for part offered ++ jobs_waiting b.waiting part)
+    → (asked_at a.offered_at part back ++ waiting_at a.waiting part) ++ flat_map (asked_by part) more
+    ≡ asked_at b.offered_at part offered ++ waiting_at b.waiting part)
     → Handles more back a offered b
-quiet more back offered a b written stopped count jobs =
+quiet more back offered a b moving written stopped wishes count settled jobs =
     record {
       goes_on = λ still. sym stopped ∙ still;
       others = [];
       written = λ still.
           subst (λ (known : Option (List ℕ)). Appends a.written known []) (sym written) (appends_none a.written);
+      kept = [];
+      wishes = λ still. wishes ∙ sym (append-nil a.wishes);
+      settled = λ still. settled;
       count = count;
+      moving = moving;
       jobs = λ still part within. jobs part within;
     }
 
 -- nothing more can be done
-pub stops : (more : List Fed) (back offered : List Job) (a b : ServeDeskValue) → b.has_stopped ≡ true → length b.waiting ≡ length a.waiting
+pub stops : (more : List Fed) (back offered : List Job) (a b : ServeDeskValue) → b.moving ≡ a.moving → b.has_stopped ≡ true → length b.waiting ≡ length a.waiting
     → Handles more back a offered b
-stops more back offered a b stopped count =
+stops more back offered a b moving stopped count =
     record {
       goes_on = λ still. false-not-true (sym stopped ∙ still);
       others = [];
       written = λ still. false-not-true (sym stopped ∙ still);
+      kept = [];
+      wishes = λ still. false-not-true (sym stopped ∙ still);
+      settled = λ still. false-not-true (sym stopped ∙ still);
       count = count;
+      moving = moving;
       jobs = λ still. false-not-true (sym stopped ∙ still);
     }
 
--- the desk after one that has this property
-pub heard_before : (fed : Fed) (a popped b : ServeDeskValue) (offered : List Job) → popped.written ≡ a.written → popped.has_stopped ≡ a.has_stopped
-    → popped.waiting ≡ a.waiting → popped.heard ≡ a.heard ++ fed ∷ [] → b.heard ≡ popped.heard → Handles (fed ∷ []) [] popped offered b
-    → Hears [] a offered b
-heard_before fed a popped b offered written stopped waiting heard same is =
+-- the same, where only that changed
+pub stopped_handles : (more : List Fed) (back offered : List Job) (a b : ServeDeskValue) → Stops a b → Handles more back a offered b
+stopped_handles more back offered a b is =
+    stops more back offered a b is.moving is.stopped (ap (λ (w : List (List AskedTxn)). length w) is.waiting)
+
+-- the desk after one from which this was taken
+pub heard_before : (fed : Fed) (a popped b : ServeDeskValue) (offered : List Job) → popped ≡ record a { heard = a.heard ++ fed ∷ [] }
+    → b.heard ≡ popped.heard → Handles (fed ∷ []) [] popped offered b → Hears [] a offered b
+heard_before fed a popped b offered is same handled =
+    let now = record a { heard = a.heard ++ fed ∷ [] } in
+    let did : Handles (fed ∷ []) [] now offered b = subst (λ (d : ServeDeskValue). Handles (fed ∷ []) [] d offered b) is handled in
     record {
       more = fed ∷ [];
-      heard = same ∙ heard;
+      heard = same ∙ ap (λ (d : ServeDeskValue). d.heard) is;
       handles = record {
-        goes_on = λ still. sym stopped ∙ is.goes_on still;
-        others = is.others;
-        written = λ still.
-            subst (λ (known : Option (List ℕ)). Appends known b.written (flat_map other_line is.others)) written (is.written still);
-        count = is.count ∙ ap (λ (w : List (List AskedTxn)). length w) waiting;
-        jobs = λ still part within.
-            ap (λ (w : List (List AskedTxn)). jobs_waiting w part ++ flat_map (asked_by part) (fed ∷ [])) (sym waiting)
-            ∙ is.jobs still part (subst (λ (w : List (List AskedTxn)). part < length w) (sym waiting) within);
+        goes_on = did.goes_on;
+        others = did.others;
+        written = did.written;
+        kept = did.kept;
+        wishes = did.wishes;
+        settled = did.settled;
+        count = did.count;
+        moving = did.moving;
+        jobs = did.jobs;
       };
     }
 
 module _ {W : Type 0} (contents : W → Option (List ℕ)) where
   -- a desk with this outlet
-  abbrev pub over : Bool → List Fed → List (List AskedTxn) → Outlet W → ServeDeskValue
-  over lacks_memory heard waiting outlet =
-      record {
-        written = contents outlet.writer;
-        has_stopped = lacks_memory || outlet.has_failed;
-        heard = heard;
-        waiting = waiting;
-      }
+  abbrev pub over : Bool → ServeDeskValue → Outlet W → ServeDeskValue
+  over lacks_memory desk outlet =
+      record desk { written = contents outlet.writer; has_stopped = lacks_memory || outlet.has_failed }
 
-  -- an outlet wrote a line that isn't what a job was answered
-  pub speaks_of : (lacks_memory : Bool) (heard : List Fed) (waiting : List (List AskedTxn)) (old new : Outlet W) (line : OtherLine)
-      → Says contents old (other_line line) new → Speaks (over lacks_memory heard waiting old) (over lacks_memory heard waiting new)
-  speaks_of lacks_memory heard waiting old new line says =
-      record {
-        goes_on = λ still.
-            let parts = or_parts lacks_memory new.has_failed still in
-            ap (λ (b : Bool). b || old.has_failed) parts.0 ∙ says.goes_on parts.1;
-        others = line ∷ [];
-        written = λ still.
-            subst (Appends (contents old.writer) (contents new.writer)) (sym (append-nil (other_line line)))
-            (says.written (or_parts lacks_memory new.has_failed still).1);
-        heard = refl;
-        waiting = refl;
-      }
-
-  -- one that wrote these bytes
-  pub writes_bytes : (bytes : List ℕ) (lacks_memory : Bool) (heard : List Fed) (waiting : List (List AskedTxn)) (old new : Outlet W)
+  -- an outlet wrote these bytes
+  pub writes_bytes : (bytes : List ℕ) (lacks_memory : Bool) (desk : ServeDeskValue) (old new : Outlet W)
       → Says contents old bytes new
-      → WritesBytes bytes (over lacks_memory heard waiting old) (over lacks_memory heard waiting new)
-  writes_bytes bytes lacks_memory heard waiting old new says =
+      → WritesBytes bytes (over lacks_memory desk old) (over lacks_memory desk new)
+  writes_bytes bytes lacks_memory desk old new says =
       record {
         goes_on = λ still.
             let parts = or_parts lacks_memory new.has_failed still in
@@ -203,6 +321,9 @@ module _ {W : Type 0} (contents : W → Option (List ℕ)) where
         written = λ still. says.written (or_parts lacks_memory new.has_failed still).1;
         heard = refl;
         waiting = refl;
+        offered_at = refl;
+        wishes = refl;
+        moving = refl;
       }
 
 -- what holds of one number and of all others holds of each
@@ -211,127 +332,173 @@ at_or_else P at here others part =
     ⊎_elim (λ same. subst P (sym same) here) (λ differs. others part differs) (cases_eq part at)
 
 -- the job of a line is asked for of its partition, and of no other
-asked_here : (at line : ℕ) (txn : TxnValue)
-    → flat_map (asked_by at) (fed.Line line (Ok (asks.Job at txn)) ∷ []) ≡ record { part = at; txn = txn } ∷ []
-asked_here at line txn =
-    let job : Job = record { part = at; txn = txn } in
-    ap (λ (b : Bool). (if b then job ∷ [] else []) ++ []) (eq-eqb at at refl)
+asked_here : (at : ℕ) (place : LinePlace) (txn : TxnValue)
+    → flat_map (asked_by at) (fed.Line place (Ok (asks.Job at txn)) ∷ []) ≡ record { place = place; txn = txn } ∷ []
+asked_here at place txn =
+    let asked : AskedTxn = record { place = place; txn = txn } in
+    ap (λ (b : Bool). (if b then asked ∷ [] else []) ++ []) (eq-eqb at at refl)
 
-asked_other : (at other line : ℕ) (txn : TxnValue) → (other ≡ at → ⊥)
-    → flat_map (asked_by other) (fed.Line line (Ok (asks.Job at txn)) ∷ []) ≡ []
-asked_other at other line txn differs =
-    let job : Job = record { part = at; txn = txn } in
-    ap (λ (b : Bool). (if b then job ∷ [] else []) ++ []) (ne_eqb at other (λ same. differs (sym same)))
+asked_other : (at other : ℕ) (place : LinePlace) (txn : TxnValue) → (other ≡ at → ⊥)
+    → flat_map (asked_by other) (fed.Line place (Ok (asks.Job at txn)) ∷ []) ≡ []
+asked_other at other place txn differs =
+    let asked : AskedTxn = record { place = place; txn = txn } in
+    ap (λ (b : Bool). (if b then asked ∷ [] else []) ++ []) (ne_eqb at other (λ same. differs (sym same)))
 
 -- a job is for its partition, and for no other
-for_here : (job : Job) → jobs_for job.part (job ∷ []) ≡ job ∷ []
-for_here job = ap (λ (b : Bool). if b then job ∷ [] else []) (eq-eqb job.part job.part refl)
+for_here : (place : LinePlace) (job : Job) → asked_at place job.part (job ∷ []) ≡ record { place = place; txn = job.txn } ∷ []
+for_here place job =
+    let asked : Job → AskedTxn = λ j. record { place = place; txn = j.txn } in
+    ap (λ (b : Bool). map asked (if b then job ∷ [] else [])) (eq-eqb job.part job.part refl)
 
-for_other : (job : Job) (other : ℕ) → (other ≡ job.part → ⊥) → jobs_for other (job ∷ []) ≡ []
-for_other job other differs =
-    ap (λ (b : Bool). if b then job ∷ [] else []) (ne_eqb job.part other (λ same. differs (sym same)))
-
--- the jobs of one partition, by those that wait there
-abbrev pub as_jobs : ℕ → List AskedTxn → List Job
-as_jobs part waiting = map (λ (asked : AskedTxn). record { part = part; txn = asked.txn }) waiting
-
-waits_other : (at other : ℕ) (old new : List (List AskedTxn)) (now : List AskedTxn) → ChangesAt at now old new → (other ≡ at → ⊥)
-    → jobs_waiting new other ≡ jobs_waiting old other
-waits_other at other old new now changes differs = ap (as_jobs other) (changes.others other differs)
+for_other : (place : LinePlace) (job : Job) (other : ℕ) → (other ≡ job.part → ⊥) → asked_at place other (job ∷ []) ≡ []
+for_other place job other differs =
+    let asked : Job → AskedTxn = λ j. record { place = place; txn = j.txn } in
+    ap (λ (b : Bool). map asked (if b then job ∷ [] else [])) (ne_eqb job.part other (λ same. differs (sym same)))
 
 -- a job is put behind those of its partition
-pub put_behind_keeps : (line : ℕ) (asked : AskedTxn) (at : ℕ) (old new : List (List AskedTxn))
+pub put_behind_keeps : (asked : AskedTxn) (at : ℕ) (old new : List (List AskedTxn))
     → ChangesAt at (waiting_at old at ++ asked ∷ []) old new
-    → (part : ℕ) → jobs_waiting old part ++ flat_map (asked_by part) (fed.Line line (Ok (asks.Job at asked.txn)) ∷ []) ≡ jobs_waiting new part
-put_behind_keeps line asked at old new changes =
-    let more : ℕ → List Job = λ part. flat_map (asked_by part) (fed.Line line (Ok (asks.Job at asked.txn)) ∷ []) in
-    at_or_else (λ part. jobs_waiting old part ++ more part ≡ jobs_waiting new part) at
-    (ap (λ (l : List Job). jobs_waiting old at ++ l) (asked_here at line asked.txn)
-    ∙ sym (map-append (λ (a : AskedTxn). record { part = at; txn = a.txn }) (waiting_at old at) (asked ∷ []))
-    ∙ ap (as_jobs at) (sym changes.here))
+    → (part : ℕ) → waiting_at old part ++ flat_map (asked_by part) (fed.Line asked.place (Ok (asks.Job at asked.txn)) ∷ []) ≡ waiting_at new part
+put_behind_keeps asked at old new changes =
+    let more : ℕ → List AskedTxn = λ part. flat_map (asked_by part) (fed.Line asked.place (Ok (asks.Job at asked.txn)) ∷ []) in
+    at_or_else (λ part. waiting_at old part ++ more part ≡ waiting_at new part) at
+    (ap (λ (l : List AskedTxn). waiting_at old at ++ l) (asked_here at asked.place asked.txn) ∙ sym changes.here)
     (λ other differs.
-    ap (λ (l : List Job). jobs_waiting old other ++ l) (asked_other at other line asked.txn differs)
-    ∙ append-nil (jobs_waiting old other)
-    ∙ sym (waits_other at other old new (waiting_at old at ++ asked ∷ []) changes differs))
+    ap (λ (l : List AskedTxn). waiting_at old other ++ l) (asked_other at other asked.place asked.txn differs)
+    ∙ append-nil (waiting_at old other)
+    ∙ sym (changes.others other differs))
 
 -- a job is put before those of its partition
-pub put_back_keeps : (asked : AskedTxn) (at : ℕ) (old new : List (List AskedTxn)) → ChangesAt at (asked ∷ waiting_at old at) old new
-    → (part : ℕ) → (jobs_for part (record { part = at; txn = asked.txn } ∷ []) ++ jobs_waiting old part) ++ [] ≡ jobs_waiting new part
-put_back_keeps asked at old new changes part =
-    let job : Job = record { part = at; txn = asked.txn } in
-    append-nil (jobs_for part (job ∷ []) ++ jobs_waiting old part)
-    ∙ at_or_else (λ part. jobs_for part (job ∷ []) ++ jobs_waiting old part ≡ jobs_waiting new part) at
-    (ap (λ (l : List Job). l ++ jobs_waiting old at) (for_here job) ∙ ap (as_jobs at) (sym changes.here))
+pub put_back_keeps : (place : LinePlace) (job : Job) (old new : List (List AskedTxn))
+    → ChangesAt job.part (record { place = place; txn = job.txn } ∷ waiting_at old job.part) old new
+    → (part : ℕ) → (asked_at place part (job ∷ []) ++ waiting_at old part) ++ [] ≡ waiting_at new part
+put_back_keeps place job old new changes part =
+    append-nil (asked_at place part (job ∷ []) ++ waiting_at old part)
+    ∙ at_or_else (λ part. asked_at place part (job ∷ []) ++ waiting_at old part ≡ waiting_at new part) job.part
+    (ap (λ (l : List AskedTxn). l ++ waiting_at old job.part) (for_here place job) ∙ sym changes.here)
     (λ other differs.
-    ap (λ (l : List Job). l ++ jobs_waiting old other) (for_other job other differs)
-    ∙ sym (waits_other at other old new (asked ∷ waiting_at old at) changes differs))
+    ap (λ (l : List AskedTxn). l ++ waiting_at old other) (for_other place job other differs)
+    ∙ sym (changes.others other differs))
     part
 
 -- the first job of a partition is taken
 pub take_keeps : (asked : AskedTxn) (at : ℕ) (old new : List (List AskedTxn)) → TakesFirst at asked old new
-    → (part : ℕ) → jobs_waiting old part ++ [] ≡ jobs_for part (record { part = at; txn = asked.txn } ∷ []) ++ jobs_waiting new part
+    → (part : ℕ) → waiting_at old part ++ [] ≡ asked_at asked.place part (record { part = at; txn = asked.txn } ∷ []) ++ waiting_at new part
 take_keeps asked at old new takes part =
     let job : Job = record { part = at; txn = asked.txn } in
-    append-nil (jobs_waiting old part)
-    ∙ at_or_else (λ part. jobs_waiting old part ≡ jobs_for part (job ∷ []) ++ jobs_waiting new part) at
-    (ap (as_jobs at) takes.first ∙ ap (λ (l : List Job). l ++ jobs_waiting new at) (sym (for_here job)))
+    append-nil (waiting_at old part)
+    ∙ at_or_else (λ part. waiting_at old part ≡ asked_at asked.place part (job ∷ []) ++ waiting_at new part) at
+    (takes.first ∙ ap (λ (l : List AskedTxn). l ++ waiting_at new at) (sym (for_here asked.place job)))
     (λ other differs.
-    sym (waits_other at other old new (waiting_at new at) takes.changes differs)
-    ∙ ap (λ (l : List Job). l ++ jobs_waiting new other) (sym (for_other job other differs)))
+    sym (takes.changes.others other differs)
+    ∙ ap (λ (l : List AskedTxn). l ++ waiting_at new other) (sym (for_other asked.place job other differs)))
     part
 
 -- a job is offered at once, where none of its partition waits
-pub offers_at_once : (line : ℕ) (txn : TxnValue) (at : ℕ) (waiting : List (List AskedTxn)) → waiting_at waiting at ≡ []
-    → (part : ℕ) → jobs_waiting waiting part ++ flat_map (asked_by part) (fed.Line line (Ok (asks.Job at txn)) ∷ [])
-    ≡ jobs_for part (record { part = at; txn = txn } ∷ []) ++ jobs_waiting waiting part
-offers_at_once line txn at waiting none =
+pub offers_at_once : (place : LinePlace) (txn : TxnValue) (at : ℕ) (waiting : List (List AskedTxn)) → waiting_at waiting at ≡ []
+    → (part : ℕ) → waiting_at waiting part ++ flat_map (asked_by part) (fed.Line place (Ok (asks.Job at txn)) ∷ [])
+    ≡ asked_at place part (record { part = at; txn = txn } ∷ []) ++ waiting_at waiting part
+offers_at_once place txn at waiting none =
     let job : Job = record { part = at; txn = txn } in
-    let more : ℕ → List Job = λ part. flat_map (asked_by part) (fed.Line line (Ok (asks.Job at txn)) ∷ []) in
-    at_or_else (λ part. jobs_waiting waiting part ++ more part ≡ jobs_for part (job ∷ []) ++ jobs_waiting waiting part) at
-    (ap (λ (l : List AskedTxn). as_jobs at l ++ more at) none
-    ∙ asked_here at line txn
-    ∙ sym (ap (λ (l : List Job). l ++ jobs_waiting waiting at) (for_here job)
-    ∙ ap (λ (l : List AskedTxn). job ∷ as_jobs at l) none))
+    let asked : AskedTxn = record { place = place; txn = txn } in
+    let more : ℕ → List AskedTxn = λ part. flat_map (asked_by part) (fed.Line place (Ok (asks.Job at txn)) ∷ []) in
+    at_or_else (λ part. waiting_at waiting part ++ more part ≡ asked_at place part (job ∷ []) ++ waiting_at waiting part) at
+    (ap (λ (l : List AskedTxn). l ++ more at) none
+    ∙ asked_here at place txn
+    ∙ sym (ap (λ (l : List AskedTxn). l ++ waiting_at waiting at) (for_here place job)
+    ∙ ap (λ (l : List AskedTxn). asked ∷ l) none))
     (λ other differs.
-    ap (λ (l : List Job). jobs_waiting waiting other ++ l) (asked_other at other line txn differs)
-    ∙ append-nil (jobs_waiting waiting other)
-    ∙ ap (λ (l : List Job). l ++ jobs_waiting waiting other) (sym (for_other job other differs)))
+    ap (λ (l : List AskedTxn). waiting_at waiting other ++ l) (asked_other at other place txn differs)
+    ∙ append-nil (waiting_at waiting other)
+    ∙ ap (λ (l : List AskedTxn). l ++ waiting_at waiting other) (sym (for_other place job other differs)))
 
 -- a list that has nothing
 pub none_waits : {X : Type 0} (xs : List X) → (0 < length xs → ⊥) → xs ≡ []
 none_waits [] none = refl
 none_waits (x ∷ xs) none = absurd (none (omega arith))
 
--- a job of no partition that there is
-pub asked_nowhere : (at line count : ℕ) (txn : TxnValue) → count ≤ at
-    → (part : ℕ) → part < count → flat_map (asked_by part) (fed.Line line (Ok (asks.Job at txn)) ∷ []) ≡ []
-asked_nowhere at line count txn beyond part within =
-    asked_other at part line txn (λ same. let e : part ≡ at = same in absurd (omega arith))
+-- the job of a line is settled without a line, if there is its partition
+pub job_settled : (parts : ℕ) (moving : Option MoveProgress) (at : ℕ) (place : LinePlace) (txn : TxnValue) → at < parts
+    → SettlesEach parts moving (fed.Line place (Ok (asks.Job at txn)) ∷ []) [] []
+job_settled parts moving at place txn within =
+    settles_one parts moving (fed.Line place (Ok (asks.Job at txn))) [] [] (λ inside. refl, λ beyond. absurd (omega (arith, within, beyond)), refl)
 
-pub for_none : (job : Job) (count : ℕ) → count ≤ job.part → (part : ℕ) → part < count → jobs_for part (job ∷ []) ≡ []
-for_none job count beyond part within = for_other job part (λ same. let e : part ≡ job.part = same in absurd (omega arith))
+-- and by its refusal, if there is not
+pub job_refused : (at : ℕ) (place : LinePlace) (txn : TxnValue) (a b : ServeDeskValue) → length a.waiting ≤ at
+    → WritesBytes (other_line (Answered (refusal_of 219 place txn))) a b → Handles (fed.Line place (Ok (asks.Job at txn)) ∷ []) [] a [] b
+job_refused at place txn a b beyond says =
+    answers_one (fed.Line place (Ok (asks.Job at txn))) (Answered (refusal_of 219 place txn)) a b says
+    (λ inside. absurd (omega (arith, beyond, inside)), λ over. refl, refl)
+    (λ part within.
+    let asked : AskedTxn = record { place = place; txn = txn } in
+    ap (λ (b : Bool). if b then asked ∷ [] else [])
+    (ne_eqb at part (λ same. let e : at ≡ part = same in absurd (omega (arith, e, within, beyond)))))
 
--- what asks for no job
-pub no_job : (asked : ServeLine) → ((to : ℕ) (txn : TxnValue) → asked ≡ asks.Job to txn → ⊥) → (part : ℕ) → job_asked part asked ≡ []
-no_job (asks.Job to txn) differs part = absurd (differs to txn refl)
-no_job (asks.Move plan) differs part = refl
-no_job asks.Fold differs part = refl
-no_job asks.Status differs part = refl
-no_job asks.Rows differs part = refl
-no_job (asks.RowsTo name) differs part = refl
-no_job asks.Plan differs part = refl
+-- the answer to a line with a fault of its own
+pub other_answers : (place : LinePlace) (id : Option ℕ) (why : ServeFault) (number : ℕ) → number ≡ serve_fault_number why
+    → (why ≡ Memory → ⊥) → ((plan : PlanFault) → why ≡ Plan plan → ⊥)
+    → AnswersFault place id why (Answered (Fault number place.line id) ∷ [])
+other_answers place id NotAServeLine number is no_memory no_plan =
+    ap (λ (n : ℕ). Answered (Fault n place.line id) ∷ []) is
+other_answers place id TooLong number is no_memory no_plan =
+    ap (λ (n : ℕ). Answered (Fault n place.line id) ∷ []) is
+other_answers place id (Txn fault) number is no_memory no_plan =
+    ap (λ (n : ℕ). Answered (Fault n place.line id) ∷ []) is
+other_answers place id (Plan fault) number is no_memory no_plan = absurd (no_plan fault refl)
+other_answers place id Memory number is no_memory no_plan = absurd (no_memory refl)
 
--- a job comes back whose partition there isn't
-pub refuses : (job : Job) (a b : ServeDeskValue) → Speaks a b → length a.waiting ≤ job.part → Hears (job ∷ []) a [] b
-refuses job a b says beyond =
-    handles_unheard (job ∷ []) [] a b says.heard
+-- a line with a fault is answered by it
+pub fault_answered : (place : LinePlace) (faulty : FaultyLine) (number : ℕ) (a b : ServeDeskValue) → number ≡ serve_fault_number faulty.fault
+    → (faulty.fault ≡ Memory → ⊥) → ((plan : PlanFault) → faulty.fault ≡ Plan plan → ⊥)
+    → WritesBytes (other_line (Answered (Fault number place.line faulty.id))) a b
+    → Handles (fed.Line place (Err faulty) ∷ []) [] a [] b
+fault_answered place faulty number a b is no_memory no_plan says =
+    answers_one (fed.Line place (Err faulty)) (Answered (Fault number place.line faulty.id)) a b says
+    (other_answers place faulty.id faulty.fault number is no_memory no_plan, refl) (λ part within. refl)
+
+-- a line whose plan has a fault is refused
+pub plan_refused : (place : LinePlace) (faulty : FaultyLine) (plan : PlanFault) (number : ℕ) (a b : ServeDeskValue)
+    → faulty.fault ≡ Plan plan → number ≡ serve_fault_number faulty.fault
+    → WritesBytes (other_line (Refused 217)) a b ⊎ WritesBytes (other_line (Refused number)) a b
+    → Handles (fed.Line place (Err faulty) ∷ []) [] a [] b
+plan_refused place faulty plan number a b why is did =
+    let Answers : List OtherLine → ServeFault → Type 0 = λ lines fault. AnswersFault place faulty.id fault lines in
+    let own : number ≡ plan_fault_number plan = is ∙ ap serve_fault_number why in
+    ⊎_elim
+    (λ says.
+    answers_one (fed.Line place (Err faulty)) (Refused 217) a b says
+    (subst (Answers (Refused 217 ∷ [])) (sym why) (inl refl), refl) (λ part within. refl))
+    (λ says.
+    answers_one (fed.Line place (Err faulty)) (Refused number) a b says
+    (subst (Answers (Refused number ∷ [])) (sym why) (inr (ap (λ (n : ℕ). Refused n ∷ []) own)), refl) (λ part within. refl))
+    did
+
+-- a wish that is kept or refused isn't heard
+pub wish_unheard : (wish : Wish) (bytes : List ℕ) (a b : ServeDeskValue) → KeepsWish wish a b ⊎ WritesBytes bytes a b → b.heard ≡ a.heard
+wish_unheard wish bytes a b did =
+    ⊎_elim (λ keeps. ap (λ (d : ServeDeskValue). d.heard) keeps) (λ says. says.heard) did
+
+pub either_unheard : (one other : List ℕ) (a b : ServeDeskValue) → WritesBytes one a b ⊎ WritesBytes other a b → b.heard ≡ a.heard
+either_unheard one other a b did = ⊎_elim (λ says. says.heard) (λ says. says.heard) did
+
+-- the status
+pub status_answered : (place : LinePlace) (unanswered : ℕ) (a b : ServeDeskValue) → WritesStatus unanswered a b
+    → Handles (fed.Line place (Ok asks.Status) ∷ []) [] a [] b
+status_answered place unanswered a b did =
+    answers_one (fed.Line place (Ok asks.Status)) (Answered did.0) a b did.2
+    (did.1.0, ap (λ (answer : ServeAnswer). Answered answer ∷ []) did.1.2, refl) (λ part within. refl)
+
+-- a wish was taken
+pub wish_speaks : (taken : Option Wish) (a b : ServeDeskValue) → TakesWish taken a b → Speaks a b
+wish_speaks taken a b is =
+    subst (λ (d : ServeDeskValue). Speaks a d) (sym is.rest)
     (record {
-      goes_on = says.goes_on;
-      others = says.others;
-      written = says.written;
-      count = ap (λ (w : List (List AskedTxn)). length w) says.waiting;
-      jobs = λ still part within.
-          append-nil (jobs_for part (job ∷ []) ++ jobs_waiting a.waiting part)
-          ∙ ap (λ (l : List Job). l ++ jobs_waiting a.waiting part) (for_none job (length a.waiting) beyond part within)
-          ∙ ap (λ (w : List (List AskedTxn)). jobs_waiting w part) (sym says.waiting);
+      goes_on = λ still. still;
+      others = [];
+      written = λ still. appends_none a.written;
+      heard = refl;
+      waiting = refl;
     })
+
+pub no_wish_taken : (a b : ServeDeskValue) → TakesWish None a b → b ≡ a
+no_wish_taken a b is = is.rest ∙ ap (λ (w : List Wish). record a { wishes = w }) (sym is.wishes)

@@ -1,22 +1,85 @@
 -- What a desk writes over an epoch.
-use Rattle.std.proofs.Common.{◌≡◌, ℕ, ◌<◌, ◌==◌, List, [], ◌∷◌, ◌++◌, length, map, refl, sym, ap, subst, ◌∙◌, append_assoc, append-nil}
+use Rattle.std.proofs.Common.{◌≡◌, ⊎_elim, ℕ, ◌<◌, ◌≤◌, ◌==◌, Bool, true, false, if◌then◌else◌, List, [], ◌∷◌, ◌++◌, length, map, refl, sym, ap, subst, ◌∙◌, append_assoc, append-nil, arith}
+use Rattle.std.specs.Prelude.{Option}
 use Rattle.std.specs.List.{flat_map}
 use Rattle.std.specs.Io.KnownBytes.{Appends}
+use Rattle.std.proofs.lemmas.List.{map-append}
 use Rattle.std.proofs.lemmas.Grind.{flat_map-append}
 use Rattle.std.proofs.lemmas.List.Elements.{filter-append}
+use Rattle.std.proofs.lemmas.Bool.{cases_eq, cases_lt, eq-eqb, ne_eqb}
 use Rattle.sq_node_model.specs.NodeValue.{ReceiptValue}
 use Rattle.sq_audit.specs.declared.job.Job.{Job}
 use Rattle.sq_epoch.specs.declared.posted.PostFault.{PostFault}
 use Rattle.sq_epoch.specs.declared.posted.PostFault.TheVariants as fault
-use Rattle.sq_epoch.specs.Exchanges.{ClientCall, Exchange, Answers, Posts, Refuses, Rests, Ends, ExchangesEach, answer_at, given_from}
+use Rattle.sq_epoch.specs.Exchanges.{ClientCall, Exchange, Answers, Posts, Refuses, Rests, Ends, ExchangesEach, InStage, answer_at, given_from}
 use Rattle.sq_text.proofs.Appending.{both, appends_none}
 use Rattle.sq_told.specs.Lines.{receipt_line}
+use Rattle.sq_serve.specs.declared.line_place.LinePlace.{LinePlace}
 use Rattle.sq_server.specs.declared.feed.Fed.{Fed}
 use Rattle.sq_server.specs.declared.desk.AskedTxn.{AskedTxn}
-use Rattle.sq_server.specs.Saying.{OtherLine, other_line}
-use Rattle.sq_server.specs.Becoming.{ServeDeskValue, asked_by, jobs_waiting, jobs_for, Hears, WritesReceipt, comes_back, Becomes}
-use Rattle.sq_server.specs.Written.{OfReceipt, Other, said_line, receipt_at, told_from, settled_job, settled_in, WritesEach}
-use Rattle.sq_server.proofs.Desks.{through, hears_then}
+use Rattle.sq_server.specs.declared.desk.Wish.{Wish}
+use Rattle.sq_server.specs.Saying.{OtherLine, Answered, other_line}
+use Rattle.sq_server.specs.Settling.{refusal_of, SettlesEach}
+use Rattle.sq_server.specs.Sides.{waiting_at}
+use Rattle.sq_epoch.specs.declared.stage_progress.StageProgress.{StageProgress}
+use Rattle.sq_server.specs.declared.desk.MoveProgress.{MoveProgress}
+use Rattle.sq_server.specs.Becoming.{ServeDeskValue, asked_by, asked_at, jobs_for, with_stage, Hears, WritesReceipt, AnswersRefusal, Stops, TakesJobBack, Becomes}
+use Rattle.sq_server.specs.Written.{SaidLine, OfReceipt, Other, said_line, receipt_at, told_from, settled_job, settled_in, as_jobs, jobs_waiting, jobs_asked, WritesEach, other_said, others_in, Settlement, settles_nothing, settled_both, AnswersReturned, SettlesHeard, SettlesReturned, SettlesExchange, SettlesAll, AnswersEach}
+use Rattle.sq_server.proofs.Desks.{false-not-true, settles_then}
+
+-- jobs that go through two steps, one after another
+through : (held asked more first second between left all_asked all : List Job)
+    → held ++ asked ≡ first ++ between → between ++ more ≡ second ++ left → all_asked ≡ asked ++ more → all ≡ first ++ second
+    → held ++ all_asked ≡ all ++ left
+through held asked more first second between left all_asked all one two asks goes =
+    ap (λ (l : List Job). held ++ l) asks
+    ∙ sym (append_assoc held asked more)
+    ∙ ap (λ (l : List Job). l ++ more) one
+    ∙ append_assoc first between more
+    ∙ ap (λ (l : List Job). first ++ l) two
+    ∙ sym (append_assoc first second left)
+    ∙ ap (λ (l : List Job). l ++ left) (sym goes)
+
+-- the jobs of a partition are what asks for them
+asked_are_jobs : (place : LinePlace) (part : ℕ) (jobs : List Job) → as_jobs part (asked_at place part jobs) ≡ jobs_for part jobs
+asked_are_jobs place part [] = refl
+asked_are_jobs place part (job ∷ jobs) =
+    let rest = jobs_for part jobs in
+    let asked : Job → AskedTxn = λ j. record { place = place; txn = j.txn } in
+    let job_at : ℕ → Job = λ n. record { part = n; txn = job.txn } in
+    let Is : Bool → Type 0 = λ b. as_jobs part (map asked (if b then job ∷ rest else rest)) ≡ (if b then job ∷ rest else rest) in
+    ⊎_elim
+    (λ same. let e : job.part ≡ part = same in
+    let here : Is true =
+    ap (λ (n : ℕ). job_at n ∷ as_jobs part (map asked rest)) (sym e)
+    ∙ ap (λ (l : List Job). job ∷ l) (asked_are_jobs place part jobs) in
+    subst Is (sym (eq-eqb job.part part e)) here)
+    (λ differs. subst Is (sym (ne_eqb job.part part differs)) (asked_are_jobs place part jobs))
+    (cases_eq job.part part)
+
+-- the jobs that were asked for, offered and left waiting, by what asks for them
+as_jobs_go : (part : ℕ) (place : LinePlace) (held asked left : List AskedTxn) (offered : List Job)
+    → held ++ asked ≡ asked_at place part offered ++ left
+    → as_jobs part held ++ as_jobs part asked ≡ jobs_for part offered ++ as_jobs part left
+as_jobs_go part place held asked left offered go =
+    let job_of : AskedTxn → Job = λ a. record { part = part; txn = a.txn } in
+    sym (map-append job_of held asked)
+    ∙ ap (λ (l : List AskedTxn). as_jobs part l) go
+    ∙ map-append job_of (asked_at place part offered) left
+    ∙ ap (λ (l : List Job). l ++ as_jobs part left) (asked_are_jobs place part offered)
+
+-- the jobs of exchanges, one after another
+pub jobs_through : (part : ℕ) (first more : List Exchange) (asked later : List Fed) (held between left : List Job)
+    → held ++ jobs_asked part asked ≡ jobs_for part (settled_in first) ++ between
+    → between ++ jobs_asked part later ≡ jobs_for part (settled_in more) ++ left
+    → held ++ jobs_asked part (asked ++ later) ≡ jobs_for part (settled_in (first ++ more)) ++ left
+jobs_through part first more asked later held between left one two =
+    through held (jobs_asked part asked) (jobs_asked part later) (jobs_for part (settled_in first)) (jobs_for part (settled_in more))
+    between left (jobs_asked part (asked ++ later)) (jobs_for part (settled_in (first ++ more))) one two
+    (ap (λ (l : List AskedTxn). as_jobs part l) (flat_map-append (asked_by part) asked later)
+    ∙ map-append (λ (a : AskedTxn). record { part = part; txn = a.txn }) (flat_map (asked_by part) asked) (flat_map (asked_by part) later))
+    (ap (λ (l : List Job). jobs_for part l) (flat_map-append settled_job first more)
+    ∙ filter-append (λ (job : Job). job.part == part) (settled_in first) (settled_in more))
 
 -- other lines, among all
 pub others_said : (others : List OtherLine) → flat_map said_line (map Other others) ≡ flat_map other_line others
@@ -26,6 +89,10 @@ others_said (line ∷ others) = ap (λ (l : List ℕ). other_line line ++ l) (ot
 pub others_tell_none : (part : ℕ) (others : List OtherLine) → told_from part (map Other others) ≡ []
 others_tell_none part [] = refl
 others_tell_none part (line ∷ others) = others_tell_none part others
+
+others_are : (others : List OtherLine) → others_in (map Other others) ≡ others
+others_are [] = refl
+others_are (line ∷ others) = ap (λ (l : List OtherLine). line ∷ l) (others_are others)
 
 -- nothing
 pub none_written : (a : ServeDeskValue) → WritesEach [] a a
@@ -41,8 +108,26 @@ none_written a =
       jobs = λ still part within. append-nil (jobs_waiting a.waiting part);
     }
 
+none_answered : (a : ServeDeskValue) → AnswersEach [] a a
+none_answered a =
+    record {
+      writes = record {
+        goes_on = λ still. still;
+        said = [];
+        written = λ still. appends_none a.written;
+        told = λ part. refl;
+        more = [];
+        heard = sym (append-nil a.heard);
+        count = refl;
+        jobs = λ still part within. append-nil (jobs_waiting a.waiting part);
+      };
+      kept = [];
+      wishes = λ still. sym (append-nil a.wishes);
+      settled = λ still. refl;
+    }
+
 -- one after another
-pub writes_then : (first more : List Exchange) (a b c : ServeDeskValue) → WritesEach first a b → WritesEach more b c → WritesEach (first ++ more) a c
+abbrev pub writes_then : (first more : List Exchange) (a b c : ServeDeskValue) → WritesEach first a b → WritesEach more b c → WritesEach (first ++ more) a c
 writes_then first more a b c one two =
     record {
       goes_on = λ still. one.goes_on (two.goes_on still);
@@ -61,20 +146,72 @@ writes_then first more a b c one two =
           two.heard ∙ ap (λ (l : List Fed). l ++ two.more) one.heard ∙ append_assoc a.heard one.more two.more;
       count = two.count ∙ one.count;
       jobs = λ still part within.
-          through (jobs_waiting a.waiting part) (flat_map (asked_by part) one.more)
-          (flat_map (asked_by part) two.more) (jobs_for part (settled_in first)) (jobs_for part (settled_in more))
-          (jobs_waiting b.waiting part) (jobs_waiting c.waiting part) (flat_map (asked_by part) (one.more ++ two.more))
-          (jobs_for part (settled_in (first ++ more))) (one.jobs (two.goes_on still) part within)
-          (two.jobs still part (subst (λ (n : ℕ). part < n) (sym one.count) within))
-          (flat_map-append (asked_by part) one.more two.more)
-          (ap (λ (l : List Job). jobs_for part l) (flat_map-append settled_job first more)
-          ∙ filter-append (λ (job : Job). job.part == part) (settled_in first) (settled_in more));
+          jobs_through part first more one.more two.more (jobs_waiting a.waiting part) (jobs_waiting b.waiting part)
+          (jobs_waiting c.waiting part) (one.jobs (two.goes_on still) part within)
+          (two.jobs still part (subst (λ (n : ℕ). part < n) (sym one.count) within));
     }
 
+-- what two settle, one after another
+settled_both_assoc : (a b c : Settlement) → settled_both (settled_both a b) c ≡ settled_both a (settled_both b c)
+settled_both_assoc a b c =
+    let heard = (a.heard ++ b.heard) ++ c.heard in
+    let lines = (a.lines ++ b.lines) ++ c.lines in
+    let kept = (a.kept ++ b.kept) ++ c.kept in
+    let heard' = a.heard ++ (b.heard ++ c.heard) in
+    let lines' = a.lines ++ (b.lines ++ c.lines) in
+    let of : List Fed → List OtherLine → List Wish → Settlement = λ h l k. record { heard = h; lines = l; kept = k } in
+    ap (λ (h : List Fed). of h lines kept) (append_assoc a.heard b.heard c.heard)
+    ∙ ap (λ (l : List OtherLine). of heard' l kept) (append_assoc a.lines b.lines c.lines)
+    ∙ ap (λ (k : List Wish). of heard' lines' k) (append_assoc a.kept b.kept c.kept)
+
+settles_all_then : (parts : ℕ) (first more : List Exchange) (one two : Settlement) → SettlesAll parts first one → SettlesAll parts more two
+    → SettlesAll parts (first ++ more) (settled_both one two)
+settles_all_then parts [] more one two is next =
+    subst (λ (s : Settlement). SettlesAll parts more (settled_both s two)) (sym is) next
+settles_all_then parts (exchange ∷ first) more one two is next = (
+  is.0,
+  settled_both is.1 two,
+  is.2,
+  settles_all_then parts first more is.1 two is.3 next,
+  ap (λ (s : Settlement). settled_both s two) is.4 ∙ settled_both_assoc is.0 is.1 two,
+)
+
+pub answers_then : (first more : List Exchange) (a b c : ServeDeskValue) → AnswersEach first a b → AnswersEach more b c → AnswersEach (first ++ more) a c
+answers_then first more a b c one two =
+    let said : List OtherLine → Settlement = λ l.
+    record { heard = one.writes.more ++ two.writes.more; lines = l; kept = one.kept ++ two.kept } in
+    record {
+      writes = writes_then first more a b c one.writes two.writes;
+      kept = one.kept ++ two.kept;
+      wishes = λ still.
+          two.wishes still ∙ ap (λ (l : List Wish). l ++ two.kept) (one.wishes (two.writes.goes_on still))
+          ∙ append_assoc a.wishes one.kept two.kept;
+      settled = λ still.
+          let later : Settlement = record { heard = two.writes.more; lines = others_in two.writes.said; kept = two.kept } in
+          let now : Settlement = record { heard = one.writes.more; lines = others_in one.writes.said; kept = one.kept } in
+          subst (λ (l : List OtherLine). SettlesAll (length a.waiting) (first ++ more) (said l))
+          (sym (flat_map-append other_said one.writes.said two.writes.said))
+          (settles_all_then (length a.waiting) first more now later (one.settled (two.writes.goes_on still))
+          (subst (λ (parts : ℕ). SettlesAll parts more later) one.writes.count (two.settled still)));
+    }
+
+-- what one exchange settles
+settles_once : (parts : ℕ) (exchange : Exchange) (all : Settlement) → SettlesExchange parts exchange all → SettlesAll parts (exchange ∷ []) all
+settles_once parts exchange all is =
+    let of : List Fed → List OtherLine → List Wish → Settlement = λ h l k. record { heard = h; lines = l; kept = k } in (
+      all,
+      settles_nothing,
+      is,
+      refl,
+      sym (ap (λ (h : List Fed). of h (all.lines ++ []) (all.kept ++ [])) (append-nil all.heard)
+          ∙ ap (λ (l : List OtherLine). of all.heard l (all.kept ++ [])) (append-nil all.lines)
+          ∙ ap (λ (k : List Wish). of all.heard all.lines k) (append-nil all.kept)),
+    )
+
 -- an exchange by which no answer was given
-pub hears_once : (exchange : Exchange) (offered : List Job) (a b : ServeDeskValue) → settled_in (exchange ∷ []) ≡ offered
-    → ((part : ℕ) → given_from part (exchange ∷ []) ≡ []) → Hears [] a offered b → WritesEach (exchange ∷ []) a b
-hears_once exchange offered a b settles none hears =
+abbrev writes_once : (exchange : Exchange) (progress : StageProgress) (offered : List Job) (a b : ServeDeskValue) → settled_in (exchange ∷ []) ≡ offered
+    → ((part : ℕ) → given_from part (exchange ∷ []) ≡ []) → Hears [] (with_stage progress a) offered b → WritesEach (exchange ∷ []) a b
+writes_once exchange progress offered a b settles none hears =
     let is = hears.handles in
     record {
       goes_on = is.goes_on;
@@ -86,24 +223,46 @@ hears_once exchange offered a b settles none hears =
       heard = hears.heard;
       count = is.count;
       jobs = λ still part within.
-          is.jobs still part within
+          as_jobs_go part b.offered_at (waiting_at a.waiting part) (flat_map (asked_by part) hears.more) (waiting_at b.waiting part) offered
+          (is.jobs still part within)
           ∙ ap (λ (l : List Job). jobs_for part l ++ jobs_waiting b.waiting part) (sym settles);
     }
 
-answers_once : (part : ℕ) (receipt : ReceiptValue) (a b : ServeDeskValue) → WritesReceipt receipt a b → WritesEach (Answers part receipt ∷ []) a b
+hears_once : (exchange : Exchange) (progress : StageProgress) (offered : List Job) (a b : ServeDeskValue) → settled_in (exchange ∷ []) ≡ offered
+    → ((part : ℕ) → given_from part (exchange ∷ []) ≡ [])
+    → ((all : Settlement) → SettlesHeard (length a.waiting) all → SettlesExchange (length a.waiting) exchange all)
+    → Hears [] (with_stage progress a) offered b → AnswersEach (exchange ∷ []) a b
+hears_once exchange progress offered a b settles none settled hears =
+    let is = hears.handles in
+    let all : List OtherLine → Settlement = λ l. record { heard = hears.more; lines = l; kept = is.kept } in
+    record {
+      writes = writes_once exchange progress offered a b settles none hears;
+      kept = is.kept;
+      wishes = is.wishes;
+      settled = λ still.
+          subst (λ (l : List OtherLine). SettlesAll (length a.waiting) (exchange ∷ []) (all l)) (sym (others_are is.others))
+          (settles_once (length a.waiting) exchange (all is.others) (settled (all is.others) ((with_stage progress a).moving, is.settled still)));
+    }
+
+answers_once : (part : ℕ) (receipt : ReceiptValue) (a b : ServeDeskValue) → WritesReceipt receipt a b → AnswersEach (Answers part receipt ∷ []) a b
 answers_once part receipt a b writes =
     record {
-      goes_on = writes.goes_on;
-      said = OfReceipt part receipt ∷ [];
-      written = λ still.
-          subst (Appends a.written b.written) (sym (append-nil (receipt_line receipt))) (writes.written still);
-      told = λ other. refl;
-      more = [];
-      heard = writes.heard ∙ sym (append-nil a.heard);
-      count = ap (λ (w : List (List AskedTxn)). length w) writes.waiting;
-      jobs = λ still other within.
-          append-nil (jobs_waiting a.waiting other)
-          ∙ ap (λ (w : List (List AskedTxn)). jobs_waiting w other) (sym writes.waiting);
+      writes = record {
+        goes_on = writes.goes_on;
+        said = OfReceipt part receipt ∷ [];
+        written = λ still.
+            subst (Appends a.written b.written) (sym (append-nil (receipt_line receipt))) (writes.written still);
+        told = λ other. refl;
+        more = [];
+        heard = writes.heard ∙ sym (append-nil a.heard);
+        count = ap (λ (w : List (List AskedTxn)). length w) writes.waiting;
+        jobs = λ still other within.
+            append-nil (jobs_waiting a.waiting other)
+            ∙ ap (λ (w : List (List AskedTxn)). jobs_waiting w other) (sym writes.waiting);
+      };
+      kept = [];
+      wishes = λ still. writes.wishes ∙ sym (append-nil a.wishes);
+      settled = λ still. settles_once (length a.waiting) (Answers part receipt) settles_nothing refl;
     }
 
 -- a job that came back waits where its queue is full
@@ -123,50 +282,157 @@ full_once job a b c offers returns =
             both a.written b.written c.written (flat_map other_line one.others) (flat_map other_line two.others)
             (flat_map other_line (one.others ++ two.others)) (one.written (two.goes_on still)) (two.written still)
             (sym (flat_map-append other_line one.others two.others));
+        kept = one.kept ++ two.kept;
+        wishes = λ still.
+            two.wishes still ∙ ap (λ (l : List Wish). l ++ two.kept) (one.wishes (two.goes_on still))
+            ∙ append_assoc a.wishes one.kept two.kept;
+        settled = λ still.
+            settles_then (length a.waiting) a.moving offers.more returns.more one.others two.others one.kept two.kept
+            (one.settled (two.goes_on still))
+            (subst (λ (moving : Option MoveProgress). SettlesEach (length a.waiting) moving returns.more two.others two.kept) one.moving
+            (subst (λ (parts : ℕ). SettlesEach parts b.moving returns.more two.others two.kept) one.count (two.settled still)));
         count = two.count ∙ one.count;
+        moving = two.moving ∙ one.moving;
         jobs = λ still part within.
             let asked = flat_map (asked_by part) offers.more in
             let later = flat_map (asked_by part) returns.more in
-            ap (λ (l : List Job). jobs_waiting a.waiting part ++ l) (flat_map-append (asked_by part) offers.more returns.more)
-            ∙ sym (append_assoc (jobs_waiting a.waiting part) asked later)
-            ∙ ap (λ (l : List Job). l ++ later) (one.jobs (two.goes_on still) part within)
+            ap (λ (l : List AskedTxn). waiting_at a.waiting part ++ l) (flat_map-append (asked_by part) offers.more returns.more)
+            ∙ sym (append_assoc (waiting_at a.waiting part) asked later)
+            ∙ ap (λ (l : List AskedTxn). l ++ later) (one.jobs (two.goes_on still) part within)
             ∙ two.jobs still part (subst (λ (n : ℕ). part < n) (sym one.count) within);
       };
     }
 
-refuses_once : (job : Job) (why : PostFault) (a b c : ServeDeskValue) → Hears [] a (job ∷ []) b → Hears (comes_back job why) b [] c
-    → WritesEach (Refuses job why ∷ []) a c
-refuses_once job fault.QueueFull a b c offers returns =
-    hears_once (Refuses job fault.QueueFull) [] a c refl (λ part. refl) (full_once job a b c offers returns)
-refuses_once job fault.NoSuchPartition a b c offers returns =
-    hears_once (Refuses job fault.NoSuchPartition) (job ∷ []) a c refl (λ part. refl) (hears_then [] (job ∷ []) [] a b c offers returns)
-refuses_once job fault.RepeatedId a b c offers returns =
-    hears_once (Refuses job fault.RepeatedId) (job ∷ []) a c refl (λ part. refl) (hears_then [] (job ∷ []) [] a b c offers returns)
-refuses_once job fault.Memory a b c offers returns =
-    hears_once (Refuses job fault.Memory) (job ∷ []) a c refl (λ part. refl) (hears_then [] (job ∷ []) [] a b c offers returns)
+-- a job is of no partition that there is
+for_none : (job : Job) (parts part : ℕ) → parts ≤ job.part → part < parts → jobs_for part (job ∷ []) ≡ []
+for_none job parts part beyond within =
+    ap (λ (b : Bool). if b then job ∷ [] else [])
+    (ne_eqb job.part part (λ same. let e : job.part ≡ part = same in absurd (omega (arith, e, beyond, within))))
+
+-- a job that was offered is refused
+refused_once : (job : Job) (why : PostFault) (number : ℕ) (progress : StageProgress) (a b c : ServeDeskValue)
+    → Hears [] (with_stage progress a) (job ∷ []) b → AnswersRefusal number job b c
+    → ((part : ℕ) → part < length a.waiting → jobs_for part (settled_in (Refuses job why ∷ [])) ≡ jobs_for part (job ∷ []))
+    → AnswersReturned (length a.waiting) job why (Answered (refusal_of number b.offered_at job.txn) ∷ []) → AnswersEach (Refuses job why ∷ []) a c
+refused_once job why number progress a b c offers says settles answers =
+    let is = offers.handles in
+    let line = Answered (refusal_of number b.offered_at job.txn) in
+    let all : List OtherLine → Settlement = λ l. record { heard = offers.more; lines = l; kept = is.kept } in
+    record {
+      writes = record {
+        goes_on = λ still. is.goes_on (says.goes_on still);
+        said = map Other (is.others ++ line ∷ []);
+        written = λ still.
+            subst (Appends a.written c.written) (sym (others_said (is.others ++ line ∷ [])))
+            (both a.written b.written c.written (flat_map other_line is.others) (other_line line)
+            (flat_map other_line (is.others ++ line ∷ [])) (is.written (says.goes_on still)) (says.written still)
+            (ap (λ (l : List ℕ). flat_map other_line is.others ++ l) (sym (append-nil (other_line line)))
+            ∙ sym (flat_map-append other_line is.others (line ∷ []))));
+        told = λ part. others_tell_none part (is.others ++ line ∷ []);
+        more = offers.more;
+        heard = says.heard ∙ offers.heard;
+        count = ap (λ (w : List (List AskedTxn)). length w) says.waiting ∙ is.count;
+        jobs = λ still part within.
+            as_jobs_go part b.offered_at (waiting_at a.waiting part) (flat_map (asked_by part) offers.more) (waiting_at b.waiting part)
+            (job ∷ []) (is.jobs (says.goes_on still) part within)
+            ∙ ap (λ (l : List Job). l ++ jobs_waiting b.waiting part) (sym (settles part within))
+            ∙ ap (λ (w : List (List AskedTxn)). jobs_for part (settled_in (Refuses job why ∷ [])) ++ jobs_waiting w part) (sym says.waiting);
+      };
+      kept = is.kept;
+      wishes = λ still. says.wishes ∙ is.wishes (says.goes_on still);
+      settled = λ still.
+          subst (λ (l : List OtherLine). SettlesAll (length a.waiting) (Refuses job why ∷ []) (all l))
+          (sym (others_are (is.others ++ line ∷ [])))
+          (settles_once (length a.waiting) (Refuses job why) (all (is.others ++ line ∷ []))
+          (record {
+            own = is.others;
+            settled = ((with_stage progress a).moving, is.settled (says.goes_on still));
+            refusal = line ∷ [];
+            answers = answers;
+            lines = refl;
+          }));
+    }
+
+-- nothing more can be done for a job that was offered
+stopped_once : (job : Job) (why : PostFault) (progress : StageProgress) (a b c : ServeDeskValue) → Hears [] (with_stage progress a) (job ∷ []) b
+    → Stops b c → AnswersEach (Refuses job why ∷ []) a c
+stopped_once job why progress a b c offers is =
+    record {
+      writes = record {
+        goes_on = λ still. false-not-true (sym is.stopped ∙ still);
+        said = [];
+        written = λ still. false-not-true (sym is.stopped ∙ still);
+        told = λ part. refl;
+        more = offers.more;
+        heard = is.heard ∙ offers.heard;
+        count = ap (λ (w : List (List AskedTxn)). length w) is.waiting ∙ offers.handles.count;
+        jobs = λ still. false-not-true (sym is.stopped ∙ still);
+      };
+      kept = [];
+      wishes = λ still. false-not-true (sym is.stopped ∙ still);
+      settled = λ still. false-not-true (sym is.stopped ∙ still);
+    }
+
+-- a job whose queue is full waits
+waits_once : (job : Job) (progress : StageProgress) (a b c : ServeDeskValue) → job.part < length a.waiting
+    → Hears [] (with_stage progress a) (job ∷ []) b → Hears (job ∷ []) b [] c
+    → AnswersEach (Refuses job fault.QueueFull ∷ []) a c
+waits_once job progress a b c within offers returns =
+    hears_once (Refuses job fault.QueueFull) progress [] a c refl (λ part. refl)
+    (λ all settled.
+    record {
+      own = all.lines;
+      settled = settled;
+      refusal = [];
+      answers = (λ inside. refl, λ beyond. absurd (omega (arith, within, beyond)));
+      lines = sym (append-nil all.lines);
+    })
+    (full_once job (with_stage progress a) b c offers returns)
+
+refuses_once : (job : Job) (why : PostFault) (progress : StageProgress) (a b c : ServeDeskValue) → Hears [] (with_stage progress a) (job ∷ []) b
+    → TakesJobBack job why b c
+    → AnswersEach (Refuses job why ∷ []) a c
+refuses_once job fault.QueueFull progress a b c offers returns =
+    let count : length b.waiting ≡ length a.waiting = offers.handles.count in
+    ⊎_elim
+    (λ within.
+    waits_once job progress a b c within offers (returns.waits (subst (λ (n : ℕ). job.part < n) (sym count) within)))
+    (λ beyond.
+    refused_once job fault.QueueFull 219 progress a b c offers (returns.refused (subst (λ (n : ℕ). n ≤ job.part) (sym count) beyond))
+    (λ part inside. sym (for_none job (length a.waiting) part beyond inside))
+    (λ inside. absurd (omega (arith, beyond, inside)), λ over. (b.offered_at, refl)))
+    (cases_lt job.part (length a.waiting))
+refuses_once job fault.NoSuchPartition progress a b c offers returns =
+    refused_once job fault.NoSuchPartition 219 progress a b c offers returns (λ part within. refl) (b.offered_at, refl)
+refuses_once job fault.RepeatedId progress a b c offers returns =
+    refused_once job fault.RepeatedId 127 progress a b c offers returns (λ part within. refl) (b.offered_at, refl)
+refuses_once job fault.Memory progress a b c offers returns = stopped_once job fault.Memory progress a b c offers returns
 
 module _ {X : Type 0} (desk : X → ServeDeskValue) where
   -- what a call makes of who has a desk
   abbrev pub becomes : X → ClientCall → X → Type 0
   becomes old call new = Becomes (desk old) call (desk new)
 
-  -- by the exchanges of an epoch a desk writes the line of each answer
-  pub writes_each : (exchanges : List Exchange) (first last : X) → ExchangesEach becomes first exchanges last
-      → WritesEach exchanges (desk first) (desk last)
-  writes_each [] first last same =
-      subst (λ (x : X). WritesEach [] (desk first) (desk x)) (sym same) (none_written (desk first))
-  writes_each (Answers part receipt ∷ more) first last went =
-      writes_then (Answers part receipt ∷ []) more (desk first) (desk went.0) (desk last)
-      (answers_once part receipt (desk first) (desk went.0) went.1) (writes_each more went.0 last went.2)
-  writes_each (Posts job ∷ more) first last went =
-      writes_then (Posts job ∷ []) more (desk first) (desk went.0) (desk last)
-      (hears_once (Posts job) (job ∷ []) (desk first) (desk went.0) refl (λ part. refl) went.1) (writes_each more went.0 last went.2)
-  writes_each (Refuses job why ∷ more) first last went =
-      writes_then (Refuses job why ∷ []) more (desk first) (desk went.0) (desk last)
-      (refuses_once job why (desk first) (desk went.1.0) (desk went.0) went.1.1 went.1.2) (writes_each more went.0 last went.2)
-  writes_each (Rests ∷ more) first last went =
-      writes_then (Rests ∷ []) more (desk first) (desk went.0) (desk last)
-      (hears_once Rests [] (desk first) (desk went.0) refl (λ part. refl) went.1) (writes_each more went.0 last went.2)
-  writes_each (Ends ∷ more) first last went =
-      writes_then (Ends ∷ []) more (desk first) (desk went.0) (desk last)
-      (hears_once Ends [] (desk first) (desk went.0) refl (λ part. refl) went.1) (writes_each more went.0 last went.2)
+  -- by the exchanges of an epoch a desk writes the line of each answer, and settles each line
+  pub answers_each : (segments : ℕ) (exchanges : List Exchange) (first last : X) → ExchangesEach (InStage segments becomes) first exchanges last
+      → AnswersEach exchanges (desk first) (desk last)
+  answers_each segments [] first last same =
+      subst (λ (x : X). AnswersEach [] (desk first) (desk x)) (sym same) (none_answered (desk first))
+  answers_each segments (Answers part receipt ∷ more) first last went =
+      answers_then (Answers part receipt ∷ []) more (desk first) (desk went.0) (desk last)
+      (answers_once part receipt (desk first) (desk went.0) went.1) (answers_each segments more went.0 last went.2)
+  answers_each segments (Posts job ∷ more) first last went =
+      answers_then (Posts job ∷ []) more (desk first) (desk went.0) (desk last)
+      (hears_once (Posts job) went.1.0 (job ∷ []) (desk first) (desk went.0) refl (λ part. refl) (λ all settled. settled) went.1.1.1)
+      (answers_each segments more went.0 last went.2)
+  answers_each segments (Refuses job why ∷ more) first last went =
+      answers_then (Refuses job why ∷ []) more (desk first) (desk went.0) (desk last)
+      (refuses_once job why went.1.1.0 (desk first) (desk went.1.0) (desk went.0) went.1.1.1.1 went.1.2) (answers_each segments more went.0 last went.2)
+  answers_each segments (Rests ∷ more) first last went =
+      answers_then (Rests ∷ []) more (desk first) (desk went.0) (desk last)
+      (hears_once Rests went.1.0 [] (desk first) (desk went.0) refl (λ part. refl) (λ all settled. settled) went.1.1.1)
+      (answers_each segments more went.0 last went.2)
+  answers_each segments (Ends ∷ more) first last went =
+      answers_then (Ends ∷ []) more (desk first) (desk went.0) (desk last)
+      (hears_once Ends went.1.0 [] (desk first) (desk went.0) refl (λ part. refl) (λ all settled. settled) went.1.1.1)
+      (answers_each segments more went.0 last went.2)

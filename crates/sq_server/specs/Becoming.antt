@@ -1,5 +1,5 @@
 -- What a call makes of a desk.
-use Rattle.std.specs.Prelude.{◌≡◌, ℕ, ◌<◌, ◌==◌, ◌||◌, Bool, false, if◌then◌else◌, List, [], ◌∷◌, ◌++◌, length, map, filter, Option, Some, None, Ok, Err}
+use Rattle.std.specs.Prelude.{◌≡◌, ℕ, ◌<◌, ◌≤◌, ◌==◌, ◌||◌, Bool, true, false, if◌then◌else◌, List, [], ◌∷◌, ◌++◌, length, map, filter, Option, Some, None, option_map, Ok, Err}
 use Rattle.std.specs.List.{flat_map}
 use Rattle.std.specs.Io.KnownBytes.{Appends}
 use Rattle.rtrb.specs.Ring.{received}
@@ -9,24 +9,37 @@ use Rattle.sq_epoch.specs.declared.posted.PostFault.{PostFault}
 use Rattle.sq_epoch.specs.declared.posted.PostFault.TheVariants as fault
 use Rattle.sq_epoch.specs.declared.client.Command.{Command}
 use Rattle.sq_epoch.specs.declared.client.Command.TheVariants.{Post, Rest, End}
+use Rattle.sq_epoch.specs.declared.stage_progress.StageProgress.{StageProgress}
 use Rattle.sq_epoch.specs.Exchanges.{ClientCall, Asked, Told, Returned}
+use Rattle.sq_serve.specs.declared.line_place.LinePlace.{LinePlace}
+use Rattle.sq_serve.specs.declared.line_place.LineSource.TheVariants.{Input}
 use Rattle.sq_serve.specs.declared.serve_line.ServeLine.{ServeLine}
 use Rattle.sq_serve.specs.declared.serve_line.ServeLine.TheVariants as asks
+use Rattle.sq_serve.specs.declared.serve_answer.ServeAnswer.{ServeAnswer}
+use Rattle.sq_serve.specs.ServeAnswers.{serve_answer_line}
 use Rattle.sq_told.specs.Lines.{receipt_line}
 use Rattle.sq_server.specs.declared.feed.Fed.{Fed}
 use Rattle.sq_server.specs.declared.feed.Fed.TheVariants as fed
 use Rattle.sq_server.specs.declared.desk.AskedTxn.{AskedTxn}
 use Rattle.sq_server.specs.declared.desk.ServeDesk.{ServeDesk}
+use Rattle.sq_server.specs.declared.desk.MoveProgress.{MoveProgress}
+use Rattle.sq_server.specs.declared.desk.Wish.{Wish}
+use Rattle.sq_server.specs.declared.outlet.Outlet.{Outlet}
 use Rattle.sq_server.specs.Saying.{OtherLine, other_line}
+use Rattle.sq_server.specs.Settling.{line_wish, refusal_of, IsStatus, SettlesEach}
 use Rattle.sq_server.specs.Sides.{waiting_at}
 
--- a desk: what its writer holds, where that is known; whether nothing more can be done; what was handed on to it; and for each
--- partition the jobs that wait
+-- a desk: what its writer holds, where that is known; whether nothing more can be done; what was handed on to it; for each
+-- partition the jobs that wait, with the places of their lines; the place of the line of the job that was offered last; what lines
+-- wish that is to be done between epochs; and how far a move is
 pub record ServeDeskValue : Type 0 where
   pub written : Option (List ℕ)
   pub has_stopped : Bool
   pub heard : List Fed
   pub waiting : List (List AskedTxn)
+  pub offered_at : LinePlace
+  pub wishes : List Wish
+  pub moving : Option MoveProgress
 
 abbrev pub desk_value : {W : Type 0} → (W → Option (List ℕ)) → ServeDesk W → ServeDeskValue
 desk_value contents desk =
@@ -35,42 +48,62 @@ desk_value contents desk =
       has_stopped = desk.lacks_memory || desk.outlet.has_failed;
       heard = received desk.feed;
       waiting = desk.sides;
+      offered_at = desk.offered_at;
+      wishes = line_wish desk.wish ++ line_wish desk.next_wish;
+      moving = desk.moving;
     }
 
--- the job of a partition that a line asks for, if it asks for one
-abbrev pub job_asked : ℕ → ServeLine → List Job
-job_asked part (asks.Job to txn) = if to == part then record { part = to; txn = txn } ∷ [] else []
-job_asked part (asks.Move plan) = []
-job_asked part asks.Fold = []
-job_asked part asks.Status = []
-job_asked part asks.Rows = []
-job_asked part (asks.RowsTo name) = []
-job_asked part asks.Plan = []
+-- a desk that has written what an outlet holds, to which this was handed on, and at which these jobs wait
+abbrev pub new_desk : {W : Type 0} → (W → Option (List ℕ)) → Outlet W → List Fed → List (List AskedTxn) → ServeDeskValue
+new_desk contents outlet heard waiting =
+    record {
+      written = contents outlet.writer;
+      has_stopped = outlet.has_failed;
+      heard = heard;
+      waiting = waiting;
+      offered_at = record { source = Input; line = 0 };
+      wishes = [];
+      moving = None;
+    }
 
-abbrev pub asked_by : ℕ → Fed → List Job
-asked_by part (fed.Line number (Ok asks)) = job_asked part asks
-asked_by part (fed.Line number (Err fault)) = []
+-- the job of a partition that a line at a place asks for, if it asks for one
+abbrev pub job_asked : ℕ → LinePlace → ServeLine → List AskedTxn
+job_asked part place (asks.Job to txn) = if to == part then record { place = place; txn = txn } ∷ [] else []
+job_asked part place (asks.Move plan) = []
+job_asked part place asks.Fold = []
+job_asked part place asks.Status = []
+job_asked part place asks.Rows = []
+job_asked part place (asks.RowsTo name) = []
+job_asked part place asks.Plan = []
+
+abbrev pub asked_by : ℕ → Fed → List AskedTxn
+asked_by part (fed.Line place (Ok asks)) = job_asked part place asks
+asked_by part (fed.Line place (Err faulty)) = []
 asked_by part (fed.End end) = []
-
--- the jobs of a partition that wait
-abbrev pub jobs_waiting : List (List AskedTxn) → ℕ → List Job
-jobs_waiting waiting part = map (λ (asked : AskedTxn). record { part = part; txn = asked.txn }) (waiting_at waiting part)
 
 -- those of these jobs that are of a partition
 abbrev pub jobs_for : ℕ → List Job → List Job
 jobs_for part jobs = filter (λ job. job.part == part) jobs
 
--- so much was handed on, and some jobs came back: unless nothing more can be done, lines were written that aren't what jobs were
--- answered; and for each partition the jobs that came back, those that waited, and those that were asked for are, in this
--- order, those that were offered and those that wait
+-- the same, asked for by a line at this place
+abbrev pub asked_at : LinePlace → ℕ → List Job → List AskedTxn
+asked_at place part jobs = map (λ (job : Job). record { place = place; txn = job.txn }) (jobs_for part jobs)
+
+-- so much was handed on, and some jobs came back: unless nothing more can be done, each line that was handed on is settled, by a line
+-- that was written or a wish that is kept, and no other line was written; and for each partition the jobs that came back, those that
+-- waited, and those that were asked for are, in this order, those that were offered and those that wait
 pub record Handles (more : List Fed) (back : List Job) (old : ServeDeskValue) (offered : List Job) (new : ServeDeskValue) : Type 0 where
   pub goes_on : new.has_stopped ≡ false → old.has_stopped ≡ false
   pub others : List OtherLine
   pub written : new.has_stopped ≡ false → Appends old.written new.written (flat_map other_line others)
+  pub kept : List Wish
+  pub wishes : new.has_stopped ≡ false → new.wishes ≡ old.wishes ++ kept
+  pub settled : new.has_stopped ≡ false → SettlesEach (length old.waiting) old.moving more others kept
   pub count : length new.waiting ≡ length old.waiting
+  pub moving : new.moving ≡ old.moving
   pub jobs : new.has_stopped ≡ false → (part : ℕ) → part < length old.waiting
-      → (jobs_for part back ++ jobs_waiting old.waiting part) ++ flat_map (asked_by part) more
-      ≡ jobs_for part offered ++ jobs_waiting new.waiting part
+      → (asked_at old.offered_at part back ++ waiting_at old.waiting part) ++ flat_map (asked_by part) more
+      ≡ asked_at new.offered_at part offered ++ waiting_at new.waiting part
 
 -- the same of what was heard meanwhile
 pub record Hears (back : List Job) (old : ServeDeskValue) (offered : List Job) (new : ServeDeskValue) : Type 0 where
@@ -78,7 +111,7 @@ pub record Hears (back : List Job) (old : ServeDeskValue) (offered : List Job) (
   pub heard : new.heard ≡ old.heard ++ more
   pub handles : Handles more back old offered new
 
--- other lines were written, and nothing else changed
+-- other lines were written, and no job or line was taken
 pub record Speaks (old new : ServeDeskValue) : Type 0 where
   pub goes_on : new.has_stopped ≡ false → old.has_stopped ≡ false
   pub others : List OtherLine
@@ -92,10 +125,34 @@ pub record WritesBytes (bytes : List ℕ) (old new : ServeDeskValue) : Type 0 wh
   pub written : new.has_stopped ≡ false → Appends old.written new.written bytes
   pub heard : new.heard ≡ old.heard
   pub waiting : new.waiting ≡ old.waiting
+  pub offered_at : new.offered_at ≡ old.offered_at
+  pub wishes : new.wishes ≡ old.wishes
+  pub moving : new.moving ≡ old.moving
 
 -- the line of a receipt was
 abbrev pub WritesReceipt : ReceiptValue → ServeDeskValue → ServeDeskValue → Type 0
 WritesReceipt receipt old new = WritesBytes (receipt_line receipt) old new
+
+-- nothing more can be done
+pub record Stops (old new : ServeDeskValue) : Type 0 where
+  pub stopped : new.has_stopped ≡ true
+  pub heard : new.heard ≡ old.heard
+  pub waiting : new.waiting ≡ old.waiting
+  pub moving : new.moving ≡ old.moving
+
+-- what a line wishes was kept, and nothing else changed
+abbrev pub KeepsWish : Wish → ServeDeskValue → ServeDeskValue → Type 0
+KeepsWish wish old new = new ≡ record old { wishes = old.wishes ++ wish ∷ [] }
+
+-- a wish was taken, if there was one: the first that a line wishes, or one of the desk's own
+pub record TakesWish (taken : Option Wish) (old new : ServeDeskValue) : Type 0 where
+  pub wishes : old.wishes ≡ line_wish taken ++ new.wishes
+  pub rest : new ≡ record old { wishes = new.wishes }
+
+-- the status was written, with so many jobs without an answer
+abbrev pub WritesStatus : ℕ → ServeDeskValue → ServeDeskValue → Type 0
+WritesStatus unanswered old new =
+    (answer : ServeAnswer) × IsStatus old.moving unanswered answer × WritesBytes (serve_answer_line answer) old new
 
 abbrev pub job_list : Option Job → List Job
 job_list (Some job) = job ∷ []
@@ -107,15 +164,30 @@ offered_by (Post job) = job ∷ []
 offered_by Rest = []
 offered_by End = []
 
--- the job that comes back to wait, where its queue is full
-abbrev pub comes_back : Job → PostFault → List Job
-comes_back job fault.QueueFull = job ∷ []
-comes_back job fault.NoSuchPartition = []
-comes_back job fault.RepeatedId = []
-comes_back job fault.Memory = []
+-- the line of a job is answered by just its refusal
+abbrev pub AnswersRefusal : ℕ → Job → ServeDeskValue → ServeDeskValue → Type 0
+AnswersRefusal number job old new = WritesBytes (serve_answer_line (refusal_of number old.offered_at job.txn)) old new
+
+-- a job whose queue is full comes back to wait; one of no partition is refused
+pub record WaitsOrHasNoPartition (job : Job) (old new : ServeDeskValue) : Type 0 where
+  pub waits : job.part < length old.waiting → Hears (job ∷ []) old [] new
+  pub refused : length old.waiting ≤ job.part → AnswersRefusal 219 job old new
+
+-- what is made of the job that was offered last and comes back for this: it waits before the others of its partition, or its line is
+-- answered by just its refusal, or nothing more can be done
+abbrev pub TakesJobBack : Job → PostFault → ServeDeskValue → ServeDeskValue → Type 0
+TakesJobBack job fault.QueueFull old new = WaitsOrHasNoPartition job old new
+TakesJobBack job fault.NoSuchPartition old new = AnswersRefusal 219 job old new
+TakesJobBack job fault.RepeatedId old new = AnswersRefusal 127 job old new
+TakesJobBack job fault.Memory old new = Stops old new
+
+-- a desk that is told how far the stage is in which rows move
+abbrev pub with_stage : StageProgress → ServeDeskValue → ServeDeskValue
+with_stage progress desk =
+    record desk { moving = option_map (λ (moving : MoveProgress). record moving { stage = progress }) desk.moving }
 
 -- what a call makes of a desk
 abbrev pub Becomes : ServeDeskValue → ClientCall → ServeDeskValue → Type 0
-Becomes old (Asked command) new = Hears [] old (offered_by command) new
+Becomes old (Asked progress command) new = Hears [] (with_stage progress old) (offered_by command) new
 Becomes old (Told part receipt) new = WritesReceipt receipt old new
-Becomes old (Returned job fault) new = Hears (comes_back job fault) old [] new
+Becomes old (Returned job fault) new = TakesJobBack job fault old new

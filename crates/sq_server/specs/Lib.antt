@@ -1,5 +1,6 @@
 pub mod Sides
 pub mod Ending
 pub mod Saying
+pub mod Settling
 pub mod Becoming
 pub mod Written

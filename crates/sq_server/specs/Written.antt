@@ -1,11 +1,13 @@
 -- What is written over an epoch.
-use Rattle.std.specs.Prelude.{◌≡◌, ℕ, ◌<◌, ◌==◌, Bool, false, if◌then◌else◌, List, [], ◌∷◌, ◌++◌, length, map}
+use Rattle.std.specs.Prelude.{◌≡◌, ℕ, ◌<◌, ◌≤◌, ◌==◌, Bool, false, if◌then◌else◌, List, [], ◌∷◌, ◌++◌, length, map, Option}
 use Rattle.std.specs.List.{flat_map, range_with_len}
 use Rattle.std.specs.Io.KnownBytes.{Appends}
 use Rattle.sq_node_model.specs.NodeValue.{ReceiptValue}
 use Rattle.sq_node.specs.NodeState.{NodeState}
 use Rattle.sq_audit.specs.declared.job.Job.{Job}
+use Rattle.sq_epoch.specs.declared.posted.PostFault.{PostFault}
 use Rattle.sq_epoch.specs.declared.posted.PostFault.TheVariants as fault
+use Rattle.sq_serve.specs.declared.line_place.LinePlace.{LinePlace}
 use Rattle.sq_engine.specs.declared.standing.Standing.{Standing}
 use Rattle.sq_engine.specs.declared.standing.Standing.TheVariants.{Running}
 use Rattle.sq_engine.specs.Values.{EpochValue}
@@ -16,8 +18,13 @@ use Rattle.sq_epoch.specs.Exchanges.{Exchange, Answers, Posts, Refuses, Rests, E
 use Rattle.sq_told.specs.Lines.{receipt_line}
 use Rattle.sq_told.specs.Interleaving.{Interleaves}
 use Rattle.sq_server.specs.declared.feed.Fed.{Fed}
-use Rattle.sq_server.specs.Saying.{OtherLine, other_line}
-use Rattle.sq_server.specs.Becoming.{ServeDeskValue, asked_by, jobs_waiting, jobs_for}
+use Rattle.sq_server.specs.declared.desk.AskedTxn.{AskedTxn}
+use Rattle.sq_server.specs.declared.desk.MoveProgress.{MoveProgress}
+use Rattle.sq_server.specs.declared.desk.Wish.{Wish}
+use Rattle.sq_server.specs.Saying.{OtherLine, Answered, other_line}
+use Rattle.sq_server.specs.Sides.{waiting_at}
+use Rattle.sq_server.specs.Settling.{refusal_of, SettlesEach}
+use Rattle.sq_server.specs.Becoming.{ServeDeskValue, asked_by, jobs_for}
 
 -- a line that was written: of a receipt of a partition, or another one
 pub data SaidLine : Type 0 where
@@ -62,6 +69,18 @@ settled_job Ends = []
 abbrev pub settled_in : List Exchange → List Job
 settled_in exchanges = flat_map settled_job exchanges
 
+-- jobs of a partition, by what asks for them
+abbrev pub as_jobs : ℕ → List AskedTxn → List Job
+as_jobs part asked = map (λ (a : AskedTxn). record { part = part; txn = a.txn }) asked
+
+-- the jobs of a partition that wait
+abbrev pub jobs_waiting : List (List AskedTxn) → ℕ → List Job
+jobs_waiting waiting part = as_jobs part (waiting_at waiting part)
+
+-- those that were asked for by what was handed on
+abbrev pub jobs_asked : ℕ → List Fed → List Job
+jobs_asked part more = as_jobs part (flat_map (asked_by part) more)
+
 -- by these exchanges a desk wrote the line of each answer that it was given, once, those of each partition in their order, and
 -- other lines; and for each partition the jobs that waited, and those that were asked for, are in this order those that were
 -- posted or refused, and those that wait. Or else nothing more can be done
@@ -74,8 +93,74 @@ pub record WritesEach (exchanges : List Exchange) (old new : ServeDeskValue) : T
   pub heard : new.heard ≡ old.heard ++ more
   pub count : length new.waiting ≡ length old.waiting
   pub jobs : new.has_stopped ≡ false → (part : ℕ) → part < length old.waiting
-      → jobs_waiting old.waiting part ++ flat_map (asked_by part) more
+      → jobs_waiting old.waiting part ++ jobs_asked part more
       ≡ jobs_for part (settled_in exchanges) ++ jobs_waiting new.waiting part
+
+abbrev pub other_said : SaidLine → List OtherLine
+other_said (OfReceipt part receipt) = []
+other_said (Other line) = line ∷ []
+
+-- the lines that aren't of receipts, in their order
+abbrev pub others_in : List SaidLine → List OtherLine
+others_in said = flat_map other_said said
+
+-- what was heard, the lines that were written of it, and the wishes that were kept
+pub record Settlement : Type 0 where
+  pub heard : List Fed
+  pub lines : List OtherLine
+  pub kept : List Wish
+
+abbrev pub settles_nothing : Settlement
+settles_nothing = record { heard = []; lines = []; kept = [] }
+
+-- one after another
+abbrev pub settled_both : Settlement → Settlement → Settlement
+settled_both first more =
+    record { heard = first.heard ++ more.heard; lines = first.lines ++ more.lines; kept = first.kept ++ more.kept }
+
+-- the line that is written of a job that isn't posted: its refusal, if its queue isn't full
+abbrev pub AnswersReturned : ℕ → Job → PostFault → List OtherLine → Type 0
+AnswersReturned parts job fault.QueueFull lines =
+    (job.part < parts → lines ≡ []) × (parts ≤ job.part → (place : LinePlace) × (lines ≡ Answered (refusal_of 219 place job.txn) ∷ []))
+AnswersReturned parts job fault.NoSuchPartition lines = (place : LinePlace) × (lines ≡ Answered (refusal_of 219 place job.txn) ∷ [])
+AnswersReturned parts job fault.RepeatedId lines = (place : LinePlace) × (lines ≡ Answered (refusal_of 127 place job.txn) ∷ [])
+AnswersReturned parts job fault.Memory lines = ⊥
+
+-- what was heard is settled, with some move that is so far
+abbrev pub SettlesHeard : ℕ → Settlement → Type 0
+SettlesHeard parts all = (moving : Option MoveProgress) × SettlesEach parts moving all.heard all.lines all.kept
+
+-- what was heard is settled, and then the job that isn't posted
+pub record SettlesReturned (parts : ℕ) (job : Job) (why : PostFault) (all : Settlement) : Type 0 where
+  pub own : List OtherLine
+  pub settled : SettlesHeard parts (record all { lines = own })
+  pub refusal : List OtherLine
+  pub answers : AnswersReturned parts job why refusal
+  pub lines : all.lines ≡ own ++ refusal
+
+-- what an exchange settles
+abbrev pub SettlesExchange : ℕ → Exchange → Settlement → Type 0
+SettlesExchange parts (Answers part receipt) all = all ≡ settles_nothing
+SettlesExchange parts (Posts job) all = SettlesHeard parts all
+SettlesExchange parts (Refuses job why) all = SettlesReturned parts job why all
+SettlesExchange parts Rests all = SettlesHeard parts all
+SettlesExchange parts Ends all = SettlesHeard parts all
+
+-- what exchanges settle, one after another
+abbrev pub SettlesAll : ℕ → List Exchange → Settlement → Type 0
+SettlesAll parts [] all = all ≡ settles_nothing
+SettlesAll parts (exchange ∷ exchanges) all =
+    (now : Settlement) × (later : Settlement)
+    × SettlesExchange parts exchange now × SettlesAll parts exchanges later × (all ≡ settled_both now later)
+
+-- by these exchanges a desk wrote what it was given, and each line that it heard is settled: by just one line that was written of it, by
+-- a job, or by a wish that is kept; each job that was refused is settled by just one line; and no other line was written
+pub record AnswersEach (exchanges : List Exchange) (old new : ServeDeskValue) : Type 0 where
+  pub writes : WritesEach exchanges old new
+  pub kept : List Wish
+  pub wishes : new.has_stopped ≡ false → new.wishes ≡ old.wishes ++ kept
+  pub settled : new.has_stopped ≡ false
+      → SettlesAll (length old.waiting) exchanges (record { heard = writes.more; lines = others_in writes.said; kept = kept })
 
 -- over an epoch that began with these nodes a desk wrote what it was given of them
 pub record ServesEpoch (exchanges : List Exchange) (nodes : List NodeState) (before after : ServeDeskValue) : Type 0 where
@@ -89,7 +174,7 @@ abbrev pub WritesInterleaved : ℕ → List Exchange → List SaidLine → Type 
 WritesInterleaved parts exchanges said = Interleaves (given_by_parts parts exchanges) (receipts_said said)
 
 -- an engine reached an epoch, and continued from it: in the epoch a desk was given the answers that the nodes wrote,
--- and wrote each of them
+-- wrote each of them, and settled each line
 pub record EpochIsWritten (old : Standing) (before : ServeDeskValue) (new : Standing) (after : ServeDeskValue) (is_whole : Bool) : Type 0 where
   pub epoch : EpochValue
   pub comes : KeepsHistoryAndJobs old (Running epoch)
@@ -97,6 +182,6 @@ pub record EpochIsWritten (old : Standing) (before : ServeDeskValue) (new : Stan
   pub served_epoch : EpochValue
   pub driven : OnlyDriven (record epoch { jobs = epoch.jobs ++ posted_in exchanges }) served_epoch
   pub given : AllAreGiven is_whole exchanges epoch.nodes served_epoch.nodes
-  pub writes : WritesEach exchanges before after
+  pub answers : AnswersEach exchanges before after
   pub history : KeepsHistory (Running epoch) (Running served_epoch)
   pub goes_on : KeepsHistoryAndJobs (Running served_epoch) new

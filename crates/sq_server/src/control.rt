@@ -3,11 +3,22 @@ use crate::audit_progress::AuditProgress;
 use crate::desk::ServeDesk;
 use crate::marks::EpochMarks;
 use sq_audit::Job;
+use sq_driver::rest;
 use sq_engine::{Client, Command, PostFault, StageProgress};
 use sq_node::Receipt;
 use sq_plan::PartId;
 use sq_serve::ServeWatch;
 use std::io::Write;
+use std::sync::Wait;
+
+// How often others go first before it waits for the bell.
+const TRIES_AWAKE: u64 = 256;
+
+// The longest wait for the bell, in microseconds.
+const LONGEST_WAIT: u64 = 20_000;
+
+// The longest sleep beside an audit, in microseconds.
+const LONGEST_SLEEP: u64 = 2_000;
 
 /// The client of an engine's epoch: a desk, how far the audit beside the epoch is, and who marks what is done in it.
 #[derive(Drop)]
@@ -18,11 +29,13 @@ pub struct Control<'a, W: Write + Drop, V: ServeWatch> {
 }
 
 impl<W: Write + Drop, V: ServeWatch> Control<'_, W, V> {
-    // Whether the epoch is to end: at once where the desk has stopped and where an audit has ended, and for a wish
-    // unless an audit runs.
-    fn ends(&self) -> bool {
+    // Whether the epoch is to end: at once if the desk has stopped, if an audit has ended, and if nothing moves in it while the desk
+    // isn't told that its move is done, since an engine that had no memory to come to rest after the last stage does so as its next
+    // epoch begins; for a wish unless an audit runs.
+    fn ends(&self, progress: StageProgress) -> bool {
         self.desk.has_stopped()
             || self.audit.has_ended()
+            || self.desk.has_moved(progress)
             || (self.desk.has_wish() && !self.audit.goes_on())
     }
 }
@@ -38,14 +51,23 @@ impl<W: Write + Drop, V: ServeWatch> Client for Control<'_, W, V> {
         self.marks.note_progress(progress);
         self.desk.note_stage(progress);
         self.desk.begin_call(self.audit.goes_on());
-        if self.ends() {
+        if self.ends(progress) {
             self.desk.flush();
             self.marks.end();
             return Command::End;
         }
-        let command = self.desk.next_command();
+        let command = self.desk.next_command(self.marks.watch());
         self.marks.offer(&command);
         command
+    }
+
+    // Waits for a line, at rest with no open job. While an audit runs its end is looked for meanwhile.
+    fn wait<R: Wait>(&self, rt: &R, tries: u64) {
+        if tries <= TRIES_AWAKE || self.audit.goes_on() {
+            rest(rt, tries, LONGEST_SLEEP);
+        } else {
+            self.desk.bell.wait(rt, LONGEST_WAIT);
+        }
     }
 
     fn take(&mut self, part: PartId, receipt: Receipt) {
@@ -54,6 +76,6 @@ impl<W: Write + Drop, V: ServeWatch> Client for Control<'_, W, V> {
     }
 
     fn take_back(&mut self, job: Job, fault: PostFault) {
-        self.desk.take_back(job, fault);
+        self.desk.take_back(job, fault, self.marks.watch());
     }
 }

@@ -1,25 +1,38 @@
 // How an engine that is served ends.
 ghost use Rattle.std.specs.Prelude.{◌≡◌};
-ghost use Rattle.sq_server.specs.Ending.{serve_status};
+ghost use Rattle.sq_server.specs.Ending.{serve_status, input_status, outcome_refused};
 
 use sq_audit::Defect;
-use sq_text::LocatedFault;
+use sq_serve::HeaderFault;
+
+/// How far the input of an engine was taken.
+#[derive(Clone, Copy, Debug, PartialEq, Eq)]
+pub enum InputOutcome {
+    /// To its end.
+    Whole,
+    /// Up to a line with a fault after which nothing is read.
+    Broken,
+    /// Up to the first line that was refused or has a fault, which ends a strict input.
+    Refused,
+}
 
 /// How an engine that is served ends.
 #[derive(Clone, Copy, Debug)]
 pub enum ServeEnding {
-    /// All jobs are answered, and each page is sound. The input was read to its end, or else broke off.
+    /// All jobs are answered, and each page is sound.
     Sound {
         families: u64,
         committed: u64,
-        is_whole: bool,
+        input: InputOutcome,
     },
     /// This is the first defect of a page.
     Unsound(Defect),
     /// The header has this fault.
-    NoHeader(LocatedFault),
-    /// Memory ran out, or no thread could be had.
+    NoHeader(HeaderFault),
+    /// Memory ran out.
     Memory,
+    /// The system grants fewer threads than the engine has nodes.
+    Threads,
     /// An answer can't be written.
     Unwritten,
 }
@@ -30,15 +43,35 @@ impl ServeEnding {
         ensures { result ≡ serve_status self }
     {
         match self {
-            ServeEnding::Sound { is_whole: true, .. } => 0,
+            ServeEnding::Sound { input, .. } => input.status(),
             ServeEnding::Unsound(_) => 4,
-            ServeEnding::Sound {
-                is_whole: false,
-                ..
-            }
-            | ServeEnding::NoHeader(_)
+            ServeEnding::NoHeader(_)
             | ServeEnding::Memory
+            | ServeEnding::Threads
             | ServeEnding::Unwritten => 2,
+        }
+    }
+}
+
+impl InputOutcome {
+    // The exit status of an engine that ends sound.
+    fn status(self) -> u8
+        ensures { result ≡ input_status self }
+    {
+        match self {
+            InputOutcome::Whole => 0,
+            InputOutcome::Broken => 2,
+            InputOutcome::Refused => 3,
+        }
+    }
+
+    // The outcome once a line of a strict input was refused. A broken input stays broken.
+    pub(crate) fn refused(before: Option<InputOutcome>) -> InputOutcome
+        ensures { result ≡ outcome_refused before }
+    {
+        match before {
+            Some(InputOutcome::Broken) => InputOutcome::Broken,
+            Some(InputOutcome::Whole | InputOutcome::Refused) | None => InputOutcome::Refused,
         }
     }
 }

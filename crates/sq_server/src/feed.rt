@@ -3,13 +3,17 @@ ghost use Rattle.std.specs.Prelude.{◌≡◌, [], ◌∷◌, ◌++◌};
 ghost use Rattle.std.specs.Bool.{OnTrue, OnFalse};
 ghost use Rattle.rtrb.specs.Ring.{sent, SameProducer};
 
-use crate::resting::rest;
+use crate::bell::Bell;
 use rtrb::{Consumer, Producer, PushError};
-use sq_serve::{ServeFault, ServeLine};
+use sq_driver::rest;
+use sq_serve::{FaultyLine, LinePlace, ServeLine};
 use std::sync::Wait;
 
 /// How many lines are handed on at most that weren't taken.
 pub const FEED_ROOM: usize = 4_096;
+
+// The longest sleep between two tries, in microseconds.
+const LONGEST_SLEEP: u64 = 2_000;
 
 /// How an input ends behind its header.
 #[derive(Clone, Copy, Debug, PartialEq, Eq)]
@@ -17,7 +21,7 @@ pub enum InputEnd {
     /// All of it was read.
     Whole,
     /// This line has a fault behind which nothing is read.
-    Broken { fault: u16, line: u64 },
+    Broken { fault: u16, place: LinePlace },
     /// Memory ran out.
     Memory,
 }
@@ -25,17 +29,18 @@ pub enum InputEnd {
 /// What a reader hands on behind the header.
 #[derive(Debug, Drop)]
 pub enum Fed {
-    /// What a line asks, with its number.
+    /// What the line at this place asks.
     Line {
-        number: u64,
-        asks: Result<ServeLine, ServeFault>,
+        place: LinePlace,
+        asks: Result<ServeLine, FaultyLine>,
     },
     /// Nothing more comes.
     End(InputEnd),
 }
 
-/// Hands something on, as soon as there is room, and says whether it did: not where nobody takes any more.
-pub fn give<X: Drop, R: Wait>(rt: &R, feed: &mut Producer<X>, given: X) -> bool
+/// Hands something on, as soon as there is room, rings the bell of who takes it, and returns whether it did: not if
+/// nobody takes any more.
+pub fn give<X: Drop, R: Wait>(rt: &R, feed: &mut Producer<X>, bell: &Bell, given: X) -> bool
     ensures ring { SameProducer feed.old feed.new }
     ensures given { OnTrue result (sent feed.new ≡ sent feed.old ++ given ∷ []) }
     ensures not_given { OnFalse result (sent feed.new ≡ sent feed.old) }
@@ -47,16 +52,19 @@ pub fn give<X: Drop, R: Wait>(rt: &R, feed: &mut Producer<X>, given: X) -> bool
             return false;
         }
         match feed.push(given) {
-            Ok(()) => return true,
+            Ok(()) => {
+                bell.ring();
+                return true;
+            }
             Err(PushError::Full(back)) => given = back,
         }
         tries = tries.saturating_add(1);
-        rest(rt, tries);
+        rest(rt, tries, LONGEST_SLEEP);
     }
     unreachable!()
 }
 
-/// Takes what is handed on next, as soon as something is there. `None` where nothing comes any more.
+/// Takes what is handed on next, as soon as something is there. `None` if nothing comes any more.
 pub fn wait_for<X: Drop, R: Wait>(rt: &R, feed: &mut Consumer<X>) -> Option<X> {
     let mut tries = 0u64;
     for _ in rt.forever() {
@@ -68,7 +76,7 @@ pub fn wait_for<X: Drop, R: Wait>(rt: &R, feed: &mut Consumer<X>) -> Option<X> {
             return None;
         }
         tries = tries.saturating_add(1);
-        rest(rt, tries);
+        rest(rt, tries, LONGEST_SLEEP);
     }
     unreachable!()
 }

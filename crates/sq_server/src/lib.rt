@@ -3,6 +3,7 @@
 #![tactic(auto)]
 
 mod audit_progress;
+mod bell;
 mod control;
 mod desk;
 mod ending;
@@ -11,16 +12,18 @@ mod feed;
 pub mod laws;
 mod marks;
 mod outlet;
-mod resting;
 mod sides;
+mod txn_words;
 
 pub use audit_progress::AuditProgress;
+pub use bell::Bell;
 pub use control::Control;
-pub use desk::{AskedRows, AskedTxn, JobCounts, MoveProgress, ServeDesk, Wish};
-pub use ending::ServeEnding;
+pub use desk::{
+    AskedMove, AskedRows, AskedTxn, DeskConfig, JobCounts, MoveProgress, ServeDesk, Wish,
+};
+pub use ending::{InputOutcome, ServeEnding};
 pub use epoch::serve_epoch;
 pub use feed::{FEED_ROOM, Fed, InputEnd, give, wait_for};
 pub use marks::EpochMarks;
 pub use outlet::Outlet;
-pub use resting::rest;
 pub use sides::{SIDE_ROOM, SideQueues};

@@ -30,6 +30,11 @@ impl<'a, V: ServeWatch> EpochMarks<'a, V> {
         }
     }
 
+    // Who watches.
+    pub(crate) fn watch(&self) -> &'a V {
+        self.watch
+    }
+
     // Marks at the first call that the epoch begins.
     pub(crate) fn begin(&mut self) {
         if !self.has_begun {

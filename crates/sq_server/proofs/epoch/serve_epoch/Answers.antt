@@ -1,8 +1,9 @@
 use Rattle.std.proofs.lemmas.Result.{IfOk-weaker}
 use Rattle.sq_engine.specs.declared.engine.EngineServed.{EngineServed}
+use Rattle.sq_engine.specs.Served.{segments_of_epoch}
 use Rattle.sq_server.specs.Becoming.{desk_value}
 use Rattle.sq_server.specs.Written.{EpochIsWritten}
-use Rattle.sq_server.proofs.Epochs.{writes_each}
+use Rattle.sq_server.proofs.Epochs.{answers_each}
 use Rattle.sq_server.proofs.epoch.serve_epoch.Goals as goal
 
 pub returns-clause-served : goal.returns-clause-served
@@ -21,7 +22,7 @@ returns-clause-served g c =
       served_epoch = is.served_epoch;
       driven = is.served.driven;
       given = is.served.given;
-      writes = writes_each (λ control. desk_value contents control.desk) is.served.exchanges before after is.served.client;
+      answers = answers_each (λ control. desk_value contents control.desk) (segments_of_epoch is.epoch) is.served.exchanges before after is.served.client;
       history = is.history;
       goes_on = is.goes_on;
     })

@@ -1,14 +1,13 @@
 use Rattle.std.proofs.Common.{[], ◌∙◌, subst}
-use Rattle.sq_server.specs.Becoming.{ServeDeskValue, desk_value, offered_by, Hears, Speaks}
-use Rattle.sq_server.proofs.Desks.{speaks_hears, writes_nothing}
+use Rattle.sq_server.specs.Becoming.{ServeDeskValue, desk_value, offered_by, Hears}
+use Rattle.sq_server.proofs.Desks.{nothing_hears}
 use Rattle.sq_server.proofs.control.ControlClient.next.Goals as goal
 
 pub returns-then-ends : goal.returns-then-ends
 returns-then-ends g c =
     let flush = c.flush in
-    speaks_hears _ _
-    (subst (λ (desk : ServeDeskValue). Speaks desk (desk_value g.W.Write.contents flush.new.self))
-    (c.begin_call.ensures ∙ c.note_stage.ensures) (writes_nothing _ _ flush.ensures))
+    subst (λ (desk : ServeDeskValue). Hears [] desk [] (desk_value g.W.Write.contents flush.new.self))
+    (c.begin_call.ensures ∙ c.note_stage.ensures) (nothing_hears _ _ flush.ensures)
 
 pub returns : goal.returns
 returns g c =

@@ -1,6 +1,6 @@
 use Rattle.std.proofs.Common.{[], ◌∷◌, sym, subst}
 use Rattle.sq_server.specs.Becoming.{ServeDeskValue, desk_value, Hears}
-use Rattle.sq_server.proofs.Desks.{hears_then, speaks_hears}
+use Rattle.sq_server.proofs.Desks.{hears_then, nothing_hears}
 use Rattle.sq_server.proofs.desk.ServeDesk.next_command.Goals as goal
 
 pub returns-in-Some : goal.returns-in-Some
@@ -10,4 +10,4 @@ returns-in-Some g c =
 
 pub returns-in-None : goal.returns-in-None
 returns-in-None g c =
-    hears_then [] [] [] _ _ _ c.in-None.ensures (speaks_hears _ _ c.idle.ensures)
+    hears_then [] [] _ _ _ c.in-None.ensures (nothing_hears _ _ c.idle.ensures)

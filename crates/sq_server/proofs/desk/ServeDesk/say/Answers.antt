@@ -1,9 +1,18 @@
-use Rattle.rtrb.specs.Ring.{received}
 use Rattle.sq_server.specs.Saying.{Answered}
-use Rattle.sq_server.proofs.Desks.{speaks_of}
+use Rattle.sq_server.specs.Becoming.{desk_value}
+use Rattle.sq_server.proofs.Desks.{writes_bytes, line_speaks}
+use Rattle.sq_serve.specs.ServeAnswers.{serve_answer_line}
 use Rattle.sq_server.proofs.desk.ServeDesk.say.Goals as goal
 
-pub returns : goal.returns
-returns g c =
+pub returns-clause-line : goal.returns-clause-line
+returns-clause-line g c =
     let was = c.args.self.now in
-    speaks_of g.W.Write.contents was.lacks_memory (received was.feed) was.sides was.outlet c.say.new.self (Answered c.args.answer) c.say.ensures
+    let contents = g.W.Write.contents in
+    writes_bytes contents (serve_answer_line c.args.answer) was.lacks_memory (desk_value contents was) was.outlet c.say.new.self c.say.ensures
+
+pub returns-clause-speaks : goal.returns-clause-speaks
+returns-clause-speaks g c =
+    let was = c.args.self.now in
+    let contents = g.W.Write.contents in
+    line_speaks (Answered c.args.answer) _ _
+    (writes_bytes contents (serve_answer_line c.args.answer) was.lacks_memory (desk_value contents was) was.outlet c.say.new.self c.say.ensures)

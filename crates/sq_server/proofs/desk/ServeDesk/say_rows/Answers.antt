@@ -1,9 +1,10 @@
-use Rattle.rtrb.specs.Ring.{received}
 use Rattle.sq_server.specs.Saying.{rows_told}
+use Rattle.sq_server.specs.Becoming.{desk_value}
 use Rattle.sq_server.proofs.Desks.{writes_bytes}
 use Rattle.sq_server.proofs.desk.ServeDesk.say_rows.Goals as goal
 
 pub returns : goal.returns
 returns g c =
     let was = c.args.self.now in
-    writes_bytes g.W.Write.contents (rows_told c.args.lines.now) was.lacks_memory (received was.feed) was.sides was.outlet c.say_rows.new.self c.say_rows.ensures
+    let contents = g.W.Write.contents in
+    writes_bytes contents (rows_told c.args.lines.now) was.lacks_memory (desk_value contents was) was.outlet c.say_rows.new.self c.say_rows.ensures

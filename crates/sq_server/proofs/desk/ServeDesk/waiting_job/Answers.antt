@@ -1,7 +1,8 @@
-use Rattle.std.proofs.Common.{◌≡◌, ℕ, [], ◌∷◌, ◌++◌, refl, sym, subst}
-use Rattle.sq_server.specs.Becoming.{jobs_waiting, jobs_for}
-use Rattle.sq_server.specs.Sides.{TakesFirst}
-use Rattle.sq_server.proofs.Desks.{quiet, handles_unheard, take_keeps}
+use Rattle.std.proofs.Common.{◌≡◌, ℕ, [], ◌∷◌, ◌++◌, refl, List, sym, ap, subst}
+use Rattle.sq_server.specs.declared.desk.AskedTxn.{AskedTxn}
+use Rattle.sq_server.specs.Becoming.{ServeDeskValue, desk_value, asked_at}
+use Rattle.sq_server.specs.Sides.{waiting_at, TakesFirst}
+use Rattle.sq_server.proofs.Desks.{quiet, handles_unheard, same_hears, take_keeps}
 use Rattle.sq_server.proofs.desk.ServeDesk.waiting_job.Goals as goal
 
 pub returns-in-Some : goal.returns-in-Some
@@ -11,7 +12,13 @@ returns-in-Some g c =
     let asked = c.in-Some.asked in
     let takes : TakesFirst c.in-Some.part asked was now = c.in-Some.ensures in
     handles_unheard [] _ _ _ refl
-    (quiet [] [] _ _ _ refl refl takes.changes.count
+    (quiet [] [] _ _ _ refl refl refl refl takes.changes.count (refl, refl)
     (λ part within.
-    subst (λ (at : ℕ). jobs_waiting was part ++ [] ≡ jobs_for part (record { part = at; txn = asked.txn } ∷ []) ++ jobs_waiting now part)
+    subst (λ (at : ℕ). waiting_at was part ++ [] ≡ asked_at asked.place part (record { part = at; txn = asked.txn } ∷ []) ++ waiting_at now part)
     (sym c.new.ensures) (take_keeps asked c.in-Some.part was now takes part)))
+
+pub returns-in-None : goal.returns-in-None
+returns-in-None g c =
+    let was = desk_value g.W.Write.contents c.args.self.now in
+    let now : List (List AskedTxn) → ServeDeskValue = λ waiting. record was { waiting = waiting } in
+    same_hears was (now c.take.new.self) (ap now c.in-None.ensures)
