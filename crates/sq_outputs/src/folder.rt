@@ -1,6 +1,6 @@
 // Where files are.
 ghost use Rattle.std.specs.Prelude.{[], ◌∷◌, is_ok, Option, List};
-ghost use Rattle.sq_outputs.specs.Calls.{FileCall, Written, Renamed, Removed, Makes};
+ghost use Rattle.sq_outputs.specs.Calls.{FileCall, Written, Renamed, FolderSynced, Removed, Makes};
 
 use std::io;
 
@@ -9,18 +9,22 @@ pub trait Folder {
     // The calls that were made, with whether they succeeded, where that is known.
     ghost calls: { Self → Option (List FileCall) };
 
-    /// Writes a text into the file of this name, in place of what it holds. After an error it may hold a part of the text.
-    fn write(&mut self, name: &str, text: &[u8]) -> io::Result<()>
+    /// Writes `text` into the file `name`, in place of what it holds, and waits until it is on the disk. The file gets the mode of
+    /// the file `like`, if that is there, before the text goes in. After an error it may hold a part of the text.
+    fn write(&mut self, name: &str, like: &str, text: &[u8]) -> io::Result<()>
         ensures { Makes (calls self.old) (calls self.new)
-            (Written name.now text.now (is_ok result) ∷ []) };
+            (Written name.now like.now text.now (is_ok result) ∷ []) };
 
-    /// Has the file of one name take the place of another name's file.
+    /// Has the file `from` take the place of the file `to`.
     fn rename(&mut self, from: &str, to: &str) -> io::Result<()>
         ensures { Makes (calls self.old) (calls self.new)
             (Renamed from.now to.now (is_ok result) ∷ []) };
 
-    /// Removes the file of this name.
-    fn remove(&mut self, name: &str) -> io::Result<()>
-        ensures { Makes (calls self.old) (calls self.new)
-            (Removed name.now (is_ok result) ∷ []) };
+    /// Waits until the names in the folder of the file `name` are on the disk, if the system can do that.
+    fn sync_folder(&mut self, name: &str)
+        ensures { Makes (calls self.old) (calls self.new) (FolderSynced name.now ∷ []) };
+
+    /// Removes the file `name`, if it can be removed.
+    fn remove(&mut self, name: &str)
+        ensures { Makes (calls self.old) (calls self.new) (Removed name.now ∷ []) };
 }

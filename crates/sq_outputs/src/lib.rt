@@ -11,8 +11,8 @@ mod system;
 pub use conflict::{Conflict, Output, conflict_among};
 pub use folder::Folder;
 pub use pipe::PipeEnd;
-pub use saving::{part_name, save};
+pub use saving::{NewFile, Unsaved, part_name, save};
 pub use system::{
-    SystemFolder, find_folder_of, is_other_than_file, place_of, place_of_standard_input,
-    place_of_standard_output,
+    SystemFolder, file_to_write, is_folder, is_other_than_file, leads_nowhere, place_of,
+    place_of_standard_input, place_of_standard_output, try_to_make, write_device,
 };

@@ -1,42 +1,105 @@
 // Files that are written whole or not at all.
-ghost use Rattle.std.specs.Prelude.{◌≡◌, IfOk, OnOk, OnErr, string_bytes};
-ghost use Rattle.sq_outputs.specs.Calls.{Makes, MakesSome, BreaksOff, GivesUp, replacing, part_of};
+ghost use Rattle.std.specs.Prelude.{◌≡◌, true, map, IfOk, OnOk, OnErr, string_bytes};
+ghost use Rattle.std.specs.List.{flat_map};
+ghost use Rattle.sq_outputs.specs.Calls.{Makes, MakesSome, LeavesAll, LeavesRest, GivesUp};
+ghost use Rattle.sq_outputs.specs.Calls.{part_of, replacing, writes_beside, placed_for_good, removes_beside};
 
 use crate::folder::Folder;
 use std::alloc::{AllocError, Global};
 use std::io;
 
-/// The name of the file beside the one of this name, into which a text goes first.
+/// A file that is to be written.
+#[derive(Drop)]
+pub struct NewFile<'a> {
+    /// Its name.
+    name: &'a str,
+    /// The name of the file beside it, which is written first.
+    part: String,
+    /// What it is to hold.
+    text: &'a [u8],
+}
+
+impl<'a> NewFile<'a> {
+    /// The file `name`, which is to hold `text`.
+    pub fn new(alloc: Global, name: &'a str, text: &'a [u8]) -> Result<NewFile<'a>, AllocError>
+        ensures name { IfOk result (λ file. file.name.now ≡ name.now) }
+        ensures part { IfOk result (λ file. string_bytes file.part ≡ part_of name.now) }
+        ensures text { IfOk result (λ file. file.text.now ≡ text.now) }
+    {
+        let part = part_name(alloc, name)?;
+        Ok(NewFile { name, part, text })
+    }
+}
+
+/// A file that can't be written, and why.
+#[derive(Debug, Drop)]
+pub struct Unsaved<'a> {
+    /// Its name.
+    pub name: &'a str,
+    /// Why it can't be written.
+    pub error: io::Error,
+}
+
+/// The name of the file beside the file `name`, into which a text goes first.
 pub fn part_name(alloc: Global, name: &str) -> Result<String, AllocError>
     ensures { IfOk result (λ part. string_bytes part ≡ part_of name.now) }
 {
     format!(in alloc; "{name}.squall-part")
 }
 
-/// Writes a text into the file of this name, whole or not at all: it goes into a file beside it, with `.squall-part` behind
-/// the name, which then takes its place. Where that can't be done, the file beside it is removed.
-pub fn save<F: Folder>(alloc: Global, folder: &mut F, name: &str, text: &[u8]) -> io::Result<()>
+/// Writes `files`, each whole or not at all. Each text goes into a file beside its own, with `.squall-part` after the name, and
+/// onto the disk; only then do these take their places, one after another. If a text can't be written, no file is replaced. If a
+/// file can't be replaced, those before it are and the others aren't. Either way no file is left beside them.
+pub fn save<'a, F: Folder>(folder: &mut F, files: &[NewFile<'a>]) -> Result<(), Unsaved<'a>>
     ensures saved { OnOk result
-        (Makes (F.calls folder.old) (F.calls folder.new) (replacing name.now text.now)) }
+        (Makes (F.calls folder.old) (F.calls folder.new) (replacing files.now)) }
     ensures given_up { OnErr result
-        (MakesSome (GivesUp name.now text.now) (F.calls folder.old) (F.calls folder.new)) }
+        (MakesSome (GivesUp files.now) (F.calls folder.old) (F.calls folder.new)) }
 {
-    let part = part_name(alloc, name)?;
-    let saved = replace(folder, name, part.as_str(), text);
-    if saved.is_err() {
-        let _ = folder.remove(part.as_str());
-    }
-    saved
+    write_beside(folder, files)?;
+    take_places(folder, files)
 }
 
-// Writes a text into the file beside the one of this name, which then takes its place.
-fn replace<F: Folder>(folder: &mut F, name: &str, part: &str, text: &[u8]) -> io::Result<()>
-    requires { part.now ≡ part_of name.now }
+// Writes the text of each of these files into the one beside it. After an error no such file is left.
+fn write_beside<'a, F: Folder>(folder: &mut F, files: &[NewFile<'a>]) -> Result<(), Unsaved<'a>>
     ensures saved { OnOk result
-        (Makes (F.calls folder.old) (F.calls folder.new) (replacing name.now text.now)) }
-    ensures broken_off { OnErr result
-        (MakesSome (BreaksOff name.now text.now) (F.calls folder.old) (F.calls folder.new)) }
+        (Makes (F.calls folder.old) (F.calls folder.new) (map (writes_beside true) files.now)) }
+    ensures left { OnErr result
+        (MakesSome (LeavesAll files.now) (F.calls folder.old) (F.calls folder.new)) }
 {
-    folder.write(part, text)?;
-    folder.rename(part, name)
+    for (at, file) in files.iter().enumerate() {
+        if let Err(error) = folder.write(file.part.as_str(), file.name, file.text) {
+            remove_beside(folder, &files[..at + 1]);
+            let name = file.name;
+            return Err(Unsaved { name, error });
+        }
+    }
+    Ok(())
+}
+
+// Has the files beside these take their places, one after another. After an error no such file is left.
+fn take_places<'a, F: Folder>(folder: &mut F, files: &[NewFile<'a>]) -> Result<(), Unsaved<'a>>
+    ensures saved { OnOk result
+        (Makes (F.calls folder.old) (F.calls folder.new) (flat_map placed_for_good files.now)) }
+    ensures left { OnErr result
+        (MakesSome (LeavesRest files.now) (F.calls folder.old) (F.calls folder.new)) }
+{
+    for (at, file) in files.iter().enumerate() {
+        if let Err(error) = folder.rename(file.part.as_str(), file.name) {
+            remove_beside(folder, &files[at..]);
+            let name = file.name;
+            return Err(Unsaved { name, error });
+        }
+        folder.sync_folder(file.name);
+    }
+    Ok(())
+}
+
+// Removes the files beside these.
+fn remove_beside<F: Folder>(folder: &mut F, files: &[NewFile<'_>])
+    ensures { Makes (F.calls folder.old) (F.calls folder.new) (map removes_beside files.now) }
+{
+    for file in files {
+        folder.remove(file.part.as_str());
+    }
 }

@@ -3,3 +3,4 @@ pub mod OpenJobs
 pub mod Intervals
 pub mod Moves
 pub mod Account
+pub mod AccountJson

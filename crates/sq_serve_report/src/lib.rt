@@ -1,7 +1,10 @@
-//! What an engine did while it was served: a line for each short interval, and an account of the whole.
+//! What an engine did while it was served: a line for each short interval, or a chart, and an account of the whole, as text or
+//! as JSON.
 #![tactic(auto)]
 
 mod account;
+mod account_json;
+mod course;
 mod intervals;
 mod moves;
 mod open_jobs;

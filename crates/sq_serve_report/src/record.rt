@@ -1,16 +1,21 @@
 // What is recorded of an engine while it is served.
-ghost use Rattle.std.specs.Prelude.{◌≡◌, OnOk};
+ghost use Rattle.std.specs.Prelude.{◌≡◌, ◌++◌, codes, OnOk};
 ghost use Rattle.std.specs.Io.KnownBytes.{Appends};
 ghost use Rattle.sq_serve_report.specs.Tallies.{answers_noted, epochs_noted};
 ghost use Rattle.sq_serve_report.specs.OpenJobs.{waited};
+ghost use Rattle.serde_json.specs.Written.{compact_text};
 ghost use Rattle.sq_serve_report.specs.Account.{interval_lines, account_text};
+ghost use Rattle.sq_serve_report.specs.AccountJson.{account_data};
 
 use crate::account::{write_account, write_interval_lines};
+use crate::account_json::account_json;
+use crate::course::{begins_of, course_of};
 use crate::intervals::Intervals;
 use crate::moves::MoveRecord;
 use crate::open_jobs::OpenJobs;
 use crate::tallies::{AnswerTally, EpochTally};
 use sq_serve::ServeMark;
+use sq_summary::write_engine_svg;
 use std::alloc::{AllocError, Global};
 use std::io;
 use std::io::Write;
@@ -71,6 +76,30 @@ impl ServeRecord {
             (interval_lines self.now.intervals.over.items)) }
     {
         write_interval_lines(writer, &self.intervals.over)
+    }
+
+    /// Writes a chart of how many jobs were answered, and how many segments were complete, over time:
+    /// [`write_engine_svg`](sq_summary::write_engine_svg). An error is the writer's, or that there is no memory.
+    pub fn write_chart<W: Write>(&self, alloc: Global, writer: &mut W) -> io::Result<()> {
+        let course = course_of(alloc, &self.intervals.over, &self.moves.done)?;
+        let begins = begins_of(alloc, &self.moves.done)?;
+        write_engine_svg(alloc, writer, &course, &begins)
+    }
+
+    /// Writes the account as compact JSON, in one line. An error is the writer's, or that there is no memory.
+    pub fn write_json<W: Write>(&self, alloc: Global, writer: &mut W) -> io::Result<()>
+        ensures { OnOk result (Appends (W.contents writer.old) (W.contents writer.new)
+            (compact_text (account_data self.now.is_whole self.now.answers self.now.epochs
+            self.now.moves.done.items) ++ codes "\n")) }
+    {
+        let text = account_json(
+            alloc,
+            self.is_whole,
+            self.answers,
+            self.epochs,
+            &self.moves.done,
+        )?;
+        writeln!(writer, "{text}")
     }
 
     /// Writes an account: whether all was recorded, how many jobs were answered, the epochs and the pauses between them, and a

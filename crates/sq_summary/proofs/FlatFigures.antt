@@ -10,11 +10,11 @@ use Rattle.sq_summary.specs.declared.part_figures.PartFigures.{PartFigures}
 use Rattle.sq_summary.specs.declared.figures.RunFigures.{RunFigures}
 use Rattle.sq_summary.specs.FiguresJson.{link_data, spread_data, part_data, figures_data}
 
-are_flat : {X : Type 0} (data_of : X → Data) → ((x : X) → depth (data_of x) ≤ 2) → (xs : List X) → items_depth (items_of (map data_of xs)) ≤ 2
+pub are_flat : {X : Type 0} (data_of : X → Data) → ((x : X) → depth (data_of x) ≤ 2) → (xs : List X) → items_depth (items_of (map data_of xs)) ≤ 2
 are_flat data_of flat [] = omega arith
 are_flat data_of flat (x ∷ xs) = let one = flat x in let rest = are_flat data_of flat xs in omega arith
 
-are_whole : {X : Type 0} (data_of : X → Data) → ((x : X) → has_float (data_of x) ≡ false) → (xs : List X) → items_have_float (items_of (map data_of xs)) ≡ false
+pub are_whole : {X : Type 0} (data_of : X → Data) → ((x : X) → has_float (data_of x) ≡ false) → (xs : List X) → items_have_float (items_of (map data_of xs)) ≡ false
 are_whole data_of whole [] = refl
 are_whole data_of whole (x ∷ xs) = rw (whole x) (are_whole data_of whole xs)
 

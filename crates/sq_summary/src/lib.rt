@@ -1,9 +1,11 @@
 //! What a live run did, for a reader: its figures, as text and as JSON (what moved along each link, how jobs ended at
 //! each partition and how long they took, how long the run took), and its course over time, as comma-separated values
-//! and as a picture (how many jobs were answered and how many segments were complete, with what each answer was).
+//! and as a picture (how many jobs were answered and how many segments were complete, with what each answer was). What an
+//! engine did has such a picture too.
 #![tactic(auto)]
 
 mod csv;
+mod engine_svg;
 mod figures;
 mod form;
 mod intervals;
@@ -16,6 +18,7 @@ mod text_form;
 mod times;
 
 pub use csv::write_csv;
+pub use engine_svg::write_engine_svg;
 pub use figures::{LinkFigures, RunFigures};
 pub use form::FiguresForm;
 pub use json_form::figures_json;

@@ -26,7 +26,7 @@ pub(crate) const WIDTH: u64 = 1400;
 pub(crate) const HEIGHT: u64 = 600;
 
 /// What is written before the ticks: the colors, the lines of percents, and the titles of both axes.
-const HEAD: &[u8] =
+pub(crate) const HEAD: &[u8] =
     br##"<svg xmlns="http://www.w3.org/2000/svg" viewBox="0 0 1600 900" width="960" height="540" font-family="system-ui, sans-serif" font-size="26">
 <style>
 .back { fill: #fcfcfb } .ink { fill: #0b0b0b } .soft { fill: #52514e }
@@ -81,14 +81,14 @@ const STEPS: [u64; 27] = [
 ];
 
 /// The ticks; those are drawn that lie within the run.
-const TICKS: [u64; 9] = [0, 1, 2, 3, 4, 5, 6, 7, 8];
+pub(crate) const TICKS: [u64; 9] = [0, 1, 2, 3, 4, 5, 6, 7, 8];
 
 /// The axis of time.
-const AXIS: &[u8] = b"<path class=\"axis\" d=\"M130 760H1530\"/>\n";
+pub(crate) const AXIS: &[u8] = b"<path class=\"axis\" d=\"M130 760H1530\"/>\n";
 
 /// What a curve shows.
 #[derive(Clone, Copy, Debug, PartialEq, Eq)]
-enum Curve {
+pub(crate) enum Curve {
     /// How many jobs are answered.
     Jobs,
     /// How many segments are complete.
@@ -199,8 +199,8 @@ fn write_stage<W: Write>(writer: &mut W, micros: u64, start: StageStart) -> io::
     write_stage_label(writer, x, start.stage)
 }
 
-// Writes the line where a stage begins, this far from the left.
-fn write_stage_rule<W: Write>(writer: &mut W, x: u64) -> io::Result<()>
+/// Writes the line where a stage begins, this far from the left.
+pub(crate) fn write_stage_rule<W: Write>(writer: &mut W, x: u64) -> io::Result<()>
     ensures { OnOk result (Appends (W.contents writer.old) (W.contents writer.new)
         (stage_rule x)) }
 {
@@ -218,8 +218,8 @@ fn write_stage_label<W: Write>(writer: &mut W, x: u64, stage: u64) -> io::Result
     )
 }
 
-// Writes a piece of a curve and what it is, this far from the left, and the curve.
-fn write_drawn<W: Write>(
+/// Writes a piece of a curve and what it is, this far from the left, and the curve.
+pub(crate) fn write_drawn<W: Write>(
     writer: &mut W,
     curve: Curve,
     all: Moment,
@@ -252,8 +252,8 @@ fn step_within(micros: u64, most: u64) -> u64
     found.copied().unwrap_or(micros)
 }
 
-// How many microseconds lie between two ticks of an axis of this many.
-fn tick_step(micros: u64) -> u64
+/// How many microseconds lie between two ticks of an axis of this many.
+pub(crate) fn tick_step(micros: u64) -> u64
     ensures { result ≡ tick_step micros }
 {
     step_within(micros, 8)
@@ -267,8 +267,13 @@ pub(crate) fn interval_len(micros: u64) -> u64
     step_within(micros, INTERVALS).max(1)
 }
 
-// Writes ticks of an axis of this many microseconds, with so many between two of them.
-fn write_ticks<W: Write>(writer: &mut W, micros: u64, step: u64, ticks: &[u64]) -> io::Result<()>
+/// Writes ticks of an axis of this many microseconds, with so many between two of them.
+pub(crate) fn write_ticks<W: Write>(
+    writer: &mut W,
+    micros: u64,
+    step: u64,
+    ticks: &[u64],
+) -> io::Result<()>
     ensures { OnOk result (Appends (W.contents writer.old) (W.contents writer.new)
         (flat_map (tick_text micros step) ticks.now)) }
 {

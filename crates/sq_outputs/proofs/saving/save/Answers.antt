@@ -1,11 +1,11 @@
-use Rattle.std.proofs.Common.{◌∙◌, sym}
-use Rattle.sq_outputs.proofs.Made.{removed, no_error}
+use Rattle.sq_outputs.proofs.Made.{saved_all, gave_up, gave_up_writing}
 use Rattle.sq_outputs.proofs.saving.save.Goals as goal
-use Rattle.sq_outputs.proofs.saving.save.Goals.{then-is_err, else-is_err}
+
+pub returns-clause-saved : goal.returns-clause-saved
+returns-clause-saved g c = saved_all c.take_places.result _ _ _ _ c.in_ok-write_beside.ensures.saved c.take_places.ensures.saved
 
 pub returns-clause-given_up : goal.returns-clause-given_up
-returns-clause-given_up g c =
-    elim c.if-is_err.branch [
-      | then-is_err w ↦ rw w.folder-is (removed c.replace-saved.result _ _ _ _ _ _ _ (w.as_str-then-is_err.ensures.value ∙ c.in_ok-part.ensures) c.replace-saved.ensures.broken_off w.remove.ensures)
-      | else-is_err w ↦ no_error c.replace-saved.result _ (sym c.is_err.ensures.value ∙ w.if-is_err.false)
-    ]
+returns-clause-given_up g c = gave_up c.take_places.result _ _ _ _ c.in_ok-write_beside.ensures.saved c.take_places.ensures.left
+
+pub returns-in_err-write_beside-clause-given_up : goal.returns-in_err-write_beside-clause-given_up
+returns-in_err-write_beside-clause-given_up g c = gave_up_writing c.from_residual.result _ _ _ c.in_err-write_beside.ensures.left
