@@ -24,13 +24,14 @@ const NO_BYTE: u8 = b'?';
 // Room for the line of a row with a short note.
 const LINE_ROOM: usize = 64;
 
-/// Whether a record names the columns.
+/// Whether a record names the columns, in letters of either case.
 pub(crate) fn is_header(values: &ByteRecord) -> bool {
     values.len() == NAMES.len()
-        && NAMES
-            .iter()
-            .enumerate()
-            .all(|(column, name)| values.get(column) == Some(*name))
+        && NAMES.iter().enumerate().all(|(column, name)| {
+            values
+                .get(column)
+                .is_some_and(|field| field.eq_ignore_ascii_case(name))
+        })
 }
 
 /// The line of the row that a record says: the word `row`, and a word for each field. A faulty field has a faulty word.

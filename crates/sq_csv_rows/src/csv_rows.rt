@@ -3,14 +3,16 @@ ghost use Rattle.std.specs.Prelude.{None};
 
 use crate::columns::{is_header, record_line};
 use crate::line_by_line::LineByLine;
+use crate::record_flaw::{PlacedFlaw, RecordFlaw};
 use crate::record_lines::RecordLines;
 use csv::{ByteRecord, ErrorKind, Reader, ReaderBuilder};
-use std::alloc::Global;
+use sq_row_lines::NO_ROW_LINE;
+use std::alloc::{AllocError, Global};
 use std::io;
 use std::io::{ErrorKind as IoErrorKind, Read};
 
 /// The rows that a table of comma-separated values says, as the lines of a file of rows: each record is a line, but for a first
-/// one that names the columns.
+/// one that names the columns. They end with the first record that no row can be, since it is too long or inside quotes.
 #[derive(Drop)]
 pub struct CsvRows<'a, R: Read> {
     alloc: Global,
@@ -65,27 +67,51 @@ impl<R: Read> CsvRows<'_, R> {
         let found = self.read_record()?;
         let is_first = !self.is_begun;
         self.is_begun = true;
-        if found && is_first && is_header(&self.record) {
+        let is_whole = self.table.get_ref().flaw().is_none();
+        if found && is_first && is_whole && is_header(&self.record) {
             return self.read_record();
         }
         Ok(found)
     }
 
-    // Makes a line of the next record. Behind the last one, and behind one that can't be read, there is none.
+    // Makes a line of the next record. After the last one, and after one that can't be read, there is none.
     fn read_line(&mut self) -> io::Result<()> {
         if self.is_over {
             return Ok(());
         }
         self.is_over = true;
         if self.read_row()? {
-            let last = self.table.get_ref().lines();
-            self.lines
-                .note(last.saturating_sub(line_ends(&self.record)))?;
-            self.line = record_line(self.alloc, &self.record)?;
+            self.note_record()?;
+            self.line = self.line_of_record()?;
             self.given = 0;
             self.is_over = false;
         }
         Ok(())
+    }
+
+    // Notes where the record is, and what is wrong with it.
+    fn note_record(&self) -> Result<(), AllocError> {
+        let table = self.table.get_ref();
+        match table.flaw() {
+            Some(placed) => self.lines.note(placed.line, Some(placed.flaw)),
+            None => {
+                let first = table.lines().saturating_sub(line_ends(&self.record));
+                self.lines.note(first, None)
+            }
+        }
+    }
+
+    // The line of the record. That of one inside quotes at the end is no row's.
+    fn line_of_record(&self) -> Result<Vec<u8>, AllocError> {
+        match self.table.get_ref().flaw() {
+            Some(
+                PlacedFlaw {
+                    flaw: RecordFlaw::OpenQuote { .. },
+                    ..
+                },
+            ) => Vec::from_slice(self.alloc, NO_ROW_LINE),
+            _ => record_line(self.alloc, &self.record),
+        }
     }
 }
 

@@ -3,11 +3,15 @@
 
 mod columns;
 mod csv_rows;
+mod field_place;
 mod line_by_line;
+mod open_field;
+mod record_flaw;
 mod record_lines;
 mod told_column;
 
 pub use columns::NOTE_COLUMN;
 pub use csv_rows::CsvRows;
+pub use record_flaw::RecordFlaw;
 pub use record_lines::RecordLines;
 pub use told_column::ToldColumn;

@@ -1,6 +1,8 @@
-// A reader that gives one line at a time.
-ghost use Rattle.std.specs.Prelude.{None};
+// A reader that gives one line at a time, up to where a record is cut off.
+ghost use Rattle.std.specs.Prelude.{◌≡◌, ◌≤◌, length, None};
 
+use crate::open_field::OpenField;
+use crate::record_flaw::PlacedFlaw;
 use std::alloc::Global;
 use std::io;
 use std::io::{BufRead, BufReader, Read};
@@ -8,12 +10,32 @@ use std::io::{BufRead, BufReader, Read};
 // The byte that ends a line.
 const LINE_END: u8 = b'\n';
 
-/// Another reader's bytes, of one line at a time, so that the lines which were given can be counted.
+// The byte order mark, which the reader of records passes over at the start of a table.
+const MARK: [u8; 3] = [0xef, 0xbb, 0xbf];
+
+/// Another reader's bytes, of one line at a time, so that the lines which were given can be counted. It ends where a record is cut
+/// off.
 #[derive(Drop)]
 pub(crate) struct LineByLine<R: Read> {
     inner: BufReader<R>,
     is_within: bool,
     lines: u64,
+    // The field in which the bytes that were given end.
+    field: OpenField,
+    // How many bytes of the mark were given, if no others.
+    mark: Option<usize>,
+    end: TableEnd,
+}
+
+/// Whether a table has ended, and what is wrong with its last record then.
+#[derive(Clone, Copy, Debug, PartialEq, Eq)]
+pub(crate) enum TableEnd {
+    /// More may come.
+    Open,
+    /// It is cut off, which wasn't said yet.
+    Coming(Option<PlacedFlaw>),
+    /// It was said that nothing more comes.
+    Over(Option<PlacedFlaw>),
 }
 
 impl<R: Read + Drop> LineByLine<R> {
@@ -23,6 +45,9 @@ impl<R: Read + Drop> LineByLine<R> {
             inner: BufReader::new(alloc, inner)?,
             is_within: false,
             lines: 0,
+            field: OpenField::first(),
+            mark: Some(0),
+            end: TableEnd::Open,
         })
     }
 }
@@ -31,6 +56,24 @@ impl<R: Read> LineByLine<R> {
     /// How many lines were given, one that isn't given to its end among them.
     pub(crate) fn lines(&self) -> u64 {
         self.lines
+    }
+
+    /// What is wrong with the record at which it ended.
+    pub(crate) fn flaw(&self) -> Option<PlacedFlaw> {
+        match self.end {
+            TableEnd::Over(flaw) => flaw,
+            _ => None,
+        }
+    }
+
+    // Says that nothing more comes.
+    fn close(&mut self) -> usize
+        ensures { result ≡ 0 }
+    {
+        if let TableEnd::Coming(flaw) = self.end {
+            self.end = TableEnd::Over(flaw);
+        }
+        0
     }
 
     // Counts the line that these bytes are of.
@@ -43,13 +86,53 @@ impl<R: Read> LineByLine<R> {
         }
         self.is_within = *last != LINE_END;
     }
+
+    // Follows the fields through bytes of the line that was counted last, and gives how many of them come before a record is cut
+    // off.
+    fn follow(&mut self, bytes: &[u8]) -> usize
+        ensures { result ≤ length bytes.now }
+    {
+        for (at, byte) in bytes.iter().enumerate() {
+            match self.field.with(*byte, self.lines) {
+                Ok(field) => self.enter(field, *byte),
+                Err(flaw) => {
+                    self.end = TableEnd::Coming(flaw);
+                    return at;
+                }
+            }
+        }
+        bytes.len()
+    }
+
+    // Takes a field to be the one in which `byte` is, unless that ends the mark, which is in no field.
+    fn enter(&mut self, field: OpenField, byte: u8) {
+        self.mark = mark_with(self.mark, byte);
+        self.field = if self.mark == Some(MARK.len()) {
+            OpenField::first()
+        } else {
+            field
+        };
+    }
+}
+
+// How many bytes of the mark were given after `byte`, if no others.
+fn mark_with(given: Option<usize>, byte: u8) -> Option<usize> {
+    let given = given?;
+    (MARK.get(given) == Some(&byte)).then_some(given.saturating_add(1))
 }
 
 impl<R: Read> Read for LineByLine<R> {
     ghost remaining = { λ _. None };
 
     fn read(&mut self, buf: &mut [u8]) -> io::Result<usize> {
+        if buf.is_empty() || self.end != TableEnd::Open {
+            return Ok(self.close());
+        }
         let held = self.inner.fill_buf()?;
+        if held.is_empty() {
+            self.end = TableEnd::Coming(self.field.flaw_at_end());
+            return Ok(self.close());
+        }
         let end = held
             .iter()
             .position(|byte| *byte == LINE_END)
@@ -58,6 +141,9 @@ impl<R: Read> Read for LineByLine<R> {
         buf[..count].copy_from_slice(&held[..count]);
         self.inner.consume(count);
         self.count(&buf[..count]);
-        Ok(count)
+        match self.follow(&buf[..count]) {
+            0 => Ok(self.close()),
+            given => Ok(given),
+        }
     }
 }

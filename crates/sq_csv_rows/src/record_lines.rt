@@ -1,4 +1,5 @@
 // The lines of a table's records.
+use crate::record_flaw::RecordFlaw;
 use std::alloc::{AllocError, Global};
 use std::cell::RefCell;
 
@@ -22,6 +23,8 @@ struct LineList {
     jumps: Vec<Jump>,
     // How many records were noted.
     count: u64,
+    // What is wrong with the last of them.
+    flaw: Option<RecordFlaw>,
 }
 
 impl RecordLines {
@@ -31,14 +34,18 @@ impl RecordLines {
             lines: RefCell::new(LineList {
                 jumps: Vec::new(alloc),
                 count: 0,
+                flaw: None,
             }),
         }
     }
 
-    /// Notes that one more record begins on this line.
-    pub(crate) fn note(&self, line: u64) -> Result<(), AllocError> {
+    /// Notes that one more record begins on `line`, and what is wrong with it.
+    pub(crate) fn note(&self, line: u64, flaw: Option<RecordFlaw>) -> Result<(), AllocError> {
         match self.lines.try_borrow_mut() {
-            Ok(mut lines) => lines.add(line),
+            Ok(mut lines) => {
+                lines.flaw = flaw;
+                lines.add(line)
+            }
             Err(_) => Ok(()),
         }
     }
@@ -47,6 +54,16 @@ impl RecordLines {
     pub fn line_of(&self, record: u64) -> Option<u64> {
         let lines = self.lines.try_borrow().ok()?;
         lines.line_of(record)
+    }
+
+    /// What is wrong with the record of this number, from 1, beside its fields. Only the last one may have such a flaw.
+    pub fn flaw_of(&self, record: u64) -> Option<RecordFlaw> {
+        let lines = self.lines.try_borrow().ok()?;
+        if record == lines.count {
+            lines.flaw
+        } else {
+            None
+        }
     }
 }
 

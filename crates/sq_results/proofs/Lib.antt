@@ -1,3 +1,4 @@
 mod Lent
 mod Ranging
 mod Rising
+mod Told

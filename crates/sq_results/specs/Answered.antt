@@ -1,31 +1,38 @@
 -- What the jobs of a run were answered.
-use Rattle.std.specs.Prelude.{ℕ, ◌==◌, not, List, [], ◌∷◌, ◌++◌, if◌then◌else◌, Option, is_some, find, count_by}
-use Rattle.std.specs.Option.{option_map_or}
+use Rattle.std.specs.Prelude.{◌≡◌, ℕ, ◌==◌, nat_eq, not, List, [], Option, is_some, option_map, find, count_by}
+use Rattle.std.specs.Map.{lookup}
+use Rattle.std.specs.Option.{option_map_or, option_or}
+use Rattle.sq_model.specs.declared.answer.Answer.{Answer}
 use Rattle.sq_model.specs.declared.answer.Answer.TheVariants.{Replied}
 use Rattle.sq_text.specs.Texts.{answer_line}
 use Rattle.sq_node_model.specs.NodeValue.{ReceiptValue}
-use Rattle.sq_results.specs.declared.replies.ToldAnswer.{ToldAnswer}
 
--- the ids of jobs, in the order in which they are posted, and what they were answered
+-- the ids of jobs, in the order in which they are posted, and what jobs were answered, each by its id
 pub record RepliesValue : Type 0 where
   pub ids : List ℕ
-  pub told : List ToldAnswer
+  pub told : List (ℕ × Answer)
 
 -- the answer of the job with this id
-abbrev pub told_of : List ToldAnswer → ℕ → Option ToldAnswer
-told_of told id = find (λ (one : ToldAnswer). one.id == id) told
+abbrev pub told_of : List (ℕ × Answer) → ℕ → Option Answer
+told_of told id = lookup (nat_eq id) told
 
 -- the line of it; none where there is no answer
-abbrev pub reply_lines : List ToldAnswer → ℕ → List ℕ
-reply_lines told id =
-    option_map_or (λ (one : ToldAnswer). answer_line one.answer) (told_of told id) []
+abbrev pub reply_lines : List (ℕ × Answer) → ℕ → List ℕ
+reply_lines told id = option_map_or answer_line (told_of told id) []
 
 -- how many jobs have no answer
 abbrev pub unanswered_count : RepliesValue → ℕ
 unanswered_count r = count_by (λ id. not (is_some (told_of r.told id))) r.ids
 
--- the answers with one receipt more: of several of one id the first counts
-abbrev pub told_after : List ToldAnswer → ReceiptValue → List ToldAnswer
-told_after told receipt =
-    if is_some (told_of told receipt.id) then told
-    else told ++ record { id = receipt.id; answer = Replied receipt.id receipt.reply } ∷ []
+-- what a receipt answers
+abbrev pub receipt_answer : ReceiptValue → Answer
+receipt_answer receipt = Replied receipt.id receipt.reply
+
+-- the answer in the first of these receipts that is of the job with this id
+abbrev pub first_answer : List ReceiptValue → ℕ → Option Answer
+first_answer receipts id = option_map receipt_answer (find (λ receipt. receipt.id == id) receipts)
+
+-- once receipts are taken, a job that had no answer has the first one in them
+pub record IsToldAfter (old : RepliesValue) (receipts : List ReceiptValue) (new : RepliesValue) : Type 0 where
+  pub ids : new.ids ≡ old.ids
+  pub told : (id : ℕ) → told_of new.told id ≡ option_or (told_of old.told id) (first_answer receipts id)

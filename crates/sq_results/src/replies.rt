@@ -1,30 +1,24 @@
 // What the jobs of a run were answered.
-ghost use Rattle.std.specs.Prelude.{◌≡◌, ◌++◌, ◌∷◌, [], fold, is_some, IfOk, OnOk};
+ghost use Rattle.std.specs.Prelude.{◌≡◌, ◌++◌, ◌∷◌, [], is_some, IfOk, OnOk};
 ghost use Rattle.std.specs.List.{flat_map};
-ghost use Rattle.std.specs.Option.{option_copied};
 ghost use Rattle.std.specs.Io.KnownBytes.{Appends};
-ghost use Rattle.sq_results.specs.Answered.{told_of, reply_lines, unanswered_count, told_after};
+ghost use Rattle.sq_results.specs.Answered.{IsToldAfter, told_of, reply_lines, unanswered_count};
 
 use sq_model::Answer;
 use sq_node::Receipt;
 use sq_text::{WriteFault, write_answer};
 use std::alloc::{AllocError, Global};
+use std::collections::HashMap;
 use std::io::Write;
 use std::marker::Model;
-
-/// What a job was answered.
-#[derive(Drop)]
-pub(crate) struct ToldAnswer {
-    pub(crate) id: u64,
-    pub(crate) answer: Answer,
-}
 
 /// The ids of jobs, in the order in which they are posted, and what they were answered. To a contract it is a
 /// `RepliesValue`.
 #[derive(Drop)]
 pub struct Replies {
     ids: Vec<u64>,
-    told: Vec<ToldAnswer>,
+    // By the id of the job.
+    told: HashMap<u64, Answer>,
 }
 
 impl Model for Replies {
@@ -32,7 +26,7 @@ impl Model for Replies {
 
     ghost Value = { RepliesValue };
 
-    ghost view = { λ r. record { ids = r.ids.items; told = r.told.items } };
+    ghost view = { λ r. record { ids = r.ids.items; told = r.told.entries } };
 }
 
 impl Replies {
@@ -42,11 +36,11 @@ impl Replies {
     {
         Replies {
             ids: Vec::new(alloc),
-            told: Vec::new(alloc),
+            told: HashMap::new(alloc),
         }
     }
 
-    /// Takes a job that is posted, by its id, behind those before.
+    /// Takes a job that is posted, by its `id`, after those before.
     pub fn post(&mut self, id: u64) -> Result<(), AllocError>
         ensures { OnOk result (self.new ≡ record self.old { ids = self.old.ids ++ id ∷ [] }) }
     {
@@ -56,8 +50,7 @@ impl Replies {
 
     /// Takes the answers of receipts. Of several with one id the first counts.
     pub fn take(&mut self, receipts: &[Receipt]) -> Result<(), AllocError>
-        ensures { OnOk result
-            (self.new ≡ record self.old { told = fold told_after self.old.told receipts.now }) }
+        ensures { OnOk result (IsToldAfter self.old receipts.now self.new) }
     {
         for receipt in receipts {
             self.take_one(receipt)?;
@@ -67,31 +60,20 @@ impl Replies {
 
     // Takes the answer of a receipt, unless one with its id was taken.
     fn take_one(&mut self, receipt: &Receipt) -> Result<(), AllocError>
-        ensures { OnOk result
-            (self.new ≡ record self.old { told = told_after self.old.told receipt.now }) }
+        ensures { OnOk result (IsToldAfter self.old (receipt.now ∷ []) self.new) }
     {
-        if self.told(receipt.id).is_some() {
+        if self.told.contains_key(&receipt.id) {
             return Ok(());
         }
         let answer = Answer::Replied {
             id: receipt.id,
             reply: receipt.reply.clone()?,
         };
-        self.told.push(ToldAnswer {
-            id: receipt.id,
-            answer,
-        })?;
+        self.told.insert(receipt.id, answer)?;
         Ok(())
     }
 
-    // The answer of the job with this id.
-    fn told(&self, id: u64) -> Option<&ToldAnswer>
-        ensures { option_copied result ≡ told_of self.now.told id }
-    {
-        self.told.iter().find(|told| told.id == id)
-    }
-
-    /// Writes a line for each job that was answered, in the order in which they were posted, and gives how many weren't.
+    /// Writes a line for each job that was answered, in the order in which they were posted, and returns how many weren't.
     pub fn write<W: Write>(&self, writer: &mut W) -> Result<u64, WriteFault>
         ensures lines { OnOk result (Appends (W.contents writer.old) (W.contents writer.new)
             (flat_map (reply_lines self.now.told) self.now.ids)) }
@@ -112,9 +94,9 @@ impl Replies {
             (reply_lines self.now.told id)) }
         ensures answered { IfOk result (λ answered. answered ≡ is_some (told_of self.now.told id)) }
     {
-        match self.told(id) {
-            Some(told) => {
-                write_answer(writer, &told.answer)?;
+        match self.told.get(&id) {
+            Some(answer) => {
+                write_answer(writer, answer)?;
                 Ok(true)
             }
             None => Ok(false),

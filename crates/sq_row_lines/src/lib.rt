@@ -3,4 +3,4 @@
 
 mod row_lines;
 
-pub use row_lines::{NO_ROW, RowLines};
+pub use row_lines::{NO_ROW, NO_ROW_LINE, RowLines};

@@ -13,8 +13,8 @@ const FRONT: [u8; 4] = *b"row ";
 /// What replaces a line that isn't a row's: it is no row's line, and begins as one.
 pub const NO_ROW: &[u8] = b"row ?";
 
-// The same with its end.
-const NO_ROW_LINE: [u8; 6] = *b"row ?\n";
+/// The same with its end.
+pub const NO_ROW_LINE: &[u8] = b"row ?\n";
 
 /// The lines of another reader, as long as each begins as a row's line does. In place of the first one that doesn't it gives
 /// [`NO_ROW`], and nothing more.

@@ -1,6 +1,7 @@
-use Rattle.std.proofs.Common.{◌≡◌, fold, take}
-use Rattle.sq_results.specs.Answered.{told_after}
+use Rattle.std.proofs.Common.{take}
+use Rattle.sq_results.specs.Answered.{IsToldAfter}
 use Rattle.sq_results.proofs.replies.Replies.take.Given as goal
 
+-- the receipts so far were taken
 abbrev pub invariant-loop-receipt : goal.invariant-loop-receipt
-invariant-loop-receipt l = l.self ≡ record l.initial.self { told = fold told_after l.initial.self.told (take l.receipt-index l.receipts) }
+invariant-loop-receipt l = IsToldAfter l.initial.self (take l.receipt-index l.receipts) l.self

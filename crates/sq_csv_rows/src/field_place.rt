@@ -1,0 +1,41 @@
+// Where bytes of a table are in its fields.
+ghost use Rattle.std.specs.Prelude.{◌≡◌};
+ghost use Rattle.csv.specs.declared.parser.State.{State};
+ghost use Rattle.csv.specs.Machine.{step};
+ghost use Rattle.csv.specs.Reading.{default_config};
+ghost use Rattle.sq_csv_rows.specs.Fields.{field_place, IsUsual};
+
+/// The byte that ends a field within a record.
+pub(crate) const COMMA: u8 = b',';
+
+// The byte around a field that may have commas and line ends in it.
+const QUOTE: u8 = b'"';
+
+/// Where the bytes that were read end.
+#[derive(Clone, Copy, Debug, PartialEq, Eq)]
+pub(crate) enum FieldPlace {
+    /// At the start of a field.
+    Start,
+    /// In a field, outside quotes.
+    Unquoted,
+    /// Inside the quotes of a field.
+    Quoted,
+    /// After a quote inside them, which closes them unless another quote follows.
+    AfterQuote,
+}
+
+impl FieldPlace {
+    /// The place after `byte`, as the reader of records has it.
+    pub(crate) fn after(self, byte: u8) -> FieldPlace
+        ensures { (state : State) → IsUsual state → self ≡ field_place state
+            → result ≡ field_place (step default_config state byte).0 }
+    {
+        match self {
+            FieldPlace::Quoted if byte == QUOTE => FieldPlace::AfterQuote,
+            FieldPlace::Quoted => FieldPlace::Quoted,
+            FieldPlace::Start | FieldPlace::AfterQuote if byte == QUOTE => FieldPlace::Quoted,
+            _ if matches!(byte, COMMA | b'\r' | b'\n') => FieldPlace::Start,
+            _ => FieldPlace::Unquoted,
+        }
+    }
+}
