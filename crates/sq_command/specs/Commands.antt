@@ -139,12 +139,13 @@ folder_rule = record (new_rule (codes "folder")) { value_names = 1; required = t
 abbrev pub demo_shape : Shape
 demo_shape = larger (larger worked_shape (flag_rule (codes "stages"))) folder_rule
 
--- the subcommand that serves an engine, with its options for numbers
+-- the subcommand that serves an engine, with its options for numbers and the flag that ends it early
 abbrev pub served_shape : Shape
 served_shape =
-    larger (larger (new_shape (codes "serve"))
+    larger (larger (larger (new_shape (codes "serve"))
     (counted_rule (codes "pumps") 1 MAX_PUMPS (codes "1")))
-    (counted_rule (codes "fold-after") 1 MAX_FOLD_AFTER (codes "262144"))
+    (counted_rule (codes "fold-after") 1 MAX_FOLD_AFTER (codes "262144")))
+    (flag_rule (codes "strict"))
 
 -- and for reports
 abbrev pub reported_shape : Shape

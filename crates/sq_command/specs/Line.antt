@@ -91,7 +91,7 @@ abbrev pub IsWorkLine : (List Row → Task → Type 0) → List Row → Line →
 IsWorkLine IsTask rows (Work task input) = IsTask rows task × IsInputOf rows input
 IsWorkLine IsTask rows (Owner keys plans width) = ⊥
 IsWorkLine IsTask rows (Demo demo folder) = ⊥
-IsWorkLine IsTask rows (Serve pumps fold_after files file reports) = ⊥
+IsWorkLine IsTask rows (Serve pumps fold_after strict files file reports) = ⊥
 IsWorkLine IsTask rows (Explain number) = ⊥
 
 -- the line asks for the number that is named
@@ -99,7 +99,7 @@ abbrev pub IsExplainLine : List Row → Line → Type 0
 IsExplainLine rows (Work task input) = ⊥
 IsExplainLine rows (Owner keys plans width) = ⊥
 IsExplainLine rows (Demo demo folder) = ⊥
-IsExplainLine rows (Serve pumps fold_after files file reports) = ⊥
+IsExplainLine rows (Serve pumps fold_after strict files file reports) = ⊥
 IsExplainLine rows (Explain number) = GivenNumber (one_of (codes "number") rows) number
 
 -- a form is refused since two are asked for
@@ -171,6 +171,6 @@ LineIsWithin (Work task input) = IsWithin task
 LineIsWithin (Owner keys plans width) =
     (1 ≤ length keys.items) × IfSome width (λ n. (1 ≤ n) × (n ≤ MAX_WIDTH))
 LineIsWithin (Demo demo folder) = DemoIsWithin demo
-LineIsWithin (Serve pumps fold_after files file reports) =
+LineIsWithin (Serve pumps fold_after strict files file reports) =
     (1 ≤ pumps) × (pumps ≤ MAX_PUMPS) × (1 ≤ fold_after) × (fold_after ≤ MAX_FOLD_AFTER)
 LineIsWithin (Explain number) = Unit {0}

@@ -56,7 +56,7 @@ IsOwnerLine rows (Owner keys plans width) =
     × GivenNumberOf 1 MAX_WIDTH (one_of (codes "width") rows) width
 IsOwnerLine rows (Work task input) = ⊥
 IsOwnerLine rows (Demo demo folder) = ⊥
-IsOwnerLine rows (Serve pumps fold_after files file reports) = ⊥
+IsOwnerLine rows (Serve pumps fold_after strict files file reports) = ⊥
 IsOwnerLine rows (Explain number) = ⊥
 
 -- its options are refused for the plans or for the keys

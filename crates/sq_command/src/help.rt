@@ -332,6 +332,8 @@ pub const SERVE_ABOUT: &str = "Answers jobs for as long as lines come, while row
 
 pub const FOLD_AFTER: &str = "Fold logs after so many answers";
 
+pub const SERVE_STRICT: &str = "End after the first line with a fault or a refusal";
+
 pub const SERVE_TIMELINE: &str = "Write into this file what was done in each 10 ms";
 
 pub const PLAN: &str = "The plan to begin with, in a file of its own";
@@ -359,6 +361,7 @@ squall serve examples/engine.txt < /dev/null
 Exit status:
   0  sound
   2  a fault that ends it, or a command line that is refused
+  3  with --strict: a line had a fault or was refused
   4  unsound";
 
 /// Help on `explain` and its number, and the text behind these.

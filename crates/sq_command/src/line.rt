@@ -45,6 +45,8 @@ pub enum Line<'a> {
         pumps: u32,
         /// After how many answers the logs are audited and folded.
         fold_after: u64,
+        /// Whether it ends after the first line with a fault or a refusal.
+        strict: bool,
         /// The files of the plan and of the rows, where they have files of their own.
         files: Option<EngineFiles<'a>>,
         /// The name of the file that is read before standard input, where there is one.

@@ -8,10 +8,10 @@ ghost use Rattle.sq_command.specs.Serve.{AreEngineFilesOf, AreReportsOf, IsEngin
 ghost use Rattle.sq_command.specs.Line.{LineIsWithin};
 
 use crate::clash::Clash;
-use crate::commands::{counted, file, subcommand, with, with_path};
+use crate::commands::{counted, file, subcommand, with, with_flag, with_path};
 use crate::help;
 use crate::line::{EngineFiles, EngineReports, Line};
-use crate::options::{main_of, name_of, number_of};
+use crate::options::{is_given, main_of, name_of, number_of};
 use crate::tasks::{MAX_PUMPS, PUMPS};
 use clap::{ArgMatches, Command};
 use std::alloc::{AllocError, Global};
@@ -25,7 +25,7 @@ pub const FOLD_AFTER: u64 = 262_144;
 // As the texts of these defaults say.
 const _: () = prove!(FOLD_AFTER == 262_144 && PUMPS == 1);
 
-// The subcommand with its options for numbers.
+// The subcommand with its options for numbers, and the flag that ends it early.
 fn served<'a>(alloc: Global) -> Result<Command<'a>, AllocError>
     ensures { HasShape served_shape result }
 {
@@ -34,7 +34,8 @@ fn served<'a>(alloc: Global) -> Result<Command<'a>, AllocError>
     let pumped = with(plain, pumps);
     let after = help::FOLD_AFTER;
     let folds = counted(alloc, "fold-after", after, 1, MAX_FOLD_AFTER, "262144");
-    with(pumped, folds)
+    let folding = with(pumped, folds);
+    with_flag(alloc, folding, "strict", help::SERVE_STRICT)
 }
 
 // The subcommand with its options for reports too.
@@ -63,6 +64,7 @@ pub fn serve_line<'a>(options: &ArgMatches<'a>) -> Result<Line<'a>, Clash>
     Ok(Line::Serve {
         pumps: pumps as u32,
         fold_after: number_of(options, "fold-after", 1, MAX_FOLD_AFTER, FOLD_AFTER),
+        strict: is_given(options, "strict"),
         files: engine_files_of(options)?,
         file: main_of(options),
         reports: reports_of(options),

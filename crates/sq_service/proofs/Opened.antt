@@ -1,25 +1,13 @@
 -- An engine that is opened and served, with its desk.
 use Rattle.std.proofs.Common.{◌≡◌, ⊎_elim, inl, inr, ℕ, false, List, [], sym, subst}
 use Rattle.std.specs.Prelude.{Option, replicate}
-use Rattle.rtrb.specs.Ring.{received}
 use Rattle.sq_ranges.specs.OpeningValue.{OpeningValue}
-use Rattle.sq_server.specs.declared.desk.ServeDesk.{ServeDesk}
 use Rattle.sq_server.specs.declared.ending.ServeEnding.{ServeEnding}
 use Rattle.sq_server.specs.declared.feed.Fed.{Fed}
 use Rattle.sq_server.specs.declared.outlet.Outlet.{Outlet}
-use Rattle.sq_server.specs.Becoming.{desk_value}
 use Rattle.sq_service.specs.Service.{first_desk, ServesNone, ServesOpening, ServesSome}
 
 module _ {W : Type 0} (contents : W → Option (List ℕ)) where
-  -- a new desk
-  pub first_desk_is : (outlet : Outlet W) (heard : List Fed) (parts : ℕ) (desk : ServeDesk W)
-      → desk.outlet ≡ outlet → desk.lacks_memory ≡ false → received desk.feed ≡ heard → desk.sides ≡ replicate parts []
-      → desk_value contents desk ≡ first_desk contents outlet heard parts
-  first_desk_is outlet heard parts desk there has_memory fed sides =
-      subst (λ (o : Outlet W). desk_value contents desk ≡ first_desk contents o heard parts) there
-      (subst (λ (h : List Fed). desk_value contents desk ≡ first_desk contents desk.outlet h parts) fed
-      (rw (has_memory, sides)))
-
   -- an engine with some opening was served, or there was no memory for it
   pub opening_serves_some : (o : OpeningValue) (heard : List Fed) (outlet : Outlet W) (ending : ServeEnding) (new : Outlet W)
       → ServesOpening contents o (first_desk contents outlet heard o.new.parts) outlet ending new → ServesSome contents outlet ending new

@@ -23,6 +23,7 @@ use Rattle.sq_engine.specs.Engine.{Stands, KeepsHistory}
 use Rattle.sq_engine.specs.Taken.{LeavesPage, TakesPage}
 use Rattle.sq_engine.specs.Ending.{paged, page_jobs, AllSound}
 use Rattle.sq_engine.proofs.Endings.{page_speaks, ends_as_planned}
+use Rattle.sq_server.specs.declared.ending.InputOutcome.{InputOutcome}
 use Rattle.sq_server.specs.declared.ending.ServeEnding.{ServeEnding}
 use Rattle.sq_server.specs.declared.ending.ServeEnding.TheVariants as ending
 use Rattle.sq_server.specs.Becoming.{ServeDeskValue}
@@ -164,10 +165,10 @@ module _ (o : OpeningValue) where
       (happen_sound events engine before last after happened sound ([], stands, λ pause none. absurd (Contains-nothing pause none)))
 
   -- an engine that ended sound was closed where it was planned
-  pub ended_planned : (engine : Standing) (before after : ServeDeskValue) (families committed : ℕ) (is_whole : Bool) → Stands o [] engine
-      → (ended : HasEndedServing no_pages engine before (ending.Sound families committed is_whole) after)
+  pub ended_planned : (engine : Standing) (before after : ServeDeskValue) (families committed : ℕ) (input : InputOutcome) → Stands o [] engine
+      → (ended : HasEndedServing no_pages engine before (ending.Sound families committed input) after)
       → EndsServingAsPlanned o ended.ends.2.1
-  ended_planned engine before after families committed is_whole stands ended =
+  ended_planned engine before after families committed input stands ended =
       let by = ended.ends.2 in
       let pages : pages_turned ended.events ≡ ended.judged =
       ended.pages ∙ ap (λ (l : List RestPage). ended.judged ++ l) by.0 ∙ append-nil ended.judged in
@@ -176,10 +177,11 @@ module _ (o : OpeningValue) where
 
   pub sound_planned : (engine : Standing) (before after : ServeDeskValue) (end : ServeEnding)
       → Stands o [] engine → HasEndedServing no_pages engine before end after → SoundAsPlanned o end
-  sound_planned engine before after (ending.Sound families committed is_whole) stands ended =
+  sound_planned engine before after (ending.Sound families committed input) stands ended =
       let by = ended.ends.2 in
-      (by.1, ended_planned engine before after families committed is_whole stands ended, by.3.families_are)
+      (by.1, ended_planned engine before after families committed input stands ended, by.3.families_are)
   sound_planned engine before after (ending.Unsound defect) stands ended = tt
   sound_planned engine before after (ending.NoHeader fault) stands ended = tt
   sound_planned engine before after ending.Memory stands ended = tt
+  sound_planned engine before after ending.Threads stands ended = tt
   sound_planned engine before after ending.Unwritten stands ended = tt

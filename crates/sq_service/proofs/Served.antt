@@ -1,5 +1,5 @@
 -- How an engine that is served changes, step by step.
-use Rattle.std.proofs.Common.{◌≡◌, ⊎_elim, inl, inr, ℕ, ◌+◌, ◌<◌, ◌^◌, Bool, true, false, List, [], ◌∷◌, ◌++◌, refl, sym, ap, subst, ◌∙◌, append_assoc, append-nil, arith}
+use Rattle.std.proofs.Common.{◌≡◌, ⊎_elim, inl, inr, ℕ, ◌+◌, ◌<◌, ◌^◌, Bool, true, false, List, [], ◌∷◌, ◌++◌, refl, sym, ap, subst, ◌∙◌, if◌then◌else◌, append_assoc, append-nil, arith}
 use Rattle.std.specs.Prelude.{All, length, sum_by, Option, Some, None, Result, Ok, Err, IfOk, IfErr, OnErr}
 use Rattle.std.specs.List.{flat_map}
 use Rattle.std.proofs.lemmas.Grind.{flat_map-append}
@@ -19,7 +19,7 @@ use Rattle.sq_engine.specs.Engine.{KeepsHistoryAndJobs, IsNotMoved}
 use Rattle.sq_engine.specs.Taken.{TakesPage, HasClosedAfter}
 use Rattle.sq_engine.proofs.Goings.{stays, goes_further}
 use Rattle.sq_server.specs.declared.ending.ServeEnding.{ServeEnding}
-use Rattle.sq_server.specs.declared.ending.ServeEnding.TheVariants.{Sound, Unsound, NoHeader, Memory, Unwritten}
+use Rattle.sq_server.specs.declared.ending.ServeEnding.TheVariants.{Sound, Unsound, NoHeader, Memory, Threads, Unwritten}
 use Rattle.sq_server.specs.Becoming.{ServeDeskValue, Speaks}
 use Rattle.sq_server.specs.Ending.{EndsStopped}
 use Rattle.sq_server.specs.Saying.{other_line}
@@ -31,7 +31,8 @@ use Rattle.sq_service.specs.Judging.{IsFoundAs, ClosesAs, page_commits, EndsAsFo
 use Rattle.sq_service.specs.Rows.{TellsRowsOrSpeaks}
 use Rattle.sq_service.specs.Events.{ServeEvent, EpochServed, PageTurned, RowsTold, GoneOn, Happens, HappenEach, IsServedWhole, page_turned, pages_turned, page_due, HasServed}
 use Rattle.sq_service.specs.Ends.{ClosedEndsBy, ServiceEndsBy, IsCleared, DeskEndsBy, SoundIsWhole, HasEndedServing}
-use Rattle.sq_service.specs.Steps.{IsWholeEngine, EpochGives, GoesOrLacksMemory, EntersPage, StepGives, first_ending}
+use Rattle.sq_service.specs.Service.{ServesNone}
+use Rattle.sq_service.specs.Steps.{EndsForWant, IsWholeEngine, EpochGives, GoesOrLacksMemory, EntersPage, StepGives, first_ending}
 
 happen_append : (first more : List ServeEvent) (old : Standing) (before : ServeDeskValue) (mid : Standing) (between : ServeDeskValue)
     (new : Standing) (after : ServeDeskValue)
@@ -89,10 +90,11 @@ served_then a b c old before mid between new after one two =
 -- no answer is missing, before and where it ends
 whole_then : (ending : ServeEnding) (first more : List ServeEvent) → All IsServedWhole first → SoundIsWhole ending more
     → SoundIsWhole ending (first ++ more)
-whole_then (Sound families total is_whole) first more one two = All-append IsServedWhole first more one two
+whole_then (Sound families total input) first more one two = All-append IsServedWhole first more one two
 whole_then (Unsound defect) first more one two = tt
 whole_then (NoHeader fault) first more one two = tt
 whole_then Memory first more one two = tt
+whole_then Threads first more one two = tt
 whole_then Unwritten first more one two = tt
 
 -- what was served for a while, and then until it ended
@@ -201,10 +203,11 @@ ends_with events was old before last after ending none due happened ends whole w
     }
 
 nothing_whole : (ending : ServeEnding) → SoundIsWhole ending []
-nothing_whole (Sound families total is_whole) = none_missing
+nothing_whole (Sound families total input) = none_missing
 nothing_whole (Unsound defect) = tt
 nothing_whole (NoHeader fault) = tt
 nothing_whole Memory = tt
+nothing_whole Threads = tt
 nothing_whole Unwritten = tt
 
 pub ends_at_once : (was : PageBook) (old : Standing) (before : ServeDeskValue) (ending : ServeEnding) → was.due ≡ None
@@ -215,55 +218,77 @@ ends_at_once was old before ending due ends written =
 -- an engine was closed whose desk has not stopped, and at which no job waits
 pub closed_at_desk : (ending : ServeEnding) (desk : ServeDeskValue) → desk.has_stopped ≡ false → sum_by length desk.waiting ≡ 0
     → (ending ≡ Unwritten → ⊥) → DeskEndsBy ending desk
-closed_at_desk (Sound families total is_whole) desk still none written = record { still = still; none_waits = none }
+closed_at_desk (Sound families total input) desk still none written = record { still = still; none_waits = none }
 closed_at_desk (Unsound defect) desk still none written = tt
 closed_at_desk (NoHeader fault) desk still none written = tt
 closed_at_desk Memory desk still none written = tt
+closed_at_desk Threads desk still none written = tt
 closed_at_desk Unwritten desk still none written = absurd (written refl)
 
 pub stopped_at_desk : (ending : ServeEnding) (desk : ServeDeskValue) → EndsStopped ending → desk.has_stopped ≡ true → DeskEndsBy ending desk
-stopped_at_desk (Sound families total is_whole) desk stopped stops = absurd stopped
+stopped_at_desk (Sound families total input) desk stopped stops = absurd stopped
 stopped_at_desk (Unsound defect) desk stopped stops = tt
 stopped_at_desk (NoHeader fault) desk stopped stops = tt
 stopped_at_desk Memory desk stopped stops = tt
+stopped_at_desk Threads desk stopped stops = tt
 stopped_at_desk Unwritten desk stopped stops = stops
 
 -- no closed engine ends for want of a write
 pub closed_is_written : (committed : ℕ) (closed : Closed) (ending : ServeEnding) → ClosedEndsBy committed closed ending → ending ≡ Unwritten → ⊥
 closed_is_written committed closed ending is unwritten = subst (ClosedEndsBy committed closed) unwritten is
 
-pub memory_at_desk : (ending : ServeEnding) (desk : ServeDeskValue) → ending ≡ Memory → DeskEndsBy ending desk
-memory_at_desk ending desk memory = subst (λ (e : ServeEnding). DeskEndsBy e desk) (sym memory) tt
+-- what holds of both endings for want of something
+for_want : (P : ServeEnding → Type 0) (ending : ServeEnding) → P Memory → P Threads → EndsForWant ending → P ending
+for_want P Memory memory threads want = memory
+for_want P Threads memory threads want = threads
+for_want P (Sound families total input) memory threads want = absurd want
+for_want P (Unsound defect) memory threads want = absurd want
+for_want P (NoHeader fault) memory threads want = absurd want
+for_want P Unwritten memory threads want = absurd want
 
-pub memory_is_whole : (ending : ServeEnding) (events : List ServeEvent) → ending ≡ Memory → SoundIsWhole ending events
-memory_is_whole ending events memory = subst (λ (e : ServeEnding). SoundIsWhole e events) (sym memory) tt
+-- memory that ran out is a want
+pub wants_memory : (ending : ServeEnding) → ending ≡ Memory → EndsForWant ending
+wants_memory ending memory = subst EndsForWant (sym memory) tt
+
+pub want_at_desk : (ending : ServeEnding) (desk : ServeDeskValue) → EndsForWant ending → DeskEndsBy ending desk
+want_at_desk ending desk want = for_want (λ e. DeskEndsBy e desk) ending tt tt want
+
+pub want_is_whole : (ending : ServeEnding) (events : List ServeEvent) → EndsForWant ending → SoundIsWhole ending events
+want_is_whole ending events want = for_want (λ e. SoundIsWhole e events) ending tt tt want
+
+-- nothing was served for want of something
+pub want_serves_none : (ending : ServeEnding) → EndsForWant ending → ServesNone ending
+want_serves_none ending want = for_want ServesNone ending tt tt want
 
 found_is_whole : (page : RestPage) (ending : ServeEnding) (events : List ServeEvent)
     → EndsAsFound (λ found. IsFoundAs found page) ending → SoundIsWhole ending events
-found_is_whole page (Sound families total is_whole) events found = absurd found
+found_is_whole page (Sound families total input) events found = absurd found
 found_is_whole page (Unsound defect) events found = tt
 found_is_whole page (NoHeader fault) events found = tt
 found_is_whole page Memory events found = tt
+found_is_whole page Threads events found = tt
 found_is_whole page Unwritten events found = tt
 
 found_at_desk : (page : RestPage) (ending : ServeEnding) (desk : ServeDeskValue)
     → EndsAsFound (λ found. IsFoundAs found page) ending → DeskEndsBy ending desk
-found_at_desk page (Sound families total is_whole) desk found = absurd found
+found_at_desk page (Sound families total input) desk found = absurd found
 found_at_desk page (Unsound defect) desk found = tt
 found_at_desk page (NoHeader fault) desk found = tt
 found_at_desk page Memory desk found = tt
+found_at_desk page Threads desk found = absurd found
 found_at_desk page Unwritten desk found = absurd found
 
--- where memory runs out
-pub memory_ends : (committed : ℕ) (rest : List RestPage) (last : Standing) (ending : ServeEnding) → ending ≡ Memory → ServiceEndsBy committed rest last ending
-memory_ends committed rest last ending memory = subst (ServiceEndsBy committed rest last) (sym memory) tt
+-- how an engine ends for want of something
+pub want_ends : (committed : ℕ) (rest : List RestPage) (last : Standing) (ending : ServeEnding) → EndsForWant ending → ServiceEndsBy committed rest last ending
+want_ends committed rest last ending want = for_want (ServiceEndsBy committed rest last) ending tt tt want
 
 -- where nothing more can be done
 pub stopped_ends : (committed : ℕ) (rest : List RestPage) (last : Standing) (ending : ServeEnding) → EndsStopped ending → ServiceEndsBy committed rest last ending
-stopped_ends committed rest last (Sound families total is_whole) stopped = absurd stopped
+stopped_ends committed rest last (Sound families total input) stopped = absurd stopped
 stopped_ends committed rest last (Unsound defect) stopped = absurd stopped
 stopped_ends committed rest last (NoHeader fault) stopped = absurd stopped
 stopped_ends committed rest last Memory stopped = tt
+stopped_ends committed rest last Threads stopped = tt
 stopped_ends committed rest last Unwritten stopped = tt
 
 -- an engine continues or lacks memory, where no page is due
@@ -272,7 +297,8 @@ pub goes_or_ends : (book : PageBook) (old : Standing) (before : ServeDeskValue) 
 goes_or_ends book old before (Ok new) after due gives = goes_on book old before new after gives.0 gives.1
 goes_or_ends book old before (Err ending) after due gives =
     ends_with (GoneOn ∷ []) book old before old after ending refl due (old, after, (stays old old refl, gives.1), (refl, refl))
-    (memory_ends book.committed [] old ending gives.0) (memory_is_whole ending (GoneOn ∷ []) gives.0) (memory_at_desk ending after gives.0)
+    (want_ends book.committed [] old ending (wants_memory ending gives.0)) (want_is_whole ending (GoneOn ∷ []) (wants_memory ending gives.0))
+    (want_at_desk ending after (wants_memory ending gives.0))
 
 -- a closed engine ends, or continues where a job waits
 pub closed_or_not : (book : PageBook) (old : Standing) (desk : ServeDeskValue) (result : Result Standing ServeEnding) → book.due ≡ None
@@ -308,13 +334,13 @@ epoch_alone was now old before (Ok new) after none still committed gives =
 epoch_alone was now old before (Err ending) after none still committed gives =
     ⊎_elim
     (λ same.
-    ends_with [] was old before old after ending refl none (refl, same) (memory_ends was.committed [] old ending gives.0)
-    (nothing_whole ending) (memory_at_desk ending after gives.0))
+    ends_with [] was old before old after ending refl none (refl, same) (want_ends was.committed [] old ending gives.0)
+    (nothing_whole ending) (want_at_desk ending after gives.0))
     (λ some.
     let events = EpochServed some.1 some.2.exchanges ∷ [] in
     ends_with events was old before some.0 after ending refl none (some.0, after, (some.2, refl), (refl, refl))
-    (memory_ends was.committed [] some.0 ending gives.0) (memory_is_whole ending events gives.0)
-    (memory_at_desk ending after gives.0))
+    (want_ends was.committed [] some.0 ending gives.0) (want_is_whole ending events gives.0)
+    (want_at_desk ending after gives.0))
     gives.1
 
 -- what happened in an epoch, behind which other lines were written
@@ -387,18 +413,19 @@ epoch_beside was now due counts old before (Err ending) between after some still
       ends = (
         was.committed + sum_by page_commits (due.page ∷ []),
         (λ fits. refl),
-        memory_ends (was.committed + sum_by page_commits (due.page ∷ [])) [] went.1 ending gives.0,
+        want_ends (was.committed + sum_by page_commits (due.page ∷ [])) [] went.1 ending gives.0,
       );
-      whole = memory_is_whole ending went.0 gives.0;
-      written = memory_at_desk ending after gives.0;
+      whole = want_is_whole ending went.0 gives.0;
+      written = want_at_desk ending after gives.0;
     }
 
 found_ends : (committed : ℕ) (page : RestPage) (last : Standing) (ending : ServeEnding)
     → EndsAsFound (λ found. IsFoundAs found page) ending → ServiceEndsBy committed (page ∷ []) last ending
-found_ends committed page last (Sound families total is_whole) found = absurd found
+found_ends committed page last (Sound families total input) found = absurd found
 found_ends committed page last (Unsound defect) found = inl (page, refl, found)
 found_ends committed page last (NoHeader fault) found = absurd found
 found_ends committed page last Memory found = tt
+found_ends committed page last Threads found = absurd found
 found_ends committed page last Unwritten found = absurd found
 
 -- an epoch beside which the page that was due wasn't found sound
@@ -444,12 +471,13 @@ speaks_then a b c one two =
 -- how a closed engine ends
 pub closed_ends : (committed : ℕ) (last : Standing) (closed : Closed) (ending : ServeEnding) → HasClosedAfter last closed
     → IsSetUp closed.opening → ClosedEndsBy committed closed ending → ServiceEndsBy committed [] last ending
-closed_ends committed last closed (Sound families total is_whole) after set_up is =
+closed_ends committed last closed (Sound families total input) after set_up is =
     (refl, closed, record { after = after; set_up = set_up; judged = is.0 }, is.1)
 closed_ends committed last closed (Unsound defect) after set_up is =
     inr (refl, closed, record { after = after; set_up = set_up; judged = is })
 closed_ends committed last closed (NoHeader fault) after set_up is = absurd is
 closed_ends committed last closed Memory after set_up is = tt
+closed_ends committed last closed Threads after set_up is = absurd is
 closed_ends committed last closed Unwritten after set_up is = absurd is
 
 -- an engine continued, and then it continues or lacks memory
@@ -464,6 +492,11 @@ not_moved_goes old plan why.Moving new is = stays old new is.0
 not_moved_goes old plan (why.Plans fault) new is = stays old new is.0
 not_moved_goes old plan why.Memory new is = is
 
+-- an epoch that lacked threads, or else memory
+lacking : (threads : Bool) (ending : ServeEnding) → ending ≡ (if threads then Threads else Memory) → EndsForWant ending
+lacking true ending is = subst EndsForWant (sym is) tt
+lacking false ending is = subst EndsForWant (sym is) tt
+
 -- an epoch that was served, or not
 pub epoch_gives : {X : Type 0} (desk : X → ServeDeskValue) (served : Result EngineServed Standing) (result : Result Standing ServeEnding)
     (old : Standing) (before after : X)
@@ -472,9 +505,9 @@ pub epoch_gives : {X : Type 0} (desk : X → ServeDeskValue) (served : Result En
 epoch_gives desk (Ok s) (Ok engine) old before after written same is =
     subst (λ (e : Standing). EpochIsWritten old (desk before) e (desk after) true) (sym is.0)
     (subst (λ (b : Bool). EpochIsWritten old (desk before) s.engine (desk after) b) is.1 written)
-epoch_gives desk (Ok s) (Err ending) old before after written same is = (is, inr (s.engine, s.is_whole, written))
+epoch_gives desk (Ok s) (Err ending) old before after written same is = (lacking s.lacks_threads ending is, inr (s.engine, s.is_whole, written))
 epoch_gives desk (Err back) (Ok engine) old before after written same is = absurd is
-epoch_gives desk (Err back) (Err ending) old before after written same is = (is, inl (ap desk same))
+epoch_gives desk (Err back) (Err ending) old before after written same is = (wants_memory ending is, inl (ap desk same))
 
 -- an epoch beside which the page that was due was audited
 pub epoch_with_due : (mid now : PageBook) (due : PageToAudit) (judged : Result PageCounts ServeEnding) (entered : Result Unit ServeEnding)
@@ -508,8 +541,9 @@ none_taken was mid old before result after none taken gives =
 -- what was found of the last page
 pub found_closed : (committed : ℕ) (closed : Closed) (ending : ServeEnding) → EndsAsFound (λ found. ClosesAs found closed) ending
     → ClosedEndsBy committed closed ending
-found_closed committed closed (Sound families total is_whole) found = absurd found
+found_closed committed closed (Sound families total input) found = absurd found
 found_closed committed closed (Unsound defect) found = found
 found_closed committed closed (NoHeader fault) found = absurd found
 found_closed committed closed Memory found = tt
+found_closed committed closed Threads found = absurd found
 found_closed committed closed Unwritten found = absurd found

@@ -8,8 +8,8 @@ use Rattle.sq_server.specs.Saying.{Answered, RowLines, lines_in, rows_told}
 use Rattle.sq_engine.specs.declared.standing.Standing.{Standing}
 use Rattle.sq_epoch.specs.Exchanges.{Exchange}
 use Rattle.sq_server.specs.declared.desk.AskedTxn.{AskedTxn}
-use Rattle.sq_server.specs.Becoming.{ServeDeskValue, jobs_waiting, Speaks}
-use Rattle.sq_server.specs.Written.{Other, WritesEach}
+use Rattle.sq_server.specs.Becoming.{ServeDeskValue, Speaks}
+use Rattle.sq_server.specs.Written.{Other, jobs_waiting, WritesEach}
 use Rattle.std.specs.Io.KnownBytes.{Appends}
 use Rattle.sq_server.proofs.Epochs.{none_written, writes_then, others_said, others_tell_none}
 use Rattle.sq_service.specs.Rows.{TellsRows}
@@ -59,7 +59,7 @@ same_writes a b same = subst (WritesEach [] a) (sym same) (none_written a)
 happens_write : (event : ServeEvent) (old : Standing) (before : ServeDeskValue) (new : Standing) (after : ServeDeskValue)
     → Happens event old before new after → WritesEach (exchanged event) before after
 happens_write (EpochServed is_whole exchanges) old before new after is =
-    subst (λ (e : List Exchange). WritesEach e before after) (sym is.1) is.0.writes
+    subst (λ (e : List Exchange). WritesEach e before after) (sym is.1) is.0.answers.writes
 happens_write (PageTurned page) old before new after is = same_writes before after is.1
 happens_write RowsTold old before new after is = rows_write new before after is.1
 happens_write GoneOn old before new after is = speaks_write before after is.1

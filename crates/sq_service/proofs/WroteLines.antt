@@ -7,8 +7,9 @@ use Rattle.sq_text.proofs.Appending.{both}
 use Rattle.sq_live.specs.declared.outcome.LiveOutcome.TheVariants as outcome
 use Rattle.sq_live.specs.Outcome.{outcome_line}
 use Rattle.sq_ranges.specs.OpeningValue.{OpeningValue}
+use Rattle.sq_server.specs.declared.ending.InputOutcome.{InputOutcome}
 use Rattle.sq_server.specs.declared.ending.ServeEnding.{ServeEnding}
-use Rattle.sq_server.specs.declared.ending.ServeEnding.TheVariants.{Sound, Unsound, NoHeader, Memory, Unwritten}
+use Rattle.sq_server.specs.declared.ending.ServeEnding.TheVariants.{Sound, Unsound, NoHeader, Memory, Threads, Unwritten}
 use Rattle.sq_server.specs.declared.feed.Fed.{Fed}
 use Rattle.sq_server.specs.declared.outlet.Outlet.{Outlet}
 use Rattle.sq_server.specs.Written.{said_line}
@@ -17,23 +18,23 @@ use Rattle.sq_service.specs.Service.{first_desk, EngineServes, ServesSome, Serve
 use Rattle.sq_service.proofs.Written.{happen_write}
 use Rattle.sq_service.proofs.Planned.{ended_planned}
 
-sound-not-unwritten : {P : Type 0} (families committed : ℕ) (is_whole : Bool) → Sound families committed is_whole ≡ Unwritten → P
-sound-not-unwritten families committed is_whole e = cc
+sound-not-unwritten : {P : Type 0} (families committed : ℕ) (input : InputOutcome) → Sound families committed input ≡ Unwritten → P
+sound-not-unwritten families committed input e = cc
 
 -- an engine of which `sound` is written ended sound, and no write failed
-sound_told : (families committed : ℕ) (is_whole failed : Bool) (ending : ServeEnding)
-    → Sound families committed is_whole ≡ (if failed then Unwritten else ending)
-    → (failed ≡ false) × (ending ≡ Sound families committed is_whole)
-sound_told families committed is_whole true ending e = sound-not-unwritten families committed is_whole e
-sound_told families committed is_whole false ending e = (refl, sym e)
+sound_told : (families committed : ℕ) (input : InputOutcome) (failed : Bool) (ending : ServeEnding)
+    → Sound families committed input ≡ (if failed then Unwritten else ending)
+    → (failed ≡ false) × (ending ≡ Sound families committed input)
+sound_told families committed input true ending e = sound-not-unwritten families committed input e
+sound_told families committed input false ending e = (refl, sym e)
 
 module _ {W : Type 0} (contents : W → Option (List ℕ)) where
   -- what the desk of an engine wrote that ended sound, and then the line of its ending
-  served_wrote : (o : OpeningValue) (heard : List Fed) (families committed : ℕ) (is_whole : Bool) (first last end : Outlet W)
-      → EngineServes contents o (first_desk contents first heard o.new.parts) (Sound families committed is_whole) last
+  served_wrote : (o : OpeningValue) (heard : List Fed) (families committed : ℕ) (input : InputOutcome) (first last end : Outlet W)
+      → EngineServes contents o (first_desk contents first heard o.new.parts) (Sound families committed input) last
       → Appends (contents last.writer) (contents end.writer) (outcome_line (outcome.Sound families committed))
-      → SoundService families committed is_whole (contents first.writer) (contents end.writer)
-  served_wrote o heard families committed is_whole first last end serves told =
+      → SoundService families committed input (contents first.writer) (contents end.writer)
+  served_wrote o heard families committed input first last end serves told =
       let by = serves.2 in
       let ended = by.ended in
       let before = first_desk contents first heard o.new.parts in
@@ -50,31 +51,32 @@ module _ {W : Type 0} (contents : W → Option (List ℕ)) where
         none_waited = refl;
         after = by.after;
         ended = ended;
-        planned = ended_planned o serves.0 before by.after families committed is_whole serves.1 ended;
+        planned = ended_planned o serves.0 before by.after families committed input serves.1 ended;
         writes = writes;
         written = both (contents first.writer) (contents last.writer) (contents end.writer) all line (all ++ line) wrote told refl;
       }
 
-  sound_wrote : (old new : W) (families committed : ℕ) (is_whole : Bool) → ServesWriter contents old new (Sound families committed is_whole)
-      → SoundService families committed is_whole (contents old) (contents new)
-  sound_wrote old new families committed is_whole s =
-      let sound = sound_told families committed is_whole s.end.has_failed s.ending s.tells.told_is in
+  sound_wrote : (old new : W) (families committed : ℕ) (input : InputOutcome) → ServesWriter contents old new (Sound families committed input)
+      → SoundService families committed input (contents old) (contents new)
+  sound_wrote old new families committed input s =
+      let sound = sound_told families committed input s.end.has_failed s.ending s.tells.told_is in
       let line = outcome_line (outcome.Sound families committed) in
       let is : s.tells.text ≡ line = subst (λ (e : ServeEnding). IsLineOfEnding e s.tells.text) sound.1 s.tells.is in
       let told : Appends (contents s.last.writer) (contents s.end.writer) line =
       subst (λ (text : List ℕ). Appends (contents s.last.writer) (contents s.end.writer) text) is (s.tells.written sound.0) in
-      subst (λ (w : W). SoundService families committed is_whole (contents w) (contents new)) s.first_writer
-      (subst (λ (w : W). SoundService families committed is_whole (contents s.first.writer) (contents w)) s.end_writer
+      subst (λ (w : W). SoundService families committed input (contents w) (contents new)) s.first_writer
+      (subst (λ (w : W). SoundService families committed input (contents s.first.writer) (contents w)) s.end_writer
       (⊎_elim
       (λ served.
-      served_wrote served.0 served.1 families committed is_whole s.first s.last s.end served.2 told)
+      served_wrote served.0 served.1 families committed input s.first s.last s.end served.2 told)
       (λ none. absurd none.0)
       (subst (λ (e : ServeEnding). ServesSome contents s.first e s.last) sound.1 s.served)))
 
   pub serves_soundly : (old new : W) (ending : ServeEnding) → ServesWriter contents old new ending
       → ServesSoundly (contents old) (contents new) ending
-  serves_soundly old new (Sound families committed is_whole) s = sound_wrote old new families committed is_whole s
+  serves_soundly old new (Sound families committed input) s = sound_wrote old new families committed input s
   serves_soundly old new (Unsound defect) s = tt
   serves_soundly old new (NoHeader fault) s = tt
   serves_soundly old new Memory s = tt
+  serves_soundly old new Threads s = tt
   serves_soundly old new Unwritten s = tt

@@ -9,7 +9,7 @@ use Rattle.sq_engine.specs.declared.standing.Standing.{Standing}
 use Rattle.sq_engine.specs.declared.rest_page.RestPage.{RestPage}
 use Rattle.sq_engine.specs.Taken.{HasClosedAfter}
 use Rattle.sq_server.specs.declared.ending.ServeEnding.{ServeEnding}
-use Rattle.sq_server.specs.declared.ending.ServeEnding.TheVariants.{Sound, Unsound, NoHeader, Memory, Unwritten}
+use Rattle.sq_server.specs.declared.ending.ServeEnding.TheVariants.{Sound, Unsound, NoHeader, Memory, Threads, Unwritten}
 use Rattle.sq_server.specs.Becoming.{ServeDeskValue}
 use Rattle.sq_service.specs.declared.page_book.PageBook.{PageBook}
 use Rattle.sq_service.specs.Judging.{IsFoundAs, ClosesAs, page_commits}
@@ -33,23 +33,25 @@ commits_on_pages before pages = before + sum_by page_commits pages
 
 -- the ending of a closed engine
 abbrev pub ClosedEndsBy : ℕ → Closed → ServeEnding → Type 0
-ClosedEndsBy committed_before closed (Sound families committed is_whole) =
+ClosedEndsBy committed_before closed (Sound families committed input) =
     ClosesAs verdict.Sound closed × HasTotals committed_before closed families committed
 ClosedEndsBy committed_before closed (Unsound defect) = ClosesAs (verdict.Unsound defect) closed
 ClosedEndsBy committed_before closed (NoHeader fault) = ⊥
 ClosedEndsBy committed_before closed Memory = Unit {0}
+ClosedEndsBy committed_before closed Threads = ⊥
 ClosedEndsBy committed_before closed Unwritten = ⊥
 
 -- why an engine ended, where these pages weren't found sound so far: it was closed and its last page is sound; or that page, or
--- the one that was audited last, has a defect. Where memory ran out, or nothing could be written, no more is said
+-- the one that was audited last, has a defect. If memory ran out, a thread was missing, or nothing could be written, no more is said
 abbrev pub ServiceEndsBy : ℕ → List RestPage → Standing → ServeEnding → Type 0
-ServiceEndsBy committed_before rest last (Sound families committed is_whole) =
+ServiceEndsBy committed_before rest last (Sound families committed input) =
     (rest ≡ []) × (closed : Closed) × ClosesFound last verdict.Sound closed × HasTotals committed_before closed families committed
 ServiceEndsBy committed_before rest last (Unsound defect) =
     ((page : RestPage) × (rest ≡ page ∷ []) × IsFoundAs (verdict.Unsound defect) page)
     ⊎ ((rest ≡ []) × (closed : Closed) × ClosesFound last (verdict.Unsound defect) closed)
 ServiceEndsBy committed_before rest last (NoHeader fault) = ⊥
 ServiceEndsBy committed_before rest last Memory = Unit {0}
+ServiceEndsBy committed_before rest last Threads = Unit {0}
 ServiceEndsBy committed_before rest last Unwritten = Unit {0}
 
 -- a desk has not stopped, so all that it was to write is written; and no job waits
@@ -59,18 +61,20 @@ pub record IsCleared (desk : ServeDeskValue) : Type 0 where
 
 -- where it ends sound, its desk is cleared; where an answer can't be written, its desk has stopped
 abbrev pub DeskEndsBy : ServeEnding → ServeDeskValue → Type 0
-DeskEndsBy (Sound families committed is_whole) desk = IsCleared desk
+DeskEndsBy (Sound families committed input) desk = IsCleared desk
 DeskEndsBy (Unsound defect) desk = Unit {0}
 DeskEndsBy (NoHeader fault) desk = Unit {0}
 DeskEndsBy Memory desk = Unit {0}
+DeskEndsBy Threads desk = Unit {0}
 DeskEndsBy Unwritten desk = desk.has_stopped ≡ true
 
 -- where it ends sound, no answer of an epoch is missing
 abbrev pub SoundIsWhole : ServeEnding → List ServeEvent → Type 0
-SoundIsWhole (Sound families committed is_whole) events = All IsServedWhole events
+SoundIsWhole (Sound families committed input) events = All IsServedWhole events
 SoundIsWhole (Unsound defect) events = Unit {0}
 SoundIsWhole (NoHeader fault) events = Unit {0}
 SoundIsWhole Memory events = Unit {0}
+SoundIsWhole Threads events = Unit {0}
 SoundIsWhole Unwritten events = Unit {0}
 
 -- an engine was served until it ended so

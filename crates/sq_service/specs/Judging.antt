@@ -8,7 +8,7 @@ use Rattle.sq_live.specs.Outcome.{stored_count, commit_count}
 use Rattle.sq_engine.specs.declared.closed.Closed.{Closed}
 use Rattle.sq_engine.specs.declared.rest_page.RestPage.{RestPage}
 use Rattle.sq_server.specs.declared.ending.ServeEnding.{ServeEnding}
-use Rattle.sq_server.specs.declared.ending.ServeEnding.TheVariants.{Sound, Unsound, NoHeader, Memory, Unwritten}
+use Rattle.sq_server.specs.declared.ending.ServeEnding.TheVariants.{Sound, Unsound, NoHeader, Memory, Threads, Unwritten}
 use Rattle.sq_service.specs.declared.page_audit.PageCounts.{PageCounts}
 
 -- how many receipts of a page are of commits
@@ -39,7 +39,8 @@ ClosesAs found closed = SpeaksForRuns closed.opening.new closed.page.run closed.
 abbrev pub EndsAsFound : (Verdict → Type 0) → ServeEnding → Type 0
 EndsAsFound found (Unsound defect) = found (verdict.Unsound defect)
 EndsAsFound found Memory = Unit {0}
-EndsAsFound found (Sound families committed is_whole) = ⊥
+EndsAsFound found Threads = ⊥
+EndsAsFound found (Sound families committed input) = ⊥
 EndsAsFound found (NoHeader fault) = ⊥
 EndsAsFound found Unwritten = ⊥
 

@@ -6,3 +6,4 @@ pub mod Steps
 pub mod Service
 pub mod Planned
 pub mod Telling
+pub mod Reading

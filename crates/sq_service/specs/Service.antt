@@ -1,5 +1,5 @@
 -- An engine that is served from its opening to its end.
-use Rattle.std.specs.Prelude.{◌≡◌, ◌⊎◌, ◌^◌, ◌<◌, Bool, false, ℕ, List, [], ◌++◌, replicate, Option, None}
+use Rattle.std.specs.Prelude.{◌≡◌, ◌⊎◌, ◌^◌, ◌<◌, false, ℕ, List, [], ◌++◌, replicate, Option, None}
 use Rattle.std.specs.List.{flat_map}
 use Rattle.std.specs.Io.KnownBytes.{Appends}
 use Rattle.sq_ranges.specs.OpeningValue.{OpeningValue}
@@ -9,10 +9,11 @@ use Rattle.sq_engine.specs.Engine.{Stands}
 use Rattle.sq_live.specs.declared.outcome.LiveOutcome.TheVariants as outcome
 use Rattle.sq_live.specs.Outcome.{outcome_line, stored_count}
 use Rattle.sq_server.specs.declared.ending.ServeEnding.{ServeEnding}
-use Rattle.sq_server.specs.declared.ending.ServeEnding.TheVariants.{Sound, Unsound, NoHeader, Memory, Unwritten}
+use Rattle.sq_server.specs.declared.ending.ServeEnding.TheVariants.{Sound, Unsound, NoHeader, Memory, Threads, Unwritten}
+use Rattle.sq_server.specs.declared.ending.InputOutcome.{InputOutcome}
 use Rattle.sq_server.specs.declared.feed.Fed.{Fed}
 use Rattle.sq_server.specs.declared.outlet.Outlet.{Outlet}
-use Rattle.sq_server.specs.Becoming.{ServeDeskValue}
+use Rattle.sq_server.specs.Becoming.{ServeDeskValue, new_desk}
 use Rattle.sq_server.specs.Written.{WritesEach, said_line}
 use Rattle.sq_service.specs.declared.page_book.PageBook.{PageBook}
 use Rattle.sq_service.specs.Events.{all_exchanged}
@@ -35,16 +36,17 @@ pub record HasEndedWithOutlet {W : Type 0} (contents : W → Option (List ℕ)) 
 -- a desk that has heard this, for so many partitions, and has written what an outlet holds
 abbrev pub first_desk : {W : Type 0} → (W → Option (List ℕ)) → Outlet W → List Fed → ℕ → ServeDeskValue
 first_desk contents outlet heard parts =
-    record { written = contents outlet.writer; has_stopped = outlet.has_failed; heard = heard; waiting = replicate parts [] }
+    new_desk contents outlet heard (replicate parts [])
 
 -- where it ends sound, it ends as planned, with so many families
 abbrev pub SoundAsPlanned : OpeningValue → ServeEnding → Type 0
-SoundAsPlanned o (Sound families committed is_whole) =
+SoundAsPlanned o (Sound families committed input) =
     (closed : Closed) × EndsServingAsPlanned o closed
     × (stored_count closed.gathered < 2 ^ 64 → families ≡ stored_count closed.gathered)
 SoundAsPlanned o (Unsound defect) = Unit {0}
 SoundAsPlanned o (NoHeader fault) = Unit {0}
 SoundAsPlanned o Memory = Unit {0}
+SoundAsPlanned o Threads = Unit {0}
 SoundAsPlanned o Unwritten = Unit {0}
 
 -- an engine with this opening was served, by a desk in this state, until it ended so
@@ -57,11 +59,12 @@ abbrev pub ServesOpening : {W : Type 0} → (W → Option (List ℕ)) → Openin
 ServesOpening contents o before outlet ending new =
     EngineServes contents o before ending new ⊎ ((ending ≡ Memory) × (new ≡ outlet))
 
--- nothing was served, since the header has a fault or there was no memory
+-- nothing was served, since the header has a fault, or there was no memory or no thread
 abbrev pub ServesNone : ServeEnding → Type 0
 ServesNone (NoHeader fault) = Unit {0}
 ServesNone Memory = Unit {0}
-ServesNone (Sound families committed is_whole) = ⊥
+ServesNone Threads = Unit {0}
+ServesNone (Sound families committed input) = ⊥
 ServesNone (Unsound defect) = ⊥
 ServesNone Unwritten = ⊥
 
@@ -85,22 +88,23 @@ pub record ServesWriter {W : Type 0} (contents : W → Option (List ℕ)) (old n
 -- an engine was served from its opening on, and ended sound with these totals, closed where it was planned: no answer is missing, and
 -- no job waits. What a writer holds grew by the line of each answer, once, those of each partition in their order, by other lines, and
 -- last by the line of this ending
-pub record SoundService (families committed : ℕ) (is_whole : Bool) (old new : Option (List ℕ)) : Type 0 where
+pub record SoundService (families committed : ℕ) (input : InputOutcome) (old new : Option (List ℕ)) : Type 0 where
   pub opening : OpeningValue
   pub engine : Standing
   pub opened : Stands opening [] engine
   pub before : ServeDeskValue
   pub none_waited : before.waiting ≡ replicate opening.new.parts []
   pub after : ServeDeskValue
-  pub ended : HasEndedServing no_pages engine before (Sound families committed is_whole) after
+  pub ended : HasEndedServing no_pages engine before (Sound families committed input) after
   pub planned : EndsServingAsPlanned opening ended.ends.2.1
   pub writes : WritesEach (all_exchanged ended.events) before after
   pub written : Appends old new (flat_map said_line writes.said ++ outcome_line (outcome.Sound families committed))
 
 -- a sound ending means that the service was a sound one
 abbrev pub ServesSoundly : Option (List ℕ) → Option (List ℕ) → ServeEnding → Type 0
-ServesSoundly old new (Sound families committed is_whole) = SoundService families committed is_whole old new
+ServesSoundly old new (Sound families committed input) = SoundService families committed input old new
 ServesSoundly old new (Unsound defect) = Unit {0}
 ServesSoundly old new (NoHeader fault) = Unit {0}
 ServesSoundly old new Memory = Unit {0}
+ServesSoundly old new Threads = Unit {0}
 ServesSoundly old new Unwritten = Unit {0}

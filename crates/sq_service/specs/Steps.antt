@@ -1,10 +1,10 @@
 -- The outcome of a step of an engine that is served.
-use Rattle.std.specs.Prelude.{◌≡◌, ◌⊎◌, ◌+◌, ◌^◌, ◌<◌, ℕ, Bool, true, Result, Ok, Err}
+use Rattle.std.specs.Prelude.{◌≡◌, ◌⊎◌, ◌+◌, ◌^◌, ◌<◌, ℕ, Bool, true, false, if◌then◌else◌, Result, Ok, Err}
 use Rattle.sq_engine.specs.declared.engine.EngineServed.{EngineServed}
 use Rattle.sq_engine.specs.declared.standing.Standing.{Standing}
 use Rattle.sq_engine.specs.Engine.{KeepsHistoryAndJobs}
 use Rattle.sq_server.specs.declared.ending.ServeEnding.{ServeEnding}
-use Rattle.sq_server.specs.declared.ending.ServeEnding.TheVariants.{Memory}
+use Rattle.sq_server.specs.declared.ending.ServeEnding.TheVariants.{Sound, Unsound, NoHeader, Memory, Threads, Unwritten}
 use Rattle.sq_server.specs.Becoming.{ServeDeskValue, Speaks}
 use Rattle.sq_server.specs.Written.{EpochIsWritten}
 use Rattle.sq_service.specs.declared.page_audit.PageCounts.{PageCounts}
@@ -12,17 +12,28 @@ use Rattle.sq_service.specs.declared.page_book.PageBook.{PageBook}
 use Rattle.sq_service.specs.Events.{HasServed}
 use Rattle.sq_service.specs.Ends.{HasEndedServing}
 
--- the engine that was served whole, unless memory ran out
-abbrev pub IsWholeEngine : Result EngineServed Standing → Result Standing ServeEnding → Type 0
-IsWholeEngine (Ok served) (Ok engine) = (engine ≡ served.engine) × (served.is_whole ≡ true)
-IsWholeEngine (Err back) (Ok engine) = ⊥
-IsWholeEngine served (Err ending) = ending ≡ Memory
+-- an engine ends since memory ran out or a thread was missing
+abbrev pub EndsForWant : ServeEnding → Type 0
+EndsForWant Memory = Unit {0}
+EndsForWant Threads = Unit {0}
+EndsForWant (Sound families committed input) = ⊥
+EndsForWant (Unsound defect) = ⊥
+EndsForWant (NoHeader fault) = ⊥
+EndsForWant Unwritten = ⊥
 
--- an epoch was served, or memory ran out: before it, or in it
+-- the engine that was served whole, unless memory ran out or a thread was missing
+abbrev pub IsWholeEngine : Result EngineServed Standing → Result Standing ServeEnding → Type 0
+IsWholeEngine (Ok served) (Ok engine) =
+    (engine ≡ served.engine) × (served.is_whole ≡ true) × (served.lacks_threads ≡ false) × (served.lacks_memory ≡ false)
+IsWholeEngine (Ok served) (Err ending) = ending ≡ (if served.lacks_threads then Threads else Memory)
+IsWholeEngine (Err back) (Ok engine) = ⊥
+IsWholeEngine (Err back) (Err ending) = ending ≡ Memory
+
+-- an epoch was served, or memory ran out or a thread was missing: before it, or in it
 abbrev pub EpochGives : Standing → ServeDeskValue → Result Standing ServeEnding → ServeDeskValue → Type 0
 EpochGives old before (Ok new) after = EpochIsWritten old before new after true
 EpochGives old before (Err ending) after =
-    (ending ≡ Memory)
+    EndsForWant ending
     × ((after ≡ before) ⊎ ((new : Standing) × (is_whole : Bool) × EpochIsWritten old before new after is_whole))
 
 -- an engine continued and other lines were written, or memory ran out and only lines were written

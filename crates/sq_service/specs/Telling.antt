@@ -1,32 +1,33 @@
 -- The last line that an engine writes that was served.
-use Rattle.std.specs.Prelude.{◌≡◌, ◌^◌, ◌<◌, false, ℕ, if◌then◌else◌, List, [], Option, MatchOption}
+use Rattle.std.specs.Prelude.{◌≡◌, false, ℕ, if◌then◌else◌, List, [], Option, None}
+use Rattle.std.specs.Option.{option_map_or}
 use Rattle.std.specs.Io.KnownBytes.{Appends}
 use Rattle.sq_schema.specs.Fault.{memory_number}
-use Rattle.sq_text.specs.declared.located.LocatedFault.{LocatedFault}
-use Rattle.sq_text.specs.Located.{line_number}
 use Rattle.sq_text.specs.InputFaults.{input_fault_number}
 use Rattle.sq_text.specs.Texts.{fault_line}
 use Rattle.sq_live.specs.declared.outcome.LiveOutcome.TheVariants as outcome
 use Rattle.sq_live.specs.Outcome.{outcome_line}
+use Rattle.sq_serve.specs.declared.line_place.HeaderFault.{HeaderFault}
 use Rattle.sq_serve.specs.declared.serve_answer.ServeAnswer.TheVariants.{Fault}
 use Rattle.sq_serve.specs.ServeAnswers.{serve_answer_line}
 use Rattle.sq_server.specs.declared.ending.ServeEnding.{ServeEnding}
-use Rattle.sq_server.specs.declared.ending.ServeEnding.TheVariants.{Sound, Unsound, NoHeader, Memory, Unwritten}
+use Rattle.sq_server.specs.declared.ending.ServeEnding.TheVariants.{Sound, Unsound, NoHeader, Memory, Threads, Unwritten}
 use Rattle.sq_server.specs.declared.outlet.Outlet.{Outlet}
 use Rattle.sq_server.specs.Saying.{Says}
 
--- the line of a fault of a header, with the number of its line if it has one, unless that is more than 64 bits count
-abbrev pub IsLineOfFault : LocatedFault → List ℕ → Type 0
-IsLineOfFault located text =
-    MatchOption located.line (text ≡ fault_line (input_fault_number located.fault))
-    (λ line. line_number line < 2 ^ 64 → text ≡ serve_answer_line (Fault (input_fault_number located.fault) (line_number line)))
+-- the line of a fault of a header, with the number of its line in its own file, if it has one
+abbrev pub line_of_fault : HeaderFault → List ℕ
+line_of_fault header =
+    option_map_or (λ place. serve_answer_line (Fault (input_fault_number header.located.fault) place.line None)) header.place
+    (fault_line (input_fault_number header.located.fault))
 
 -- the line of an ending, if it has one
 abbrev pub IsLineOfEnding : ServeEnding → List ℕ → Type 0
-IsLineOfEnding (Sound families committed is_whole) text = text ≡ outcome_line (outcome.Sound families committed)
+IsLineOfEnding (Sound families committed input) text = text ≡ outcome_line (outcome.Sound families committed)
 IsLineOfEnding (Unsound defect) text = text ≡ outcome_line (outcome.Unsound defect)
-IsLineOfEnding (NoHeader located) text = IsLineOfFault located text
+IsLineOfEnding (NoHeader header) text = text ≡ line_of_fault header
 IsLineOfEnding Memory text = text ≡ fault_line memory_number
+IsLineOfEnding Threads text = text ≡ fault_line memory_number
 IsLineOfEnding Unwritten text = text ≡ []
 
 -- such a line was written

@@ -7,7 +7,7 @@ ghost use Rattle.sq_service.specs.Ends.{ServiceEndsBy, ClosedEndsBy, DeskEndsBy}
 
 use crate::page_audit::{audit_closed, count_families};
 use sq_engine::{Closed, Engine};
-use sq_server::{InputEnd, ServeDesk, ServeEnding};
+use sq_server::{InputOutcome, ServeDesk, ServeEnding};
 use std::alloc::Global;
 use std::io::Write;
 use std::sync::Wait;
@@ -51,26 +51,26 @@ fn close_unless_stopped<T: Threads + Wait + Sync, W: Write + Drop>(
             ending
         }
         None => {
-            let is_whole = desk.end == Some(InputEnd::Whole);
-            close(rt, alloc, engine, committed, is_whole)
+            let input = desk.end.unwrap_or(InputOutcome::Broken);
+            close(rt, alloc, engine, committed, input)
         }
     }
 }
 
-// Closes an engine, and says how it ends. The input was read to its end, or wasn't.
+// Closes an engine whose input ended so, and says how it ends.
 fn close<T: Threads + Wait + Sync>(
     rt: &T,
     alloc: Global,
     engine: Engine,
     committed: u64,
-    is_whole: bool,
+    input: InputOutcome,
 ) -> ServeEnding
     ensures ends { ServiceEndsBy committed [] engine result }
     ensures not_unwritten { result ≢ Unwritten }
 {
     match engine.close(rt, alloc) {
         Ok(closed) => {
-            let ending = judge_closed(rt, alloc, &closed, committed, is_whole);
+            let ending = judge_closed(rt, alloc, &closed, committed, input);
             drop(closed);
             ending
         }
@@ -81,13 +81,13 @@ fn close<T: Threads + Wait + Sync>(
     }
 }
 
-// How a closed engine ends.
+// How a closed engine ends, whose input ended so.
 fn judge_closed<T: Threads + Sync>(
     rt: &T,
     alloc: Global,
     closed: &Closed,
     committed: u64,
-    is_whole: bool,
+    input: InputOutcome,
 ) -> ServeEnding
     ensures ends { ClosedEndsBy committed closed.now result }
     ensures set_up { IsSetUp closed.now.opening }
@@ -96,7 +96,7 @@ fn judge_closed<T: Threads + Sync>(
         Ok(counts) => ServeEnding::Sound {
             families: count_families(&closed.gathered.stores),
             committed: committed.saturating_add(counts.committed),
-            is_whole,
+            input,
         },
         Err(ending) => ending,
     }

@@ -85,7 +85,7 @@ fn unless_ended(
     }
 }
 
-// Serves an epoch. Where an answer or a thread is missing, it ends for want of memory.
+// Serves an epoch. The engine ends after it if a thread, memory or an answer was missing.
 fn serve_one_epoch<T: Threads + Wait + Sync, W: Write + Drop, V: ServeWatch>(
     rt: &T,
     alloc: Global,
@@ -124,7 +124,7 @@ fn mark_served<V: ServeWatch>(
     }
 }
 
-// The engine that was served, unless an answer or a thread is missing for want of memory.
+// The engine that was served, unless a thread, memory or an answer was missing.
 fn whole_engine(served: Result<EngineServed, Engine>) -> Result<Engine, ServeEnding>
     ensures { IsWholeEngine served result }
 {
@@ -137,15 +137,18 @@ fn whole_engine(served: Result<EngineServed, Engine>) -> Result<Engine, ServeEnd
     }
 }
 
-// The engine of an epoch that was served, unless an answer or a thread is missing in it.
+// The engine of an epoch that was served, unless a thread, memory or an answer was missing in it.
 fn engine_if_whole(served: EngineServed) -> Result<Engine, ServeEnding>
     ensures { IsWholeEngine (Ok served) result }
 {
-    if served.is_whole && !served.lacks_threads {
-        Ok(served.engine)
-    } else {
+    if served.lacks_threads {
+        drop(served);
+        Err(ServeEnding::Threads)
+    } else if served.lacks_memory || !served.is_whole {
         drop(served);
         Err(ServeEnding::Memory)
+    } else {
+        Ok(served.engine)
     }
 }
 

@@ -1,9 +1,11 @@
 //! An engine behind a pipe: it reads an opening and then lines, for as long as they come, and answers each of them.
 #![tactic(auto)]
 
+mod asking;
 mod beside;
 mod closing;
 mod epochs;
+mod feeds;
 pub mod laws;
 mod moving;
 mod page_audit;

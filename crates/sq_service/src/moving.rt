@@ -4,46 +4,49 @@ ghost use Rattle.sq_server.specs.Becoming.{desk_value, Speaks};
 ghost use Rattle.sq_server.specs.declared.ending.ServeEnding.TheVariants.{Memory};
 ghost use Rattle.sq_service.specs.Steps.{GoesOrLacksMemory};
 
-use crate::telling::{tell_moved, tell_moving};
+use crate::telling::{tell_moved, tell_moving, unread_refusal};
 use sq_engine::{Engine, NotMoved};
-use sq_plan::Plan;
-use sq_serve::{ServeMark, ServeWatch};
-use sq_server::{MoveProgress, ServeDesk, ServeEnding};
+use sq_serve::{LinePlace, ServeMark, ServeWatch};
+use sq_server::{AskedMove, MoveProgress, ServeDesk, ServeEnding};
 use std::alloc::{AllocError, Global};
 use std::io::Write;
 use std::sync::Wait;
 use std::thread::Threads;
 
-/// Begins a move to a plan, or refuses it.
+/// Begins a move that a line asks for, or refuses it.
 pub(crate) fn begin_move<T: Threads + Wait + Sync, W: Write + Drop, V: ServeWatch>(
     rt: &T,
     alloc: Global,
     engine: Engine,
-    plan: Plan,
+    asked: AskedMove,
     desk: &mut ServeDesk<W>,
     watch: &V,
 ) -> Result<Engine, ServeEnding>
     ensures { GoesOrLacksMemory engine (desk_value W.contents desk.old)
         result (desk_value W.contents desk.new) }
 {
+    let AskedMove { place, plan } = asked;
     match engine.move_to(rt, alloc, plan) {
         Ok(engine) => tell_begun(engine, desk, watch),
-        Err((why, engine)) => refuse_move(engine, why, desk),
+        Err((why, engine)) => refuse_move(engine, why, desk, watch, place),
     }
 }
 
-// Refuses a move of an engine, or ends it where there is no memory.
-fn refuse_move<W: Write + Drop>(
+// Refuses a move of an engine that a line asks for, or ends the engine if there is no memory.
+fn refuse_move<W: Write + Drop, V: ServeWatch>(
     engine: Engine,
     why: NotMoved,
     desk: &mut ServeDesk<W>,
+    watch: &V,
+    place: LinePlace,
 ) -> Result<Engine, ServeEnding>
     ensures { GoesOrLacksMemory engine (desk_value W.contents desk.old)
         result (desk_value W.contents desk.new) }
 {
     match why {
         NotMoved::Plans(fault) => {
-            desk.say_refused(fault.number());
+            let number = fault.number();
+            desk.say_refused(watch, unread_refusal(number, place));
             Ok(engine)
         }
         NotMoved::Moving | NotMoved::Memory => {

@@ -7,6 +7,9 @@ use std::io::Read;
 // What the first line begins with.
 const PLAN: &[u8] = b"plan ";
 
+// The number of the first line of the rows in a header whose plans have two lines.
+const FIRST_ROW: u64 = 4;
+
 // The byte that ends a line.
 const LINE_END: u8 = 10;
 
@@ -72,5 +75,25 @@ fn line_before(line: InputLine) -> InputLine {
         InputLine::Row(0) => InputLine::Config,
         InputLine::Row(at) => InputLine::Row(at.saturating_sub(1)),
         InputLine::Later(number) => InputLine::Later(number.saturating_sub(1)),
+    }
+}
+
+/// The fault of a row in a portion of an input whose first line has this number. It counts the rows from the first of the portion.
+pub(crate) fn on_later_line(located: LocatedFault, number: u64) -> LocatedFault {
+    LocatedFault {
+        fault: located.fault,
+        line: located.line.map(|line| {
+            let before = line.number().saturating_sub(FIRST_ROW);
+            line_at(number.saturating_add(before))
+        }),
+    }
+}
+
+/// The line with this number of a header, after the sizes.
+pub(crate) fn line_at(number: u64) -> InputLine {
+    if number < FIRST_ROW {
+        InputLine::Config
+    } else {
+        InputLine::Row((number - FIRST_ROW) as usize)
     }
 }

@@ -1,17 +1,14 @@
 // The reader of an engine's input.
-ghost use Rattle.std.specs.Prelude.{◌≡◌, Ok};
-ghost use Rattle.sq_schema.specs.declared.schema.TheConstants.{MAX_TABLES};
-ghost use Rattle.sq_serve.specs.ServeLines.{serve_line_of, IsServeLine};
-
-use crate::plan_line::{header_start, on_one_line};
-use rtrb::Producer;
+use crate::asking::{fed_of, largest_schema};
+use crate::feeds::Feeds;
+use crate::plan_line::{header_start, line_at, on_later_line, on_one_line};
 use sq_lines::{LineReader, MAX_LINES, MAX_UNENDED, Next};
 use sq_ranges::Opening;
-use sq_schema::{MAX_TABLES, Schema};
-use sq_serve::{Portions, ServeFault, ServeLine, read_serve_line};
-use sq_server::{Fed, InputEnd, give};
-use sq_text::{InputFault, LocatedFault, read_header};
-use std::alloc::{AllocError, Global};
+use sq_serve::{Following, LinePlaces, Portions, begins_serve_line};
+use sq_server::{Fed, InputEnd};
+use sq_text::{InputFault, MAX_LINE, read_header, take_rows};
+use std::alloc::Global;
+use std::io;
 use std::io::Read;
 use std::sync::Wait;
 
@@ -21,119 +18,220 @@ const PORTION: usize = MAX_LINES as usize;
 // How many lines the first line of an input becomes.
 const PLAN_LINES: usize = 2;
 
-/// What the header of an input spells, or its first fault.
-pub(crate) type Header = Result<Opening, LocatedFault>;
-
-/// Where a reader hands on what it reads: the header, and what the lines behind it ask.
+/// What a portion of an input ends in.
 #[derive(Drop)]
-pub(crate) struct Feeds {
-    pub(crate) header: Producer<Header>,
-    pub(crate) lines: Producer<Fed>,
+enum PortionEnd {
+    /// The header, whose rows up to there are in this opening.
+    Header(Opening),
+    /// The lines after the header.
+    Lines(InputEnd),
 }
 
-/// Reads an input to its end, and hands on what its lines ask.
-pub(crate) fn read_all<R: Wait, I: Read + Drop>(rt: &R, alloc: Global, feeds: Feeds, input: I) {
+/// Reads an input to its end, and hands on what its lines ask. The last one needs no line end.
+pub(crate) fn read_all<R: Wait, I: Read + Drop, P: LinePlaces + Drop>(
+    rt: &R,
+    alloc: Global,
+    feeds: Feeds<P>,
+    input: I,
+) {
     let mut feeds = feeds;
-    if let Some(end) = read_input(rt, alloc, &mut feeds, input) {
-        give(rt, &mut feeds.lines, Fed::End(end));
+    let ended = Following::new(input, io::empty());
+    if let Some(end) = read_input(rt, alloc, &mut feeds, ended) {
+        feeds.hand_on(rt, Fed::End(end));
     }
 }
 
-// Hands on all that an input asks, and says how it ends; `None` where its header has a fault, or nobody takes what is handed on.
-fn read_input<R: Wait, I: Read + Drop>(
+// Hands on all that an input asks, and says how it ends; `None` if its header has a fault, or if nobody takes what is handed on.
+fn read_input<R: Wait, I: Read + Drop, P: LinePlaces + Drop>(
     rt: &R,
     alloc: Global,
-    feeds: &mut Feeds,
+    feeds: &mut Feeds<P>,
     input: I,
 ) -> Option<InputEnd> {
     let mut input = input;
     let head = match header_start(alloc, &mut input) {
         Ok(head) => head,
         Err(fault) => {
-            give(rt, &mut feeds.header, Err(fault));
+            feeds.refuse(rt, fault);
             return None;
         }
     };
     let mut portions = Portions::new(input, PORTION - PLAN_LINES);
     let first = read_first(rt, alloc, feeds, head.as_slice().chain(&mut portions))?;
-    read_portions(rt, alloc, &mut feeds.lines, portions, first)
+    read_portions(rt, alloc, feeds, portions, first)
 }
 
-// Hands on what the lines of all portions after the first one ask. The first one ended so.
-fn read_portions<R: Wait, I: Read + Drop>(
+// Hands on what all portions after the first one hold, which ended so.
+fn read_portions<R: Wait, I: Read + Drop, P: LinePlaces + Drop>(
     rt: &R,
     alloc: Global,
-    feed: &mut Producer<Fed>,
+    feeds: &mut Feeds<P>,
     portions: Portions<I>,
-    first: InputEnd,
+    first: PortionEnd,
 ) -> Option<InputEnd> {
     let mut portions = portions;
     let mut end = first;
-    let mut before = PORTION as u64;
+    // The first portion has the plan on two lines, and the input on one.
+    let mut number = PORTION as u64;
     for _ in rt.forever() {
-        if end != InputEnd::Whole || !portions.next_portion(PORTION) {
-            return Some(end);
+        if !goes_on(&end) || !portions.next_portion(PORTION) {
+            return Some(finish(rt, feeds, end));
         }
-        // The first portion has the plan on two lines, and the input on one.
-        end = read_portion(rt, alloc, feed, before, &mut portions)?;
-        before = before.saturating_add(PORTION as u64);
+        end = read_portion(rt, alloc, feeds, number, end, &mut portions)?;
+        number = number.saturating_add(PORTION as u64);
     }
     unreachable!()
 }
 
-// Hands on the header, and what the lines behind it in the first portion ask. It has the plan on two lines.
-fn read_first<R: Wait, I: Read + Drop>(
+// Whether more may come after a portion.
+fn goes_on(end: &PortionEnd) -> bool {
+    matches!(
+        end,
+        PortionEnd::Header(_) | PortionEnd::Lines(InputEnd::Whole)
+    )
+}
+
+// Says how an input ends whose last portion ended so. If it is a header alone, that is handed on.
+fn finish<R: Wait, P: LinePlaces + Drop>(
+    rt: &R,
+    feeds: &mut Feeds<P>,
+    last: PortionEnd,
+) -> InputEnd {
+    match last {
+        PortionEnd::Header(opening) => {
+            feeds.open(rt, opening);
+            InputEnd::Whole
+        }
+        PortionEnd::Lines(end) => end,
+    }
+}
+
+// Hands on what the first portion holds, which has the plan on two lines.
+fn read_first<R: Wait, I: Read + Drop, P: LinePlaces + Drop>(
     rt: &R,
     alloc: Global,
-    feeds: &mut Feeds,
+    feeds: &mut Feeds<P>,
     input: I,
-) -> Option<InputEnd> {
+) -> Option<PortionEnd> {
     let Ok(mut lines) = LineReader::new(alloc, input) else {
-        give(rt, &mut feeds.header, Err(InputFault::Memory.at_no_line()));
+        feeds.refuse(rt, InputFault::Memory.at_no_line());
         return None;
     };
     match read_header(alloc, largest_schema(), &mut lines) {
-        Ok(opening) => {
-            give(rt, &mut feeds.header, Ok(opening));
-            read_lines(rt, alloc, &mut feeds.lines, 0, &mut lines)
-        }
+        Ok(opening) => read_after_rows(rt, alloc, feeds, 0, opening, &mut lines),
         Err(fault) => {
-            give(rt, &mut feeds.header, Err(on_one_line(fault)));
+            feeds.refuse(rt, on_one_line(fault));
             None
         }
     }
 }
 
-// Hands on what the lines of a portion ask; the first has this number.
-fn read_portion<R: Wait, I: Read + Drop>(
+// Hands on what a portion holds, whose first line has this number. The portion before it ended so.
+fn read_portion<R: Wait, I: Read + Drop, P: LinePlaces + Drop>(
     rt: &R,
     alloc: Global,
-    feed: &mut Producer<Fed>,
-    first: u64,
+    feeds: &mut Feeds<P>,
+    number: u64,
+    before: PortionEnd,
     portion: I,
-) -> Option<InputEnd> {
-    match LineReader::new(alloc, portion) {
-        Ok(mut lines) => read_lines(rt, alloc, feed, first, &mut lines),
-        Err(_) => Some(InputEnd::Memory),
+) -> Option<PortionEnd> {
+    match before {
+        PortionEnd::Header(opening) => read_rows(rt, alloc, feeds, number, opening, portion),
+        PortionEnd::Lines(_) => read_only_lines(rt, alloc, feeds, number, portion),
     }
 }
 
-// Hands on what lines ask; the first has this number. Says how they end; `None` where nobody takes what is handed on.
-fn read_lines<R: Wait, I: Read + Drop>(
+// Takes the rows with which a portion goes on into an opening, and hands on what the portion holds after them.
+fn read_rows<R: Wait, I: Read + Drop, P: LinePlaces + Drop>(
     rt: &R,
     alloc: Global,
-    feed: &mut Producer<Fed>,
-    first: u64,
+    feeds: &mut Feeds<P>,
+    number: u64,
+    opening: Opening,
+    portion: I,
+) -> Option<PortionEnd> {
+    let mut opening = opening;
+    let Ok(mut lines) = LineReader::new(alloc, portion) else {
+        feeds.refuse(rt, InputFault::Memory.at_no_line());
+        return None;
+    };
+    match take_rows(alloc, &mut lines, &mut opening) {
+        Ok(()) => read_after_rows(rt, alloc, feeds, number, opening, &mut lines),
+        Err(fault) => {
+            feeds.refuse(rt, on_later_line(fault, number));
+            None
+        }
+    }
+}
+
+// Goes on after the rows of a portion whose first line has this number: the header ends before a line that asks something, and it
+// may go on in the next portion. It has any other line for a fault.
+fn read_after_rows<R: Wait, I: Read + Drop, P: LinePlaces + Drop>(
+    rt: &R,
+    alloc: Global,
+    feeds: &mut Feeds<P>,
+    number: u64,
+    opening: Opening,
     lines: &mut LineReader<I>,
-) -> Option<InputEnd> {
+) -> Option<PortionEnd> {
+    let line = next_number(number, lines);
+    let next = lines.next_read(MAX_UNENDED);
+    if next == Next::End {
+        return Some(PortionEnd::Header(opening));
+    }
+    if let Some(fault) = fault_after_rows(next, lines.piece()) {
+        feeds.refuse(rt, fault.at(line_at(line)));
+        return None;
+    }
+    feeds.open(rt, opening);
+    let asked = fed_of(alloc, next, feeds.place(line), lines.piece());
+    if feeds.hand_on(rt, asked) {
+        read_lines(rt, alloc, feeds, number, lines)
+    } else {
+        None
+    }
+}
+
+// The fault of the next line after the rows, unless it asks something.
+fn fault_after_rows(next: Next, piece: &[u8]) -> Option<InputFault> {
+    match next {
+        Next::Line | Next::Rest if begins_serve_line(piece) => None,
+        Next::Line | Next::Rest if piece.len() <= MAX_LINE => Some(InputFault::BadHeader),
+        Next::Failed => Some(InputFault::ReadFailed),
+        _ => Some(InputFault::LineTooLong),
+    }
+}
+
+// Hands on what the lines of a portion ask, the first of which has this number.
+fn read_only_lines<R: Wait, I: Read + Drop, P: LinePlaces + Drop>(
+    rt: &R,
+    alloc: Global,
+    feeds: &mut Feeds<P>,
+    number: u64,
+    portion: I,
+) -> Option<PortionEnd> {
+    match LineReader::new(alloc, portion) {
+        Ok(mut lines) => read_lines(rt, alloc, feeds, number, &mut lines),
+        Err(_) => Some(PortionEnd::Lines(InputEnd::Memory)),
+    }
+}
+
+// Hands on what lines ask; the first line of their portion has this number. Says how they end; `None` if nobody takes what is
+// handed on.
+fn read_lines<R: Wait, I: Read + Drop, P: LinePlaces + Drop>(
+    rt: &R,
+    alloc: Global,
+    feeds: &mut Feeds<P>,
+    number: u64,
+    lines: &mut LineReader<I>,
+) -> Option<PortionEnd> {
     for _ in rt.forever() {
-        let before = u64::from(lines.next_line_number()).saturating_sub(1);
-        let number = first.saturating_add(before);
+        let line = next_number(number, lines);
         let next = lines.next_read(MAX_UNENDED);
-        match fed_of(alloc, next, number, lines.piece()) {
-            Fed::End(end) => return Some(end),
+        match fed_of(alloc, next, feeds.place(line), lines.piece()) {
+            Fed::End(end) => return Some(PortionEnd::Lines(end)),
             line => {
-                if !give(rt, feed, line) {
+                if !feeds.hand_on(rt, line) {
                     return None;
                 }
             }
@@ -142,57 +240,8 @@ fn read_lines<R: Wait, I: Read + Drop>(
     unreachable!()
 }
 
-// What the next piece of an input, in the line with this number, is to be handed on as.
-fn fed_of(alloc: Global, next: Next, number: u64, piece: &[u8]) -> Fed {
-    match next {
-        Next::Line => Fed::Line {
-            number,
-            asks: read_asks(alloc, piece),
-        },
-        Next::Rest => Fed::Line {
-            number,
-            asks: Err(ServeFault::NotAServeLine),
-        },
-        Next::End => Fed::End(InputEnd::Whole),
-        Next::Failed => Fed::End(broken(InputFault::ReadFailed, number)),
-        Next::Long | Next::TooMany | Next::Unread => Fed::End(broken(InputFault::TooLong, number)),
-    }
-}
-
-// What a line asks. Copies of its transaction share its operations.
-fn read_asks(alloc: Global, line: &[u8]) -> Result<ServeLine, ServeFault>
-    ensures { IsServeLine result (serve_line_of MAX_TABLES line.now) }
-{
-    shared(read_serve_line(alloc, &largest_schema(), line)?)
-}
-
-// What a line asks, where copies of its transaction share its operations.
-fn shared(asks: ServeLine) -> Result<ServeLine, ServeFault>
-    ensures { IsServeLine result (Ok asks) }
-{
-    match asks {
-        ServeLine::Job { part, txn } => match txn.share() {
-            Ok(txn) => Ok(ServeLine::Job { part, txn }),
-            Err(AllocError) => Err(ServeFault::Memory),
-        },
-        asks => Ok(asks),
-    }
-}
-
-// Nothing is read behind a fault of a line.
-fn broken(fault: InputFault, line: u64) -> InputEnd {
-    InputEnd::Broken {
-        fault: fault.number(),
-        line,
-    }
-}
-
-// The schema with the most tables.
-fn largest_schema() -> Schema
-    ensures { result ≡ MAX_TABLES }
-{
-    let Some(schema) = Schema::new(MAX_TABLES) else {
-        unreachable!()
-    };
-    schema
+// The number of the next line of a portion, whose first line has this number.
+fn next_number<I: Read>(number: u64, lines: &LineReader<I>) -> u64 {
+    let before = u64::from(lines.next_line_number()).saturating_sub(1);
+    number.saturating_add(before)
 }

@@ -4,11 +4,12 @@ ghost use Rattle.sq_engine.specs.Engine.{stores_in};
 ghost use Rattle.sq_server.specs.Becoming.{desk_value, Speaks};
 ghost use Rattle.sq_service.specs.Rows.{IsRowsText, GivesRows, RowsAreGiven, TellsRowsOrSpeaks};
 
+use crate::telling::unread_refusal;
 use sq_engine::{Engine, NotTaken};
 use sq_results::write_stored_rows;
 use sq_runs::RunStore;
 use sq_schema::OUT_OF_MEMORY;
-use sq_serve::{RowsFile, ServeAnswer, ServeWatch};
+use sq_serve::{LinePlace, RowsFile, ServeWatch};
 use sq_server::{AskedRows, ServeDesk};
 use std::alloc::Global;
 use std::io;
@@ -40,30 +41,25 @@ pub(crate) fn tell_rows<R: Wait, W: Write + Drop, V: ServeWatch>(
             engine
         }
         Err((why, engine)) => {
-            say_not_paused(desk, why, asked.line);
+            say_not_paused(desk, watch, why, asked.place);
             engine
         }
     }
 }
 
 // Says why the rows that a line asks for don't come.
-fn say_not_paused<W: Write + Drop>(desk: &mut ServeDesk<W>, why: NotTaken, line: u64)
+fn say_not_paused<W: Write + Drop, V: ServeWatch>(
+    desk: &mut ServeDesk<W>,
+    watch: &V,
+    why: NotTaken,
+    place: LinePlace,
+)
     ensures { Speaks (desk_value W.contents desk.old) (desk_value W.contents desk.new) }
 {
     match why {
-        NotTaken::Moving => desk.say_refused(MOVING),
-        NotTaken::Memory => say_memory(desk, line),
+        NotTaken::Moving => desk.say_refused(watch, unread_refusal(MOVING, place)),
+        NotTaken::Memory => desk.say_fault(watch, unread_refusal(OUT_OF_MEMORY, place)),
     }
-}
-
-// Writes that there is no memory for what a line asks.
-fn say_memory<W: Write + Drop>(desk: &mut ServeDesk<W>, line: u64)
-    ensures { Speaks (desk_value W.contents desk.old) (desk_value W.contents desk.new) }
-{
-    desk.say(ServeAnswer::Fault {
-        fault: OUT_OF_MEMORY,
-        line,
-    });
 }
 
 // Writes the rows of an engine while no epoch of it runs, or has them saved. Without memory for that it says so.
@@ -83,8 +79,8 @@ fn give_engine_rows<W: Write + Drop, V: ServeWatch>(
         unreachable!()
     };
     match rows_text(alloc, stores) {
-        Ok(text) => give_rows(desk, watch, &text, asked.file),
-        Err(_) => say_memory(desk, asked.line),
+        Ok(text) => give_rows(desk, watch, &text, asked),
+        Err(_) => desk.say_fault(watch, unread_refusal(OUT_OF_MEMORY, asked.place)),
     }
 }
 
@@ -97,19 +93,20 @@ fn rows_text(alloc: Global, stores: &[RunStore]) -> io::Result<Vec<u8>>
     Ok(text)
 }
 
-// Writes rows with these lines, or has them saved in a file.
+// Writes rows with these lines, or has them saved in the file that is asked for.
 fn give_rows<W: Write + Drop, V: ServeWatch>(
     desk: &mut ServeDesk<W>,
     watch: &V,
     lines: &[u8],
-    file: Option<RowsFile>,
+    asked: AskedRows,
 )
-    ensures { GivesRows (V.Saves watch.now) file lines.now
+    ensures { GivesRows (V.Saves watch.now) asked.file lines.now
         (desk_value W.contents desk.old) (desk_value W.contents desk.new) }
 {
+    let AskedRows { place, file } = asked;
     match file {
         None => desk.say_rows(lines),
-        Some(file) => save_rows(desk, watch, &file, lines),
+        Some(file) => save_rows(desk, watch, &file, lines, place),
     }
 }
 
@@ -119,12 +116,13 @@ fn save_rows<W: Write + Drop, V: ServeWatch>(
     watch: &V,
     file: &RowsFile,
     lines: &[u8],
+    place: LinePlace,
 )
     ensures { GivesRows (V.Saves watch.now) (Some file.now) lines.now
         (desk_value W.contents desk.old) (desk_value W.contents desk.new) }
 {
     match watch.save(file.name(), lines) {
         Ok(()) => desk.say_row_count(lines),
-        Err(_) => desk.say_refused(UNWRITTEN),
+        Err(_) => desk.say_refused(watch, unread_refusal(UNWRITTEN, place)),
     }
 }

@@ -3,20 +3,24 @@ ghost use Rattle.std.specs.Prelude.{◌≡◌, ◌≤◌, IfOk, IfErr};
 ghost use Rattle.rtrb.specs.Ring.{received};
 ghost use Rattle.sq_pull.specs.declared.numbers.TheConstants.{MAX_PUMPS};
 ghost use Rattle.sq_server.specs.Becoming.{desk_value};
+ghost use Rattle.sq_service.specs.Steps.{EndsForWant};
 ghost use Rattle.sq_service.specs.Service.{first_desk, ServesOpening, ServesSome, ServesWriter};
 
-use crate::reading::{Feeds, Header, read_all};
+use crate::feeds::{Feeds, Header};
+use crate::reading::read_all;
 use crate::service::serve_engine;
 use crate::telling::tell_ending;
 use rtrb::{Consumer, RingBuffer};
 use sq_engine::Engine;
 use sq_plan::Plan;
 use sq_ranges::Opening;
-use sq_serve::ServeWatch;
-use sq_server::{FEED_ROOM, Fed, Outlet, ServeDesk, ServeEnding, SideQueues, wait_for};
+use sq_serve::{LinePlaces, ServeWatch};
+use sq_server::{
+    Bell, DeskConfig, FEED_ROOM, Fed, Outlet, ServeDesk, ServeEnding, SideQueues, wait_for,
+};
 use std::alloc::{AllocError, Global};
 use std::io::{Read, Write};
-use std::sync::Wait;
+use std::sync::{Arc, Wait};
 use std::thread::{Builder, Threads};
 
 /// How an engine is served.
@@ -26,21 +30,31 @@ pub struct ServeConfig {
     pub pumps: u32,
     /// After how many answers a page is taken.
     pub fold_after: u64,
+    /// Whether it ends after the first line with a fault or a refusal.
+    pub is_strict: bool,
+}
+
+/// The lines that a reader hands on, and the bell that it rings for them.
+#[derive(Drop)]
+struct HandedLines {
+    feed: Consumer<Fed>,
+    bell: Arc<Bell, Global>,
 }
 
 /// What a reader hands on.
 #[derive(Drop)]
 struct Handed {
     header: Consumer<Header>,
-    lines: Consumer<Fed>,
+    lines: HandedLines,
 }
 
-/// Serves an engine until its input ends: reads its header and then lines, and writes the answers. Who watches saves
-/// the rows that a line wants in a file.
-pub fn serve<T, I, W, V>(
+/// Serves an engine until its input ends: reads its header and then lines, which stand in these places, and writes the answers.
+/// Who watches saves the rows that a line wants in a file, and tells why a line is refused.
+pub fn serve<T, I, P, W, V>(
     rt: &T,
     alloc: Global,
     input: I,
+    places: P,
     writer: W,
     config: ServeConfig,
     watch: &V,
@@ -48,22 +62,24 @@ pub fn serve<T, I, W, V>(
 where
     T: Threads + Wait + Sync + Copy + Send + 'static,
     I: Read + Send + Drop + 'static,
+    P: LinePlaces + Send + Drop + 'static,
     W: Write + Drop,
     V: ServeWatch,
     requires { config.pumps ≤ MAX_PUMPS }
     ensures { ServesWriter W.contents writer result.0 result.1 }
 {
     let outlet = Outlet::new(writer);
-    let (outlet, ending) = serve_input(rt, alloc, input, outlet, config, watch);
+    let (outlet, ending) = serve_input(rt, alloc, input, places, outlet, config, watch);
     let (outlet, ending) = tell_ending(outlet, ending);
     (outlet.writer, ending)
 }
 
 // Serves an engine until its input ends.
-fn serve_input<T, I, W, V>(
+fn serve_input<T, I, P, W, V>(
     rt: &T,
     alloc: Global,
     input: I,
+    places: P,
     outlet: Outlet<W>,
     config: ServeConfig,
     watch: &V,
@@ -71,42 +87,54 @@ fn serve_input<T, I, W, V>(
 where
     T: Threads + Wait + Sync + Copy + Send + 'static,
     I: Read + Send + Drop + 'static,
+    P: LinePlaces + Send + Drop + 'static,
     W: Write + Drop,
     V: ServeWatch,
     requires { config.pumps ≤ MAX_PUMPS }
     ensures { ServesSome W.contents outlet result.1 result.0 }
 {
-    match start_reader(rt, alloc, input) {
+    match start_reader(rt, alloc, input, places) {
         Ok(handed) => serve_handed(rt, alloc, handed, outlet, config, watch),
-        Err(AllocError) => (outlet, ServeEnding::Memory),
+        Err(ending) => (outlet, ending),
     }
 }
 
-// Starts a thread that reads an input. It isn't joined, since a read can't be cut off.
-fn start_reader<T, I>(rt: &T, alloc: Global, input: I) -> Result<Handed, AllocError>
+// Starts a thread that reads an input. It isn't joined, since a read can't be cut off. An error is how serving ends without it.
+fn start_reader<T, I, P>(rt: &T, alloc: Global, input: I, places: P) -> Result<Handed, ServeEnding>
 where
     T: Threads + Wait + Sync + Copy + Send + 'static,
     I: Read + Send + Drop + 'static,
+    P: LinePlaces + Send + Drop + 'static,
+    ensures { IfErr result EndsForWant }
 {
-    let (feeds, handed) = open_rings(alloc)?;
+    let Ok((feeds, handed)) = open_rings(alloc, places) else {
+        return Err(ServeEnding::Memory);
+    };
     let there = *rt;
     match Builder::new().spawn(rt, move || read_all(&there, alloc, feeds, input)) {
         Ok(_handle) => Ok(handed),
         Err(_) => {
             drop(handed);
-            Err(AllocError)
+            Err(ServeEnding::Threads)
         }
     }
 }
 
 // Opens the rings over which a reader hands on what it reads.
-fn open_rings(alloc: Global) -> Result<(Feeds, Handed), AllocError> {
+fn open_rings<P: LinePlaces + Drop>(
+    alloc: Global,
+    places: P,
+) -> Result<(Feeds<P>, Handed), AllocError> {
     let (header_end, header) = RingBuffer::new(alloc, 1)?;
-    let (lines_end, lines) = RingBuffer::new(alloc, FEED_ROOM)?;
+    let (lines_end, feed) = RingBuffer::new(alloc, FEED_ROOM)?;
+    let bell = Arc::new(alloc, Bell::new())?;
     let feeds = Feeds {
         header: header_end,
         lines: lines_end,
+        bell: Arc::try_clone(&bell)?,
+        places,
     };
+    let lines = HandedLines { feed, bell };
     Ok((feeds, Handed { header, lines }))
 }
 
@@ -139,7 +167,7 @@ fn serve_header<T: Threads + Wait + Sync, W: Write + Drop, V: ServeWatch>(
     rt: &T,
     alloc: Global,
     header: Header,
-    lines: Consumer<Fed>,
+    lines: HandedLines,
     outlet: Outlet<W>,
     config: ServeConfig,
     watch: &V,
@@ -161,17 +189,17 @@ fn serve_opening<T: Threads + Wait + Sync, W: Write + Drop, V: ServeWatch>(
     rt: &T,
     alloc: Global,
     opening: Opening,
-    lines: Consumer<Fed>,
+    lines: HandedLines,
     outlet: Outlet<W>,
     config: ServeConfig,
     watch: &V,
 ) -> (Outlet<W>, ServeEnding)
     requires { config.pumps ≤ MAX_PUMPS }
     ensures { ServesOpening W.contents opening
-        (first_desk W.contents outlet (received lines) opening.new.parts)
+        (first_desk W.contents outlet (received lines.feed) opening.new.parts)
         outlet result.1 result.0 }
 {
-    match desk_for(alloc, opening.new_plan(), lines, outlet, config.fold_after) {
+    match desk_for(alloc, opening.new_plan(), lines, outlet, config) {
         Ok(desk) => serve_at_desk(rt, alloc, opening, desk, config.pumps, watch),
         Err(outlet) => (outlet, ServeEnding::Memory),
     }
@@ -181,21 +209,26 @@ fn serve_opening<T: Threads + Wait + Sync, W: Write + Drop, V: ServeWatch>(
 fn desk_for<W: Write + Drop>(
     alloc: Global,
     plan: &Plan,
-    lines: Consumer<Fed>,
+    lines: HandedLines,
     outlet: Outlet<W>,
-    fold_after: u64,
+    config: ServeConfig,
 ) -> Result<ServeDesk<W>, Outlet<W>>
     ensures desk { IfOk result (λ desk. desk_value W.contents desk
-        ≡ first_desk W.contents outlet (received lines) plan.now.parts) }
+        ≡ first_desk W.contents outlet (received lines.feed) plan.now.parts) }
     ensures outlet { IfOk result (λ desk. desk.outlet ≡ outlet) }
     ensures returned { IfErr result (λ back. back ≡ outlet) }
 {
     let Ok(text) = plan.write() else {
         return Err(outlet);
     };
+    let config = DeskConfig {
+        fold_after: config.fold_after,
+        is_strict: config.is_strict,
+    };
+    let HandedLines { feed, bell } = lines;
     let parts = plan.parts();
     match SideQueues::new(alloc, parts) {
-        Ok(sides) => Ok(ServeDesk::new(lines, outlet, sides, text, fold_after)),
+        Ok(sides) => Ok(ServeDesk::new(feed, bell, outlet, sides, text, config)),
         Err(_) => Err(outlet),
     }
 }

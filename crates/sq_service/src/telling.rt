@@ -1,12 +1,12 @@
 // Lines about moves, and about how an engine that was served ends.
+ghost use Rattle.std.specs.Prelude.{◌≡◌};
 ghost use Rattle.sq_server.specs.Becoming.{desk_value, Speaks};
-ghost use Rattle.sq_service.specs.Telling.{IsLineOfFault, IsLineOfEnding, SaysLine, TellsEnding};
+ghost use Rattle.sq_service.specs.Telling.{line_of_fault, IsLineOfEnding, SaysLine, TellsEnding};
 
 use sq_live::LiveOutcome;
 use sq_schema::OUT_OF_MEMORY;
-use sq_serve::ServeAnswer;
+use sq_serve::{HeaderFault, LinePlace, LineRefusal, ServeAnswer};
 use sq_server::{MoveProgress, Outlet, ServeDesk, ServeEnding};
-use sq_text::LocatedFault;
 use std::io::Write;
 
 /// Tells that a move of so many segments begins.
@@ -25,6 +25,16 @@ pub(crate) fn tell_moved<W: Write + Drop>(desk: &mut ServeDesk<W>, plan: String,
     desk.plan = plan;
     desk.moving = None;
     desk.say(ServeAnswer::Moved { segments });
+}
+
+/// The refusal with this number of a line that stands there. Its text isn't kept.
+pub(crate) fn unread_refusal(number: u16, place: LinePlace) -> LineRefusal<'static> {
+    LineRefusal {
+        number,
+        place,
+        id: None,
+        text: &[],
+    }
 }
 
 /// Writes how an engine that was served ended, and sees that all goes out.
@@ -59,22 +69,24 @@ fn say_ending<W: Write + Drop>(outlet: &mut Outlet<W>, ending: ServeEnding)
             committed,
         }),
         ServeEnding::Unsound(defect) => outlet.say_outcome(LiveOutcome::Unsound(defect)),
-        ServeEnding::NoHeader(located) => say_located(outlet, located),
+        ServeEnding::NoHeader(header) => say_located(outlet, header),
         ServeEnding::Memory => outlet.say_fault(OUT_OF_MEMORY),
+        ServeEnding::Threads => outlet.say_fault(OUT_OF_MEMORY),
         ServeEnding::Unwritten => {}
     }
 }
 
-// Writes a fault of a header, with its line if it has one.
-fn say_located<W: Write + Drop>(outlet: &mut Outlet<W>, located: LocatedFault)
-    ensures { SaysLine (IsLineOfFault located) W.contents outlet.old outlet.new }
+// Writes a fault of a header, with the number of its line if it has one.
+fn say_located<W: Write + Drop>(outlet: &mut Outlet<W>, header: HeaderFault)
+    ensures { SaysLine (λ text. text ≡ line_of_fault header) W.contents outlet.old outlet.new }
 {
-    let fault = located.fault.number();
-    match located.line {
-        Some(line) => {
-            let line = line.number();
-            outlet.say(ServeAnswer::Fault { fault, line });
-        }
+    let fault = header.located.fault.number();
+    match header.place {
+        Some(place) => outlet.say(ServeAnswer::Fault {
+            fault,
+            line: place.line,
+            id: None,
+        }),
         None => outlet.say_fault(fault),
     }
 }

@@ -103,7 +103,7 @@ fn grant<T: Threads + Wait + Sync, W: Write + Drop, V: ServeWatch>(
     match wish {
         Wish::Page => take_page(rt, alloc, engine, desk, book, false),
         Wish::Fold => take_page(rt, alloc, engine, desk, book, true),
-        Wish::Move(plan) => begin_move(rt, alloc, engine, plan, desk, watch),
+        Wish::Move(asked) => begin_move(rt, alloc, engine, asked, desk, watch),
         Wish::Rows(asked) => Ok(tell_rows(rt, alloc, engine, desk, watch, asked)),
         Wish::Close => close_unless_jobs_wait(rt, alloc, engine, desk, book.committed),
     }

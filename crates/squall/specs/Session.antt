@@ -138,7 +138,7 @@ abbrev pub EndsLine : Line → Option (List ℕ) → Option (List ℕ) → Optio
 EndsLine (Work task input) known before now status = EndsMain task input.plans input.file known before now status
 EndsLine (Owner keys plans width) known before now status = EndsOwners keys.items width before now status
 EndsLine (Demo demo folder) known before now status = EndsDemo folder.now before now status
-EndsLine (Serve pumps fold_after files file reports) known before now status = EndsEngine before now status
+EndsLine (Serve pumps fold_after strict files file reports) known before now status = EndsEngine before now status
 EndsLine (Explain number) known before now status = EndsAs (Explains number before now) explain_status status
 
 -- the words have no fault, and what their subcommand asks for ended with this status

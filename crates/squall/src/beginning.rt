@@ -8,8 +8,9 @@ ghost use Rattle.squall.specs.DemoCommands.{EndsDemo};
 use crate::session::{REFUSED, explain_write, refuse_for_memory};
 use sq_command::Demo;
 use sq_demo::{DemoSizes, DemoTexts, write_commands};
-use sq_outputs::{Folder, save};
+use sq_outputs::{Folder, NewFile, SystemFolder, save};
 use sq_text::WriteFault;
+use std::alloc::AllocError;
 use std::cell::Cell;
 use std::io::{ErrorKind, Write};
 use std::rt::Files;
@@ -31,13 +32,14 @@ const JOBS: &str = "jobs.txt";
 #[derive(Drop)]
 struct NewFiles<'a, T> {
     rt: &'a T,
+    system: SystemFolder<'a, T>,
 }
 
 impl<T: Files> Folder for NewFiles<'_, T> {
     ghost calls = { λ _. None };
 
-    fn write(&mut self, name: &str, text: &[u8]) -> io::Result<()> {
-        fs::write(self.rt, name, text)
+    fn write(&mut self, name: &str, like: &str, text: &[u8]) -> io::Result<()> {
+        self.system.write(name, like, text)
     }
 
     fn rename(&mut self, from: &str, to: &str) -> io::Result<()> {
@@ -45,13 +47,17 @@ impl<T: Files> Folder for NewFiles<'_, T> {
         fs::remove_file(self.rt, from)
     }
 
-    fn remove(&mut self, name: &str) -> io::Result<()> {
-        fs::remove_file(self.rt, name)
+    fn sync_folder(&mut self, name: &str) {
+        self.system.sync_folder(name);
+    }
+
+    fn remove(&mut self, name: &str) {
+        self.system.remove(name);
     }
 }
 
 /// Writes the files of an input to begin with into a folder, which is made where it isn't there: each whole, and none where
-/// one of them is there already. Writes the commands that run it then. Gives the exit status.
+/// one of them is there already or can't be written. Writes the commands that run it then. Gives the exit status.
 pub fn write_demo<T: Print + Eprint + Files + AllocGlobal, W: Write>(
     rt: &T,
     writer: &mut W,
@@ -135,19 +141,51 @@ fn are_absent<T: Eprint + Files + AllocGlobal>(rt: &T, folder: &str) -> bool {
 
 // Writes the texts into the files. Gives whether all were written; standard error says why one wasn't.
 fn are_written<T: Eprint + Files + AllocGlobal>(rt: &T, texts: &DemoTexts, folder: &str) -> bool {
-    let files = [
-        (OLD, texts.old.as_slice()),
-        (NEW, texts.new.as_slice()),
-        (ROWS, texts.rows.as_slice()),
-        (JOBS, texts.jobs.as_slice()),
-    ];
-    for (file, text) in files {
-        if let Err(error) = write_new(rt, folder, file, text) {
-            explain_file(rt, folder, file, &error);
-            return false;
+    let Ok(names) = names_in(rt, folder) else {
+        let _ = eprintln!(rt; "squall: there is no memory to write the files");
+        return false;
+    };
+    let Ok(files) = files_of(rt, &names, texts) else {
+        let _ = eprintln!(rt; "squall: there is no memory to write the files");
+        return false;
+    };
+    let system = SystemFolder::new(rt);
+    match save(&mut NewFiles { rt, system }, &files) {
+        Ok(()) => true,
+        Err(unsaved) => {
+            let (name, error) = (unsaved.name, unsaved.error);
+            let _ = eprintln!(rt; "squall: the file '{name}' can't be written: {error}");
+            false
         }
     }
-    true
+}
+
+// The names of the files in a folder.
+fn names_in<T: AllocGlobal>(rt: &T, folder: &str) -> Result<Vec<String>, AllocError> {
+    let mut names = Vec::new(rt.alloc());
+    for file in [OLD, NEW, ROWS, JOBS] {
+        names.push(format!(in rt.alloc(); "{folder}/{file}")?)?;
+    }
+    Ok(names)
+}
+
+// The files of these names, with their texts.
+fn files_of<'a, T: AllocGlobal>(
+    rt: &T,
+    names: &'a [String],
+    texts: &'a DemoTexts,
+) -> Result<Vec<NewFile<'a>>, AllocError> {
+    let texts = [
+        texts.old.as_slice(),
+        texts.new.as_slice(),
+        texts.rows.as_slice(),
+        texts.jobs.as_slice(),
+    ];
+    let mut files = Vec::new(rt.alloc());
+    for (name, text) in names.iter().zip(texts) {
+        files.push(NewFile::new(rt.alloc(), name.as_str(), text)?)?;
+    }
+    Ok(files)
 }
 
 // Says on standard error why a file of a folder can't be written.
@@ -162,17 +200,6 @@ fn check_absent<T: Files + AllocGlobal>(rt: &T, folder: &str, file: &str) -> io:
         Ok(_) => Err(io::Error::from(ErrorKind::AlreadyExists)),
         Err(_) => Ok(()),
     }
-}
-
-// Writes a text into a file of a folder that isn't there yet.
-fn write_new<T: Files + AllocGlobal>(
-    rt: &T,
-    folder: &str,
-    file: &str,
-    text: &[u8],
-) -> io::Result<()> {
-    let name = format!(in rt.alloc(); "{folder}/{file}")?;
-    save(rt.alloc(), &mut NewFiles { rt }, name.as_str(), text)
 }
 
 // Writes the commands that run the input in a folder, to the last byte.

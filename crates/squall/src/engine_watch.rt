@@ -1,17 +1,18 @@
 // Who watches an engine behind a pipe: it records what the engine does, and saves rows.
 ghost use Rattle.std.specs.Prelude.{◌≡◌, IfErr};
 
-use crate::outputs::{are_files, explain_conflict, save_text};
+use crate::outputs::{
+    FileText, add_text, are_files, can_be_made, explain_conflict, place_of_part, save_texts,
+};
+use crate::reasons::Reasons;
+use crate::saved_rows::PlacesInUse;
 use crate::serving::EngineInput;
 use crate::session::{REFUSED, refuse_for_memory};
-use sq_outputs::{
-    Output, SystemFolder, conflict_among, part_name, place_of, place_of_standard_input, save,
-};
-use sq_report::Stopwatch;
-use sq_serve::{ServeMark, ServeWatch};
+use sq_outputs::{Output, conflict_among, place_of, place_of_standard_input};
+use sq_report::{FiguresForm, Stopwatch, TimelineForm};
+use sq_serve::{LineRefusal, ServeMark, ServeWatch};
 use sq_serve_report::ServeRecord;
 use std::io;
-use std::io::ErrorKind;
 use std::rt::Files;
 use std::sync::{Mutex, Wait};
 use std::time::Clock;
@@ -23,14 +24,16 @@ pub struct EngineWatch<'a, T> {
     rt: &'a T,
     stopwatch: Stopwatch<'a, T>,
     record: Option<Mutex<ServeRecord>>,
-    // The places of the files in which no rows are saved.
-    places: Vec<String>,
+    // The files in which no rows are saved.
+    places: PlacesInUse,
+    /// Says why lines are refused.
+    pub reasons: Reasons<'a, T>,
 }
 
 impl<'a, T: Clock + Wait + Print + Eprint + Files + AllocGlobal> EngineWatch<'a, T> {
-    /// For an engine with this input, or the exit status: a report would be written over a file that the engine reads, or over
-    /// another report, or there is no memory, which standard error says.
-    pub fn new(rt: &'a T, input: EngineInput<'_>) -> Result<EngineWatch<'a, T>, u8>
+    /// For an engine with this input, or the exit status: a report would be written over a file that the engine reads, over
+    /// another report, or in a folder in which no file can be made, or there is no memory. Standard error says so.
+    pub fn new(rt: &'a T, input: EngineInput<'a>) -> Result<EngineWatch<'a, T>, u8>
         ensures { IfErr result (λ status. status ≡ 2) }
     {
         match places_of(rt, input) {
@@ -39,6 +42,7 @@ impl<'a, T: Clock + Wait + Print + Eprint + Files + AllocGlobal> EngineWatch<'a,
                 stopwatch: Stopwatch::start(rt),
                 record: record_of(rt, input),
                 places,
+                reasons: Reasons::new(rt, input),
             }),
             Ok(None) => Err(REFUSED),
             Err(_) => Err(refuse_for_memory(rt)),
@@ -52,38 +56,47 @@ impl<'a, T: Clock + Wait + Print + Eprint + Files + AllocGlobal> EngineWatch<'a,
         };
         let mut record = record.lock(self.rt);
         record.end(self.stopwatch.micros());
-        let is_timed = self.save_timeline(input.reports.timeline, &record);
-        let is_told = self.save_account(input.reports.summary_out, &record);
-        is_timed && is_told
+        let mut texts = Vec::new(self.rt.alloc());
+        self.add_timeline(input.reports.timeline, &record, &mut texts)
+            && self.add_account(input.reports.summary_out, &record, &mut texts)
+            && save_texts(self.rt, &texts)
     }
 
-    // Writes a line for each interval into the file of this name, where there is to be one. Gives whether it isn't missing.
-    fn save_timeline(&self, name: Option<&str>, record: &ServeRecord) -> bool {
+    // Adds the timeline, if it is wanted in a file: values if its name ends in '.csv', else a chart. Gives whether it isn't missing.
+    fn add_timeline(
+        &self,
+        name: Option<&str>,
+        record: &ServeRecord,
+        texts: &mut Vec<FileText>,
+    ) -> bool {
         let Some(name) = name else {
             return true;
         };
         let mut text = Vec::new(self.rt.alloc());
-        let written = record.write_timeline(&mut text);
-        save_text(self.rt, name, written.map(|()| text))
+        let written = match TimelineForm::of_file(name) {
+            TimelineForm::Csv => record.write_timeline(&mut text),
+            TimelineForm::Svg => record.write_chart(self.rt.alloc(), &mut text),
+        };
+        add_text(self.rt, texts, name, written.map(|()| text))
     }
 
-    // Writes the account into the file of this name, where there is to be one. Gives whether it isn't missing.
-    fn save_account(&self, name: Option<&str>, record: &ServeRecord) -> bool {
+    // Adds the account, if it is wanted in a file: as JSON if its name ends in '.json', else as text. Gives whether it isn't
+    // missing.
+    fn add_account(
+        &self,
+        name: Option<&str>,
+        record: &ServeRecord,
+        texts: &mut Vec<FileText>,
+    ) -> bool {
         let Some(name) = name else {
             return true;
         };
         let mut text = Vec::new(self.rt.alloc());
-        let written = record.write_account(&mut text);
-        save_text(self.rt, name, written.map(|()| text))
-    }
-
-    // Saves a text in the file of this name, unless no rows are saved there.
-    fn save_free(&self, name: &str, text: &[u8]) -> io::Result<()> {
-        let place = place_of(self.rt, name)?;
-        if is_among(&self.places, place.as_str()) {
-            return Err(io::Error::from(ErrorKind::AlreadyExists));
-        }
-        save(self.rt.alloc(), &mut SystemFolder::new(self.rt), name, text)
+        let written = match FiguresForm::of_file(name) {
+            FiguresForm::Json => record.write_json(self.rt.alloc(), &mut text),
+            FiguresForm::Text => record.write_account(&mut text),
+        };
+        add_text(self.rt, texts, name, written.map(|()| text))
     }
 }
 
@@ -97,18 +110,17 @@ impl<T: Clock + Wait + Print + Eprint + Files + AllocGlobal> ServeWatch for Engi
         }
     }
 
-    fn save(&self, name: &str, text: &[u8]) -> io::Result<()> {
-        let saved = self.save_free(name, text);
-        if let Err(error) = &saved {
-            let _ = eprintln!(self.rt; "squall: the file '{name}' can't be written: {error}");
-        }
-        saved
+    fn refuses(&self, refusal: LineRefusal<'_>) {
+        self.reasons.tell(refusal);
     }
-}
 
-// Whether this is one of some places.
-fn is_among(places: &[String], place: &str) -> bool {
-    places.iter().any(|one| one.as_str() == place)
+    fn save(&self, name: &str, text: &[u8]) -> io::Result<()> {
+        let saved = self.places.save(self.rt, name, text);
+        if let Err(why) = &saved {
+            let _ = eprintln!(self.rt; "squall: the file '{name}' can't be written: {why}");
+        }
+        saved.map_err(io::Error::from)
+    }
 }
 
 // A record, where something is to be reported.
@@ -121,23 +133,23 @@ fn record_of<T: AllocGlobal>(rt: &T, input: EngineInput<'_>) -> Option<Mutex<Ser
 }
 
 // The places of the files that an engine with this input reads or reports in. `None` where a report would be no file of its
-// own, or be written over a file that it reads, or over another report, which standard error says. An error is that memory ran
-// out.
+// own, or can't be written, or would be written over a file that it reads or over another report, which standard error says. An
+// error is that memory ran out.
 fn places_of<T: Eprint + Files + AllocGlobal>(
     rt: &T,
     input: EngineInput<'_>,
-) -> io::Result<Option<Vec<String>>> {
-    let places = read_places(rt, input)?;
+) -> io::Result<Option<PlacesInUse>> {
+    let read = read_places(rt, input)?;
     let outputs = outputs_of(rt, input)?;
-    if may_report(rt, &outputs, &places)? {
-        Ok(Some(with_outputs(places, outputs)?))
+    if may_report(rt, &outputs, &read)? {
+        Ok(Some(PlacesInUse::new(rt, read, places_among(rt, outputs)?)?))
     } else {
         Ok(None)
     }
 }
 
-// Whether each report would be a file of its own, written over no other report and over no file at one of these places. Where one
-// wouldn't, standard error says which. An error is that memory ran out.
+// Whether each report would be a file of its own, can be made, and would be written over no other report and over no file at one
+// of these places. Where one wouldn't, standard error says which. An error is that memory ran out.
 fn may_report<T: Eprint + Files + AllocGlobal>(
     rt: &T,
     outputs: &[Output<'_>],
@@ -151,13 +163,13 @@ fn may_report<T: Eprint + Files + AllocGlobal>(
             explain_conflict(rt, conflict);
             Ok(false)
         }
-        None => Ok(true),
+        None => can_be_made(rt, outputs),
     }
 }
 
-// Places, and behind them those of outputs.
-fn with_outputs(places: Vec<String>, outputs: Vec<Output<'_>>) -> io::Result<Vec<String>> {
-    let mut places = places;
+// The places of outputs.
+fn places_among<T: AllocGlobal>(rt: &T, outputs: Vec<Output<'_>>) -> io::Result<Vec<String>> {
+    let mut places = Vec::new(rt.alloc());
     for output in outputs {
         places.push(output.place)?;
     }
@@ -220,25 +232,15 @@ fn output_of<'a, T: Files + AllocGlobal>(
     name: &'a str,
     is_part: bool,
 ) -> io::Result<Output<'a>> {
-    let place = place_of_output(rt, name, is_part)?;
+    let place = if is_part {
+        place_of_part(rt, name)?
+    } else {
+        place_of(rt, name)?
+    };
     Ok(Output {
         option,
         name,
         is_part,
         place,
     })
-}
-
-// The place of the file of this name, or of the one beside it that is written first.
-fn place_of_output<T: Files + AllocGlobal>(
-    rt: &T,
-    name: &str,
-    is_part: bool,
-) -> io::Result<String> {
-    if is_part {
-        let part = part_name(rt.alloc(), name)?;
-        place_of(rt, part.as_str())
-    } else {
-        place_of(rt, name)
-    }
 }

@@ -11,6 +11,8 @@ use sq_inputs::{Recalled, Recalling};
 use sq_live::{JobFault, JobLineFault};
 use sq_plan::PlanFault;
 use sq_row_lines::NO_ROW;
+use sq_schema::{MAX_TABLES, Schema};
+use sq_serve::{LineRefusal, ServeFault, read_serve_line};
 use sq_text::{InputFault, InputLine, LocatedFault};
 use std::alloc::Global;
 use std::fmt;
@@ -22,6 +24,14 @@ use std::rt::Files;
 const PARTITION: usize = 2;
 
 const ID: usize = 3;
+
+// The numbers of the faults that there is no such partition, and that a job has the id of one before it.
+const NO_PARTITION: u16 = 219;
+
+const REPEATED_ID: u16 = 127;
+
+// What a line begins with that asks for a move.
+const MOVE: &[u8] = b"move ";
 
 // What doesn't fit in a line.
 #[derive(Clone, Copy)]
@@ -80,6 +90,10 @@ pub fn tell_misfit<T: Eprint + Files + AllocGlobal, R: Read>(
     let place = source.place(line);
     if let (FaultPlace::File(name), InputFault::Plan(fault)) = (place, located.fault) {
         tell_plan_of_file(rt, name, fault);
+        return;
+    }
+    if let Some(flaw) = source.record_flaw(line) {
+        let _ = eprintln!(rt; "squall: {place}: {flaw}");
         return;
     }
     let recalled = reader.line(line.number() as usize);
@@ -143,6 +157,17 @@ pub fn tell_misfit_of_job<T: Eprint, R: Read>(
     job: JobLineFault,
 ) {
     if let Some(misfit) = misfit_of_job(job.fault, reader.line(job.line as usize)) {
+        let _ = eprintln!(rt; "squall: {place}: {misfit}");
+    }
+}
+
+/// Says on standard error what doesn't fit in a line of an engine's input that is refused, if that can be found.
+pub fn tell_misfit_of_refused<T: Eprint + AllocGlobal>(
+    rt: &T,
+    place: FaultPlace<'_>,
+    refusal: &LineRefusal<'_>,
+) {
+    if let Some(misfit) = misfit_of_refused(rt.alloc(), refusal.number, refusal.text) {
         let _ = eprintln!(rt; "squall: {place}: {misfit}");
     }
 }
@@ -236,4 +261,39 @@ fn misfit_of_job(fault: JobFault, recalled: Recalled<'_>) -> Option<Misfit<'_>> 
         _ => return None,
     };
     Some(Misfit::Word(ToldWord { line, at }))
+}
+
+// What doesn't fit in a line of an engine's input that is refused with this number. Nothing is found in an empty one.
+fn misfit_of_refused(alloc: Global, number: u16, line: &[u8]) -> Option<Misfit<'_>> {
+    if line.is_empty() {
+        return None;
+    }
+    match number {
+        NO_PARTITION => Some(Misfit::Word(ToldWord {
+            line,
+            at: PARTITION,
+        })),
+        REPEATED_ID => Some(Misfit::Word(ToldWord { line, at: ID })),
+        _ => misfit_of_asked(alloc, line),
+    }
+}
+
+// What doesn't fit in a line that asks nothing of an engine.
+fn misfit_of_asked(alloc: Global, line: &[u8]) -> Option<Misfit<'_>> {
+    let schema = Schema::new(MAX_TABLES)?;
+    match read_serve_line(alloc, &schema, line) {
+        Err(ServeFault::NotAServeLine) if line.starts_with(b"txn") => {
+            let flaw = job_flaw(line)?;
+            Some(Misfit::Flaw(ToldFlaw { line, flaw }))
+        }
+        Err(ServeFault::Txn(fault)) => {
+            let at = job_word(fault, line)?;
+            Some(Misfit::Word(ToldWord { line, at }))
+        }
+        Err(ServeFault::Plan(fault)) => {
+            let text = line.get(MOVE.len()..)?;
+            Some(Misfit::Plan(plan_flaw(alloc, fault, text)?))
+        }
+        _ => None,
+    }
 }

@@ -7,15 +7,16 @@ ghost use Rattle.sq_live.specs.Live.{RunsLive};
 ghost use Rattle.squall.specs.Session.{live_status, EndsAs};
 
 use crate::flaws::{tell_misfit_of_job, tell_unread_stages};
-use crate::outputs::{explain_unwritten, save_text};
+use crate::outputs::{FileText, add_text, explain_unwritten, save_texts};
 use crate::session::{REFUSED, explain, explain_write};
 use crate::source::Source;
 use sq_command::LiveOptions;
 use sq_inputs::Recalling;
 use sq_live::{LiveEnding, LiveFault, LiveOutcome, RunManner, Watch, live};
+use sq_outputs::{is_other_than_file, write_device};
 use sq_report::{FiguresForm, RecordingWatch, Records, TimelineForm};
 use sq_text::{InputLine, WriteFault};
-use std::fs;
+use std::io;
 use std::io::{Read, Write};
 use std::rt::Files;
 use std::sync::Wait;
@@ -114,63 +115,119 @@ fn is_told<T: Wait + Clock + Sync + Eprint + Files + AllocGlobal, G: Watch>(
     if options.summary {
         print_summary(rt, told);
     }
-    let is_timeline_drawn = draw_timeline(rt, options.timeline, told);
-    let are_figures_saved = save_figures(rt, options.summary_out, told);
-    let are_replies_saved = save_replies(rt, options.replies, told);
-    let are_rows_saved = save_rows(rt, options.rows_out, told);
-    is_timeline_drawn && are_figures_saved && are_replies_saved && are_rows_saved
+    are_files_saved(rt, options, told) && is_device_drawn(rt, options.timeline, told)
 }
 
-// Writes the figures of a run into the file of this name, where there is to be one: as JSON where the name ends in '.json', else
-// as text. Gives whether none is missing.
-fn save_figures<T: Wait + Clock + Sync + Eprint + Files + AllocGlobal, G: Watch>(
+// Writes the files that were asked for. Gives whether none is missing: none is written if one of the texts can't be made.
+fn are_files_saved<T: Wait + Clock + Sync + Eprint + Files + AllocGlobal, G: Watch>(
+    rt: &T,
+    options: LiveOptions<'_>,
+    told: &RecordingWatch<'_, T, G>,
+) -> bool {
+    let mut texts = Vec::new(rt.alloc());
+    add_timeline(rt, options.timeline, told, &mut texts)
+        && add_figures(rt, options.summary_out, told, &mut texts)
+        && add_replies(rt, options.replies, told, &mut texts)
+        && add_rows(rt, options.rows_out, told, &mut texts)
+        && save_texts(rt, &texts)
+}
+
+// Adds the timeline, if it goes into a file: values if its name ends in '.csv', else a chart. Gives whether it isn't missing.
+fn add_timeline<T: Wait + Clock + Sync + Eprint + Files + AllocGlobal, G: Watch>(
+    rt: &T,
+    timeline: Option<&str>,
+    told: &RecordingWatch<'_, T, G>,
+    texts: &mut Vec<FileText>,
+) -> bool {
+    match timeline {
+        Some(name) if !is_other_than_file(rt, name) => {
+            add_text(rt, texts, name, timeline_text(rt, name, told))
+        }
+        _ => true,
+    }
+}
+
+// The text of a timeline of this name.
+fn timeline_text<T: Wait + Clock + Sync + AllocGlobal, G: Watch>(
+    rt: &T,
+    name: &str,
+    told: &RecordingWatch<'_, T, G>,
+) -> io::Result<Vec<u8>> {
+    let mut text = Vec::new(rt.alloc());
+    told.write_timeline(rt.alloc(), &mut text, TimelineForm::of_file(name))?;
+    Ok(text)
+}
+
+// Writes the timeline into the device or the pipe of this name, if it is one. Gives whether it isn't missing; standard error says why
+// it can't be written.
+fn is_device_drawn<T: Wait + Clock + Sync + Eprint + Files + AllocGlobal, G: Watch>(
+    rt: &T,
+    timeline: Option<&str>,
+    told: &RecordingWatch<'_, T, G>,
+) -> bool {
+    let Some(name) = timeline else {
+        return true;
+    };
+    if !is_other_than_file(rt, name) {
+        return true;
+    }
+    let drawn = timeline_text(rt, name, told).and_then(|text| write_device(rt, name, &text));
+    if let Err(error) = &drawn {
+        explain_unwritten(rt, name, error);
+    }
+    drawn.is_ok()
+}
+
+// Adds the figures of a run, if they are wanted in a file: as JSON if its name ends in '.json', else as text. Gives whether they
+// aren't missing.
+fn add_figures<T: Wait + Clock + Sync + Eprint + Files + AllocGlobal, G: Watch>(
     rt: &T,
     summary_out: Option<&str>,
     told: &RecordingWatch<'_, T, G>,
+    texts: &mut Vec<FileText>,
 ) -> bool {
     let Some(name) = summary_out else {
         return true;
     };
     let mut text = Vec::new(rt.alloc());
     let written = told.write_figures(rt.alloc(), &mut text, FiguresForm::of_file(name));
-    save_text(rt, name, written.map(|()| text))
+    add_text(rt, texts, name, written.map(|()| text))
 }
 
-// Writes what the jobs of a run were answered into the file of this name, where there is to be one, and says on
-// standard error how many weren't answered. Gives whether each answer was written.
-fn save_replies<T: Wait + Clock + Sync + Eprint + Files + AllocGlobal, G: Watch>(
+// Adds what the jobs of a run were answered, if that is wanted in a file, and says on standard error how many weren't answered.
+// Gives whether the answers aren't missing.
+fn add_replies<T: Wait + Clock + Sync + Eprint + Files + AllocGlobal, G: Watch>(
     rt: &T,
     replies: Option<&str>,
     told: &RecordingWatch<'_, T, G>,
+    texts: &mut Vec<FileText>,
 ) -> bool {
     let Some(name) = replies else {
         return true;
     };
     let mut text = Vec::new(rt.alloc());
-    match told.write_replies(&mut text) {
-        Ok(unanswered) => {
-            if unanswered > 0 {
-                let _ = eprintln!(rt; "squall: jobs without an answer: {unanswered}");
-            }
-            save_text(rt, name, Ok(text))
+    let written = told.write_replies(&mut text);
+    if let Ok(unanswered) = written {
+        if unanswered > 0 {
+            let _ = eprintln!(rt; "squall: jobs without an answer: {unanswered}");
         }
-        Err(error) => save_text(rt, name, Err(error)),
     }
+    add_text(rt, texts, name, written.map(|_| text))
 }
 
-// Writes the rows at the end of a run into the file of this name, where there is to be one. Gives whether none is
-// missing.
-fn save_rows<T: Wait + Clock + Sync + Eprint + Files + AllocGlobal, G: Watch>(
+// Adds the rows at the end of a run, if they are wanted in a file. Gives whether they aren't missing.
+fn add_rows<T: Wait + Clock + Sync + Eprint + Files + AllocGlobal, G: Watch>(
     rt: &T,
     rows_out: Option<&str>,
     told: &RecordingWatch<'_, T, G>,
+    texts: &mut Vec<FileText>,
 ) -> bool {
     let Some(name) = rows_out else {
         return true;
     };
     let mut text = Vec::new(rt.alloc());
     let written = told.write_rows(&mut text);
-    save_text(rt, name, written.map(|()| text))
+    add_text(rt, texts, name, written.map(|()| text))
 }
 
 // Says the summary on standard error.
@@ -184,26 +241,6 @@ fn print_summary<T: Wait + Clock + Sync + Eprint + AllocGlobal, G: Watch>(
             let _ = eprint!(rt; "{text}");
         }
     }
-}
-
-// Writes the timeline into the file of this name, where there is to be one: values where the name ends in '.csv', else a chart.
-// Gives whether it isn't missing; standard error says why it can't be written.
-fn draw_timeline<T: Wait + Clock + Sync + Eprint + Files + AllocGlobal, G: Watch>(
-    rt: &T,
-    timeline: Option<&str>,
-    told: &RecordingWatch<'_, T, G>,
-) -> bool {
-    let Some(name) = timeline else {
-        return true;
-    };
-    let drawn = match fs::create(rt, name) {
-        Ok(mut file) => told.write_timeline(rt.alloc(), &mut file, TimelineForm::of_file(name)),
-        Err(error) => Err(error),
-    };
-    if let Err(error) = &drawn {
-        explain_unwritten(rt, name, error);
-    }
-    drawn.is_ok()
 }
 
 /// The exit status after a live run: 0 where it is sound, 3 where it stopped, 4 where it isn't sound, and 2 after a fault.
@@ -240,6 +277,9 @@ fn explain_live<T: Eprint + Files + AllocGlobal, R: Read>(
             let number = job.fault.number();
             let _ = eprintln!(rt; "squall: {place}: fault {number}: {}", job.fault);
             tell_misfit_of_job(rt, place, reader, job);
+        }
+        Ok(LiveEnding::Fault(fault @ LiveFault::Threads)) => {
+            let _ = eprintln!(rt; "squall: {fault}");
         }
         Err(fault) => explain_write(rt, fault, source.is_closed.get()),
     }

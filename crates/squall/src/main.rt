@@ -6,6 +6,7 @@ ghost use Rattle.sq_command.specs.Line.{IsWithin};
 ghost use Rattle.squall.specs.Session.{EndsTask, EndsWithRows, EndsParts, EndsMain, EndsWith};
 
 mod beginning;
+mod engine_front;
 mod engine_watch;
 mod explaining;
 mod flaws;
@@ -14,11 +15,14 @@ mod outputs;
 mod owning;
 mod plans;
 mod progress;
+mod reasons;
+mod saved_rows;
 mod serving;
 mod session;
 mod source;
 mod steps;
 mod streams;
+mod text_places;
 mod unread_stages;
 mod usage;
 
@@ -237,12 +241,17 @@ where
             Line::Serve {
                 pumps,
                 fold_after,
+                strict,
                 files,
                 file,
                 reports,
             },
         ) => {
-            let config = ServeConfig { pumps, fold_after };
+            let config = ServeConfig {
+                pumps,
+                fold_after,
+                is_strict: strict,
+            };
             let input = EngineInput {
                 files,
                 file,

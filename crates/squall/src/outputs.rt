@@ -4,14 +4,16 @@ ghost use Rattle.std.specs.Prelude.{◌≡◌, IfSome};
 use crate::session::{REFUSED, refuse_for_memory};
 use sq_command::{Input, Task};
 use sq_outputs::{
-    Conflict, Output, SystemFolder, conflict_among, find_folder_of, is_other_than_file, part_name,
-    place_of, place_of_standard_input, place_of_standard_output, save,
+    Conflict, NewFile, Output, SystemFolder, conflict_among, file_to_write, is_folder,
+    is_other_than_file, leads_nowhere, part_name, place_of, place_of_standard_input,
+    place_of_standard_output, save, try_to_make,
 };
+use std::alloc::AllocError;
 use std::io;
 use std::io::ErrorKind;
 use std::rt::Files;
 
-// The option of the file that isn't written whole or not at all.
+// The option of a live run's file that may be a device.
 const TIMELINE: &str = "timeline";
 
 // The name of standard input, which names no output.
@@ -62,7 +64,7 @@ fn outputs_of<'a, T: Files + AllocGlobal>(rt: &T, task: Task<'a>) -> io::Result<
     Ok(outputs)
 }
 
-// Adds the files beside those that are written whole or not at all.
+// Adds the files beside those that are written whole or not at all: all but a timeline that is a device or a pipe.
 fn add_parts<'a, T: Files + AllocGlobal>(
     rt: &T,
     task: Task<'a>,
@@ -72,9 +74,8 @@ fn add_parts<'a, T: Files + AllocGlobal>(
         let Some(name) = name else {
             continue;
         };
-        if option != TIMELINE {
-            let part = part_name(rt.alloc(), name)?;
-            let place = place_of(rt, part.as_str())?;
+        if option != TIMELINE || !is_other_than_file(rt, name) {
+            let place = place_of_part(rt, name)?;
             outputs.push(Output {
                 option,
                 name,
@@ -84,6 +85,18 @@ fn add_parts<'a, T: Files + AllocGlobal>(
         }
     }
     Ok(())
+}
+
+/// The place of the file beside the one that is written for `name`, which is written first.
+pub fn place_of_part<T: Files + AllocGlobal>(rt: &T, name: &str) -> io::Result<String> {
+    let part = part_to_write(rt, name)?;
+    place_of(rt, part.as_str())
+}
+
+// The name of the file beside the one that is written for `name`.
+fn part_to_write<T: Files + AllocGlobal>(rt: &T, name: &str) -> io::Result<String> {
+    let file = file_to_write(rt, name)?;
+    Ok(part_name(rt.alloc(), file.as_str())?)
 }
 
 // The places of the files that an input comes from.
@@ -103,7 +116,7 @@ fn inputs_of<T: Files + AllocGlobal>(rt: &T, input: Input<'_>) -> io::Result<Vec
 }
 
 /// Refuses a task that would write a file that it reads too, one file twice, what is no file of its own, or a file in a folder
-/// that isn't there, before it reads anything: says so on standard error, and gives the exit status.
+/// in which none can be made, before it reads anything: says so on standard error, and gives the exit status.
 pub fn refuse_outputs<T: Print + Eprint + Files + AllocGlobal>(
     rt: &T,
     task: Task<'_>,
@@ -118,8 +131,8 @@ pub fn refuse_outputs<T: Print + Eprint + Files + AllocGlobal>(
     }
 }
 
-// Whether a task writes files alone, none that it reads too, none twice, and each in a folder that is there; else standard error
-// says which. An error is that there is no memory for the answer.
+// Whether a task writes files alone, none that it reads too, none twice, and each in a folder in which it can be made; else
+// standard error says which. An error is that there is no memory for the answer.
 fn may_write<T: Eprint + Files + AllocGlobal>(
     rt: &T,
     task: Task<'_>,
@@ -137,7 +150,7 @@ fn may_write<T: Eprint + Files + AllocGlobal>(
         explain_conflict(rt, conflict);
         return Ok(false);
     }
-    have_folders(rt, &outputs)
+    can_be_made(rt, &outputs)
 }
 
 /// Whether each output may be a file of its own; standard error says of which it may not. An error is that there is no memory
@@ -167,7 +180,10 @@ fn why_no_file<T: Files>(
     if output.name == DASH {
         return Some("and an output is a file");
     }
-    if output.is_part && is_other_than_file(rt, output.name) {
+    if leads_nowhere(rt, output.name) {
+        return Some("a link that leads to no file");
+    }
+    if is_folder(rt, output.name) || output.is_part && is_other_than_file(rt, output.name) {
         return Some("which is no file");
     }
     match answers {
@@ -176,13 +192,15 @@ fn why_no_file<T: Files>(
     }
 }
 
-// Whether the folders of files are there; standard error says of which file it isn't.
-fn have_folders<T: Eprint + Files + AllocGlobal>(
+/// Whether each of the files that are written first can be made in its folder; standard error says of which it can't. Makes
+/// each, and removes it again. An error is that there is no memory for the answer.
+pub fn can_be_made<T: Eprint + Files + AllocGlobal>(
     rt: &T,
     outputs: &[Output<'_>],
 ) -> io::Result<bool> {
-    for output in outputs {
-        match find_folder_of(rt, output.name) {
+    for output in outputs.iter().filter(|output| output.is_part) {
+        let part = part_to_write(rt, output.name)?;
+        match try_to_make(rt, part.as_str()) {
             Ok(()) => {}
             Err(error) if error.kind() == ErrorKind::OutOfMemory => return Err(error),
             Err(error) => {
@@ -210,21 +228,67 @@ pub fn explain_conflict(rt: &impl Eprint, conflict: Conflict<'_>) {
     }
 }
 
-/// Writes a text into the file of this name, whole or not at all. Gives whether it was written; standard error says why it
-/// wasn't.
+/// A text, and the name of the file that it goes into.
+#[derive(Drop)]
+pub struct FileText {
+    name: String,
+    text: Vec<u8>,
+}
+
+/// Adds a text that is to go into the file `name`. Returns whether it did; standard error says why it didn't.
+pub fn add_text<T: Eprint + Files + AllocGlobal>(
+    rt: &T,
+    texts: &mut Vec<FileText>,
+    name: &str,
+    text: io::Result<Vec<u8>>,
+) -> bool {
+    let added = text.and_then(|text| {
+        let name = file_to_write(rt, name)?;
+        texts.push(FileText { name, text })?;
+        Ok(())
+    });
+    if let Err(error) = &added {
+        explain_unwritten(rt, name, error);
+    }
+    added.is_ok()
+}
+
+/// Writes each text into its file, whole or not at all, and none if one of them can't be written beside its file. Returns whether
+/// all files were replaced; standard error says which one wasn't, and why.
+pub fn save_texts<T: Eprint + Files + AllocGlobal>(rt: &T, texts: &[FileText]) -> bool {
+    let Ok(files) = new_files(rt, texts) else {
+        let _ = eprintln!(rt; "squall: there is no memory to write the files");
+        return false;
+    };
+    match save(&mut SystemFolder::new(rt), &files) {
+        Ok(()) => true,
+        Err(unsaved) => {
+            explain_unwritten(rt, unsaved.name, &unsaved.error);
+            false
+        }
+    }
+}
+
+/// Writes a text into the file `name`, whole or not at all. Returns whether it was written; standard error says why it wasn't.
 pub fn save_text<T: Eprint + Files + AllocGlobal>(
     rt: &T,
     name: &str,
     text: io::Result<Vec<u8>>,
 ) -> bool {
-    let saved = match text {
-        Ok(text) => save(rt.alloc(), &mut SystemFolder::new(rt), name, &text),
-        Err(error) => Err(error),
-    };
-    if let Err(error) = &saved {
-        explain_unwritten(rt, name, error);
+    let mut texts = Vec::new(rt.alloc());
+    add_text(rt, &mut texts, name, text) && save_texts(rt, &texts)
+}
+
+// The files that texts go into.
+fn new_files<'a, T: AllocGlobal>(
+    rt: &T,
+    texts: &'a [FileText],
+) -> Result<Vec<NewFile<'a>>, AllocError> {
+    let mut files = Vec::new(rt.alloc());
+    for FileText { name, text } in texts {
+        files.push(NewFile::new(rt.alloc(), name.as_str(), text.as_slice())?)?;
     }
-    saved.is_ok()
+    Ok(files)
 }
 
 /// Says on standard error that the file of this name can't be written, and why.

@@ -233,8 +233,8 @@ pub(crate) fn explain<T: Eprint + Files + AllocGlobal, R: Read>(
     tell_misfit(rt, source, reader, located);
 }
 
-// The form of a line of a table of values.
-const TABLE_FORM: &str =
+/// The form of a line of a table of values.
+pub(crate) const TABLE_FORM: &str =
     "'ROOT,TABLE,SUB,NUMBER,NOTE', as in '5,0,0,10,': root key, table, sub key, number, note";
 
 // The form of a line of the header.

@@ -1,10 +1,13 @@
 // Where the lines of an input come from.
 use sq_command::Input;
-use sq_csv_rows::RecordLines;
+use sq_csv_rows::{RecordFlaw, RecordLines};
 use sq_text::InputLine;
 use std::cell::Cell;
 use std::fmt;
 use std::fmt::{Display, Formatter, Write};
+
+// How the name of a table of values ends.
+const TABLE_END: &[u8] = b".csv";
 
 /// Where the lines of an input come from.
 #[derive(Clone, Copy)]
@@ -62,6 +65,15 @@ impl<'a> Source<'a> {
         }
     }
 
+    /// What is wrong with the record of a table of values that a line of the input is made of, beside its fields.
+    pub fn record_flaw(&self, line: InputLine) -> Option<RecordFlaw> {
+        if self.is_record(line) {
+            self.records.flaw_of(line.number().saturating_sub(3))
+        } else {
+            None
+        }
+    }
+
     /// Whether a line of the input is made of a record of a table of values.
     pub fn is_record(&self, line: InputLine) -> bool {
         let behind = line.number().saturating_sub(3);
@@ -79,9 +91,13 @@ impl<'a> Source<'a> {
     }
 }
 
-/// Whether a file of rows of this name is a table of values.
+/// Whether a file of rows of this name is a table of values: its name ends in `.csv`, in letters of either case.
 pub fn is_table(name: &str) -> bool {
-    name.ends_with(".csv")
+    let name = name.as_bytes();
+    match name.len().checked_sub(TABLE_END.len()) {
+        Some(at) => name[at..].eq_ignore_ascii_case(TABLE_END),
+        None => false,
+    }
 }
 
 impl Display for FaultPlace<'_> {

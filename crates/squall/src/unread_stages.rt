@@ -11,9 +11,7 @@ use std::io::Read;
 const LINE_END: u8 = 10;
 
 // The words before a plan, with their spaces: in the first line, and in lines that ask for a move.
-const PLAN: &[u8] = b"plan ";
-
-const MOVE: &[u8] = b"move ";
+const WORDS: [&[u8]; 2] = [b"plan ", b"move "];
 
 /// Says on standard error that the plan in this place is of the first version and has stages, where it is and has.
 pub fn tell_unread_stages_of<T: Eprint>(rt: &T, alloc: Global, place: FaultPlace<'_>, plan: &[u8]) {
@@ -25,7 +23,7 @@ pub fn tell_unread_stages_of<T: Eprint>(rt: &T, alloc: Global, place: FaultPlace
 }
 
 /// A reader that gives what another one gives, and says on standard error which lines of it have a plan of the first version with
-/// stages.
+/// stages, and in which file if it has a name.
 #[derive(Drop)]
 pub struct PlansWatched<T: Copy, R: Read> {
     reader: R,
@@ -33,11 +31,11 @@ pub struct PlansWatched<T: Copy, R: Read> {
 }
 
 impl<T: Copy + Eprint + AllocGlobal, R: Read> PlansWatched<T, R> {
-    /// A reader whose first line has this number.
-    pub fn new(rt: T, reader: R, number: u64) -> PlansWatched<T, R> {
+    /// A reader of the file of this name, or of standard input.
+    pub fn new(rt: T, reader: R, file: Option<String>) -> PlansWatched<T, R> {
         PlansWatched {
             reader,
-            line: PlanLine::new(rt, number),
+            line: PlanLine::new(rt, file),
         }
     }
 }
@@ -56,6 +54,8 @@ impl<T: Copy + Eprint + AllocGlobal, R: Read> Read for PlansWatched<T, R> {
 #[derive(Drop)]
 struct PlanLine<T: Copy> {
     rt: T,
+    // The name of its file, if it has one.
+    file: Option<String>,
     number: u64,
     // Its bytes so far.
     bytes: Vec<u8>,
@@ -64,11 +64,12 @@ struct PlanLine<T: Copy> {
 }
 
 impl<T: Copy + Eprint + AllocGlobal> PlanLine<T> {
-    // The line of this number, before its first byte.
-    fn new(rt: T, number: u64) -> PlanLine<T> {
+    // The first line, before its first byte.
+    fn new(rt: T, file: Option<String>) -> PlanLine<T> {
         PlanLine {
             rt,
-            number,
+            file,
+            number: 1,
             bytes: Vec::new(rt.alloc()),
             is_passed_over: false,
         }
@@ -96,15 +97,10 @@ impl<T: Copy + Eprint + AllocGlobal> PlanLine<T> {
         } else {
             &self.bytes
         };
-        let may_have_plan = begins_alike(start, self.word());
+        let may_have_plan = WORDS.iter().any(|word| begins_alike(start, *word));
         let is_short = self.bytes.len().saturating_add(bytes.len()) <= MAX_LINE;
         let is_kept = may_have_plan && is_short && self.bytes.extend_from_slice(bytes).is_ok();
         self.is_passed_over = !is_kept;
-    }
-
-    // The word before its plan.
-    fn word(&self) -> &'static [u8] {
-        if self.number == 1 { PLAN } else { MOVE }
     }
 
     // Tells of its plan, if it has one, and begins the next line.
@@ -117,11 +113,19 @@ impl<T: Copy + Eprint + AllocGlobal> PlanLine<T> {
         self.number = self.number.saturating_add(1);
     }
 
+    // Where it is.
+    fn place(&self) -> FaultPlace<'_> {
+        match &self.file {
+            Some(name) => FaultPlace::LineOf(name.as_str(), self.number),
+            None => FaultPlace::Line(self.number),
+        }
+    }
+
     // Tells of its plan, if it has one.
     fn tell(&self) {
-        if let Some(plan) = self.bytes.strip_prefix(self.word()) {
-            let place = FaultPlace::Line(self.number);
-            tell_unread_stages_of(&self.rt, self.rt.alloc(), place, plan);
+        let plan = WORDS.iter().find_map(|word| self.bytes.strip_prefix(*word));
+        if let Some(plan) = plan {
+            tell_unread_stages_of(&self.rt, self.rt.alloc(), self.place(), plan);
         }
     }
 }

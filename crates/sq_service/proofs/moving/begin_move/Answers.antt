@@ -12,4 +12,4 @@ pub returns-in-Err : goal.returns-in-Err
 returns-in-Err g c =
     let dv = desk_value g.W.Write.contents in
     gone_then c.args.engine c.in-Err.engine (dv c.args.desk.now) c.refuse_move.result (dv c.refuse_move.new.desk)
-    (not_moved_goes c.args.engine c.args.plan c.in-Err.why c.in-Err.engine c.in-Err.ensures.not_moved) c.refuse_move.ensures
+    (not_moved_goes c.args.engine c.args.asked.plan c.in-Err.why c.in-Err.engine c.in-Err.ensures.not_moved) c.refuse_move.ensures

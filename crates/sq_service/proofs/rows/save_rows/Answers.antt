@@ -10,7 +10,7 @@ returns-in-Ok g c = (
 
 pub returns-in-Err : goal.returns-in-Err
 returns-in-Err g c = (
-  c.say_refused.ensures,
+  c.say_refused.ensures.speaks,
   false,
   subst (λ (name : List ℕ). g.V.ServeWatch.Saves c.args.watch.now name c.args.lines.now false) c.name.ensures c.in-Err.ensures,
 )

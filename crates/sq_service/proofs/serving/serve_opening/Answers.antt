@@ -11,7 +11,7 @@ returns-in-Ok g c =
     let contents = g.W.Write.contents in
     let desk = c.in-Ok.desk in
     let came = c.serve_at_desk.result in
-    let first : PlanValue → ServeDeskValue = λ plan. first_desk contents c.args.outlet (received c.args.lines) plan.parts in
+    let first : PlanValue → ServeDeskValue = λ plan. first_desk contents c.args.outlet (received c.args.lines.feed) plan.parts in
     subst (λ (plan : PlanValue). ServesOpening contents c.args.opening (first plan) c.args.outlet came.1 came.0) c.new_plan.ensures.plan
     (subst (λ (d : ServeDeskValue). ServesOpening contents c.args.opening d c.args.outlet came.1 came.0) c.in-Ok.ensures.desk
     (subst (λ (o : Outlet _). ServesOpening contents c.args.opening (desk_value contents desk) o came.1 came.0) c.in-Ok.ensures.outlet

@@ -17,6 +17,9 @@ returns-in-Unsound g c =
 pub returns-in-Memory : goal.returns-in-Memory
 returns-in-Memory g c = (fault_line memory_number, rw c.in-Memory.is refl, c.say_fault.ensures)
 
+pub returns-in-Threads : goal.returns-in-Threads
+returns-in-Threads g c = (fault_line memory_number, rw c.in-Threads.is refl, c.say_fault-in-Threads.ensures)
+
 pub returns-in-Unwritten : goal.returns-in-Unwritten
 returns-in-Unwritten g c = (
   [],

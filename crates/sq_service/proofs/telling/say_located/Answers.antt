@@ -1,5 +1,5 @@
-use Rattle.std.proofs.Common.{ℕ, ap, ◌∙◌}
-use Rattle.sq_text.specs.InputFaults.{input_fault_number}
+use Rattle.std.proofs.Common.{ℕ, ap}
+use Rattle.std.specs.Prelude.{None}
 use Rattle.sq_text.specs.Texts.{fault_line}
 use Rattle.sq_serve.specs.declared.serve_answer.ServeAnswer.TheVariants.{Fault}
 use Rattle.sq_serve.specs.ServeAnswers.{serve_answer_line}
@@ -8,12 +8,9 @@ use Rattle.sq_service.proofs.telling.say_located.Goals as goal
 pub returns-in-Some : goal.returns-in-Some
 returns-in-Some g c =
     let fault = c.number-fault in
-    let line = c.number-line in (
-      serve_answer_line (Fault fault.result line.result),
-      rw c.in-Some.is
-          (λ fits.
-          ap (λ (n : ℕ). serve_answer_line (Fault n line.result)) fault.ensures
-          ∙ ap (λ (n : ℕ). serve_answer_line (Fault (input_fault_number c.args.located.fault) n)) (line.ensures fits)),
+    let line = c.in-Some.place.line in (
+      serve_answer_line (Fault fault.result line None),
+      rw c.in-Some.is (ap (λ (n : ℕ). serve_answer_line (Fault n line None)) fault.ensures),
       c.say.ensures,
     )
 

@@ -2,7 +2,7 @@ use Rattle.sq_server.specs.Becoming.{desk_value}
 use Rattle.sq_service.specs.Events.{GoneOn}
 use Rattle.std.proofs.Common.{[], ◌∷◌, refl}
 use Rattle.sq_engine.proofs.Goings.{stays}
-use Rattle.sq_service.proofs.Served.{ends_at_once, ends_with, stopped_ends, stopped_at_desk, memory_ends, memory_is_whole, memory_at_desk, served_steps, speaks_only, speaks_then}
+use Rattle.sq_service.proofs.Served.{ends_at_once, ends_with, stopped_ends, stopped_at_desk, want_ends, want_is_whole, want_at_desk, wants_memory, served_steps, speaks_only, speaks_then}
 use Rattle.sq_server.proofs.Desks.{writes_nothing}
 use Rattle.sq_service.proofs.wishes.go_on.Goals as goal
 
@@ -31,8 +31,9 @@ returns-in-Err-clause-gives g c =
     let engine = c.args.engine in
     let before = desk_value g.W.Write.contents c.args.desk.now in
     let told = desk_value g.W.Write.contents c.note_rest.new.desk in
+    let want = wants_memory c.in-Err.ending c.in-Err.ensures.memory in
     ends_with (GoneOn ∷ []) book engine before engine told c.in-Err.ending refl c.requires
     (engine, told, (stays engine engine refl, c.note_rest.ensures.speaks), (refl, refl))
-    (memory_ends book.committed [] engine c.in-Err.ending c.in-Err.ensures.memory)
-    (memory_is_whole c.in-Err.ending (GoneOn ∷ []) c.in-Err.ensures.memory)
-    (memory_at_desk c.in-Err.ending told c.in-Err.ensures.memory)
+    (want_ends book.committed [] engine c.in-Err.ending want)
+    (want_is_whole c.in-Err.ending (GoneOn ∷ []) want)
+    (want_at_desk c.in-Err.ending told want)

@@ -1,6 +1,6 @@
 use Rattle.std.proofs.Common.{inl}
 use Rattle.sq_service.proofs.WroteLines.{serves_soundly}
-use Rattle.squall.proofs.serving.serve_input.Goals as goal
+use Rattle.squall.proofs.serving.serve_text.Goals as goal
 
 pub returns : goal.returns
 returns g c =

@@ -1,0 +1,73 @@
+// What lines after a header ask.
+ghost use Rattle.std.specs.Prelude.{◌≡◌, Ok};
+ghost use Rattle.sq_schema.specs.declared.schema.TheConstants.{MAX_TABLES};
+ghost use Rattle.sq_serve.specs.ServeLines.{serve_line_of, IsServeLine};
+ghost use Rattle.sq_service.specs.Reading.{IsAskedBy};
+
+use sq_lines::Next;
+use sq_schema::{MAX_TABLES, Schema};
+use sq_serve::{FaultyLine, LinePlace, ServeFault, ServeLine, read_serve_line};
+use sq_server::{Fed, InputEnd};
+use sq_text::InputFault;
+use std::alloc::{AllocError, Global};
+
+/// What the next piece of an input, in a line that stands there, is to be handed on as.
+pub(crate) fn fed_of(alloc: Global, next: Next, place: LinePlace, piece: &[u8]) -> Fed {
+    match next {
+        Next::Line | Next::Rest => Fed::Line {
+            place,
+            asks: read_asks(alloc, piece),
+        },
+        Next::End => Fed::End(InputEnd::Whole),
+        Next::Failed => Fed::End(broken(InputFault::ReadFailed, place)),
+        Next::Long | Next::TooMany | Next::Unread => Fed::End(broken(InputFault::TooLong, place)),
+    }
+}
+
+// What a line asks, or its fault.
+fn read_asks(alloc: Global, line: &[u8]) -> Result<ServeLine, FaultyLine>
+    ensures { IsAskedBy line.now result (serve_line_of MAX_TABLES line.now) }
+{
+    match asked_by(alloc, line) {
+        Ok(asks) => Ok(asks),
+        Err(fault) => Err(FaultyLine::new(alloc, fault, line)),
+    }
+}
+
+// What a line asks. Copies of its transaction share its operations.
+fn asked_by(alloc: Global, line: &[u8]) -> Result<ServeLine, ServeFault>
+    ensures { IsServeLine result (serve_line_of MAX_TABLES line.now) }
+{
+    shared(read_serve_line(alloc, &largest_schema(), line)?)
+}
+
+// What a line asks, so that copies of its transaction share its operations.
+fn shared(asks: ServeLine) -> Result<ServeLine, ServeFault>
+    ensures { IsServeLine result (Ok asks) }
+{
+    match asks {
+        ServeLine::Job { part, txn } => match txn.share() {
+            Ok(txn) => Ok(ServeLine::Job { part, txn }),
+            Err(AllocError) => Err(ServeFault::Memory),
+        },
+        asks => Ok(asks),
+    }
+}
+
+// Nothing is read after a fault of a line.
+fn broken(fault: InputFault, place: LinePlace) -> InputEnd {
+    InputEnd::Broken {
+        fault: fault.number(),
+        place,
+    }
+}
+
+/// The schema with the most tables.
+pub(crate) fn largest_schema() -> Schema
+    ensures { result ≡ MAX_TABLES }
+{
+    let Some(schema) = Schema::new(MAX_TABLES) else {
+        unreachable!()
+    };
+    schema
+}

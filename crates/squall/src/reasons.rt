@@ -1,0 +1,91 @@
+// Why lines of an engine's input are refused, as standard error says it.
+use crate::flaws::tell_misfit_of_refused;
+use crate::serving::EngineInput;
+use sq_explain::meaning;
+use sq_serve::LineRefusal;
+use std::fmt;
+use std::fmt::{Display, Formatter, Write};
+use std::sync::atomic::{AtomicU64, Ordering};
+
+// The number of the fault of a line that asks nothing.
+const NOT_A_LINE: u16 = 126;
+
+// The number of the refusal while rows move.
+const MOVING: u16 = 217;
+
+// The number of the refusal after a file wasn't written.
+const UNWRITTEN: u16 = 124;
+
+/// Says on standard error why lines of an engine's input are refused, and counts them.
+#[derive(Drop)]
+pub struct Reasons<'a, T> {
+    rt: &'a T,
+    input: EngineInput<'a>,
+    count: AtomicU64,
+}
+
+impl<'a, T: Eprint + AllocGlobal> Reasons<'a, T> {
+    /// For an engine with this input, of which no line was refused yet.
+    pub fn new(rt: &'a T, input: EngineInput<'a>) -> Reasons<'a, T> {
+        Reasons {
+            rt,
+            input,
+            count: AtomicU64::new(0),
+        }
+    }
+
+    /// Says where a line stands that is refused, what the number means, and what doesn't fit in the line, if that can be found.
+    pub fn tell(&self, refusal: LineRefusal<'_>) {
+        self.count.fetch_add(1, Ordering::SeqCst);
+        let place = self.input.place(refusal.place);
+        let _ = eprintln!(self.rt; "squall: {place}: {}", Reason(&refusal));
+        tell_misfit_of_refused(self.rt, place, &refusal);
+    }
+
+    /// Says how many lines were refused, if any was.
+    pub fn tell_count(&self) {
+        match self.count.load(Ordering::SeqCst) {
+            0 => {}
+            1 => {
+                let _ = eprintln!(self.rt; "squall: 1 line was refused");
+            }
+            count => {
+                let _ = eprintln!(self.rt; "squall: {count} lines were refused");
+            }
+        }
+    }
+}
+
+// A refusal as it is said: its number, what this means, and the id of the job, if it is of a job that has one.
+#[derive(Clone, Copy)]
+struct Reason<'a>(&'a LineRefusal<'a>);
+
+impl Display for Reason<'_> {
+    fn fmt<W: Write>(&self, f: &mut Formatter<W>) -> fmt::Result {
+        let number = self.0.number;
+        let kind = if is_refusal(number) {
+            "refused"
+        } else {
+            "fault"
+        };
+        write!(f, "{kind} {number}: {}", meaning_of_refusal(number))?;
+        match self.0.id {
+            Some(id) => write!(f, " (id {id})"),
+            None => Ok(()),
+        }
+    }
+}
+
+// Whether the answer with this number is a refusal, as those of plans that are no plans or not to be moved to.
+fn is_refusal(number: u16) -> bool {
+    matches!(number, 101..=119 | UNWRITTEN | MOVING)
+}
+
+// What the number of a refusal means to one who serves an engine.
+fn meaning_of_refusal(number: u16) -> &'static str {
+    match number {
+        NOT_A_LINE => "the line is no job, and none of move, fold, status, plan and rows",
+        MOVING => "rows move, and it is to be asked again once they don't",
+        _ => meaning(number),
+    }
+}
