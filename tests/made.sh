@@ -270,6 +270,12 @@ make_faults_in_parts() {
     parts "$case" run/moves_four_keys run
     printf '\nrow 6 0 0 1 -\nrow 7 99 0 1 -' >> "$case/rows.txt"
     fault_in_parts "$case" 133 "$case/rows.txt: line 3" "a table isn't in the schema" "word 3 is '99'"
+    case=parts/open_quote_before_many_rows
+    parts "$case" run/moves_four_keys run
+    sed -i 's/rows\.txt/rows.csv/' "$case/words"
+    { printf '5,0,0,10,\n6,0,0,1,"'; yes '7,0,0,1,' | head -n 300000; } > "$case/rows.csv"
+    fault_in_parts "$case" 135 "$case/rows.csv: line 2" 'a note has more than 255 bytes' \
+        "column 5 begins with a quote that isn't closed within 516 bytes"
     case=parts/row_in_the_main_part
     parts "$case" run/moves_four_keys run
     sed -i '1a row 6 0 0 1 -\nrow 7 99 0 1 -' "$case/in"

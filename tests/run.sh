@@ -17,6 +17,7 @@
 set -eu
 . "$(dirname "$0")/lib.sh"
 . "$(dirname "$0")/serving.sh"
+. "$(dirname "$0")/files.sh"
 pattern=${1:-}
 built=$top/crates/squall/out/squall
 room=$(mktemp -d)
@@ -242,6 +243,28 @@ try_memory() {
     judge memory_that_runs_out_in_the_header 2 "$room/wanted" "$room/said"
     give_in_16_mib "$room/large.in" live
     judge memory_that_runs_out_before_the_jobs 2 "$room/wanted" "$room/said"
+}
+
+# Live runs in two partitions without a thread, or with one: the pump takes one, and the second partition another. They end after
+# some seconds, on a busy machine within a minute, and say why. With two threads all is done, and a single partition needs none.
+try_threads() {
+    local threads begun
+    "${CC:-cc}" -shared -fPIC -o "$room/no_thread.so" "$tests/programs/no_thread.c" -ldl
+    echo 'fault 222' > "$room/wanted"
+    echo 'squall: fault 222: the system grants fewer threads than the run has partitions' > "$room/said"
+    for threads in 0 1; do
+        begun=$SECONDS
+        THREADS=$threads LD_PRELOAD=$room/no_thread.so give "$tests/cases/live/moves_while_jobs_run/in" live
+        judge "live run with $threads threads" 2 "$room/wanted" "$room/said"
+        count "seconds of a live run with $threads threads" "$([ $((SECONDS - begun)) -lt 60 ] || echo $((SECONDS - begun)))"
+    done
+    THREADS=2 LD_PRELOAD=$room/no_thread.so give "$tests/cases/live/moves_while_jobs_run/in" live
+    judge 'live run with 2 threads' 0 "$tests/cases/live/moves_while_jobs_run/out" /dev/null
+    echo 'sound 0 families 0 committed' > "$room/wanted"
+    printf '%s\n' 'old {"version":1,"partitions":1,"ranges":[[0,4294967296,0]]}' \
+        'new {"version":1,"partitions":1,"ranges":[[0,4294967296,0]]}' 'config 1 64 1' > "$room/alone"
+    THREADS=0 LD_PRELOAD=$room/no_thread.so give "$room/alone" live
+    judge 'live run of one partition without threads' 0 "$room/wanted" /dev/null
 }
 
 # One who types at the program sees each answer before the next line.

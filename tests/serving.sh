@@ -12,11 +12,13 @@ opening() {
 # begin_engine WORD..: starts an engine with these words, that a client talks with by the descriptors 7 and 8.
 begin_engine() {
     mkfifo "$room/asked" "$room/answered"
-    (trap '' PIPE; exec timeout 60 "$squall" serve "$@" < "$room/asked" > "$room/answered" 2> "$room/err" 7>&- 8>&-) &
+    if [ ! -p "$room/err" ]; then : > "$room/err"; fi
+    (trap '' PIPE; exec timeout 60 "$squall" serve "$@" < "$room/asked" > "$room/answered" 2>> "$room/err" 7>&- 8>&-) &
     engine=$!
     exec 8> "$room/asked" 7< "$room/answered"
     rm "$room/asked" "$room/answered"
     why=
+    refused=0
 }
 
 # ask LINES ANSWER..: sends a line, or several at once; the next lines that come are to be these, and none comes where the engine has
@@ -32,8 +34,17 @@ ask() {
     done
 }
 
+# count_said LINES: what standard error says at the end if so many lines were refused.
+count_said() {
+    case $1 in
+        0) ;;
+        1) echo 'squall: 1 line was refused' ;;
+        *) echo "squall: $1 lines were refused" ;;
+    esac
+}
+
 # end_engine NAME LINE..: ends the input of an engine, which then writes these lines and no more, says nothing on standard
-# error, and ends with the status 0.
+# error but how many lines were refused, as `refused` has it, and ends with the status 0.
 end_engine() {
     exec 8>&-
     cat <&7 > "$room/out"
@@ -42,7 +53,8 @@ end_engine() {
     wait "$engine" || ended=$?
     printf '%s\n' "${@:2}" > "$room/wanted"
     if [ "$ended" != 0 ]; then why="${why}status $ended; "; fi
-    count "$1" "$why$(difference "$room/wanted" "$room/out")$(cat "$room/err")"
+    count_said "$refused" > "$room/said"
+    count "$1" "$why$(difference "$room/wanted" "$room/out")$(difference "$room/said" "$room/err")"
 }
 
 # Each answer comes before the next line is sent: of jobs, of moves, of folds, and of the plan in force.
@@ -138,14 +150,16 @@ served_unread_stages() {
     ask "move $four_at_1" 'moving 1' 'moved 1'
     ask "move $(sed "s/,/$staged/; s/1/2/" <<< "$all_at_0")" 'moving 1' 'moved 1'
     ask "move $staged" 'refused 101'
-    said_so_far "squall: line 1: $unread" "squall: line 5: $unread" "squall: line 7: $unread"
+    said_so_far "squall: line 1: $unread" "squall: line 5: $unread" "squall: line 7: $unread" \
+        "squall: line 10: refused 101: a plan isn't JSON" "squall: line 10: it isn't JSON at its line 1, column 1"
+    refused=1
     end_engine 'serve: stages that are not read' 'sound 2 families 1 committed'
     echo "${all_at_0/,/$staged}" > "$room/plan.json"
     opening | tail -n 2 > "$room/rows.txt"
     begin_engine --plan "$room/plan.json" --rows "$room/rows.txt"
     echo 'config 64 64 1' >&8
     ask "move ${four_at_1/,/$staged}" 'moving 1' 'moved 1'
-    said_so_far "squall: $room/plan.json: $unread" "squall: line 5: $unread"
+    said_so_far "squall: $room/plan.json: $unread" "squall: line 2: $unread"
     end_engine 'serve: stages that are not read, of a plan in a file' 'sound 2 families 0 committed'
 }
 
@@ -166,9 +180,12 @@ served_rows() {
     ask 'rows' 'row 5 0 0 10 -' 'row 7 0 0 1 ab' 'row 9 0 0 17 -' 'rows 3'
     ask "rows $room/plan.json" 'refused 124'
     ask "rows $room/none/rows" 'refused 124'
-    ask $'rows \xff' 'fault 126 13'
-    said_so_far "squall: the file '$room/plan.json' can't be written: entity already exists" \
-        "squall: the file '$room/none/rows' can't be written: No such file or directory (os error 2)"
+    ask $'rows \xff' 'fault 126 12'
+    said_so_far "squall: the file '$room/plan.json' can't be written: the engine reads it" \
+        "squall: line 10: refused 124: the output can't be written" \
+        "squall: the file '$room/none/rows' can't be written: No such file or directory (os error 2)" \
+        "squall: line 11: refused 124: the output can't be written" "squall: line 12: fault 126: $no_line"
+    refused=3
     echo "$all_at_0" > "$room/wanted"
     why="$why$(difference "$room/wanted" "$room/plan.json")$(ls "$room" | grep squall-part || true)"
     ask 'txn 0 3 7 del 0 0' 'commit 3 ok'
@@ -189,27 +206,111 @@ served_rows_in_a_move() {
     ask "rows $room/rows.out" 'rows 50000'
     seq -f 'row %.0f 0 0 1 -' 0 49999 > "$room/wanted"
     why="$why$(difference "$room/wanted" "$room/rows.out")"
+    said_so_far "squall: line 50005: refused 217: rows move, and it is to be asked again once they don't"
+    refused=1
     end_engine 'serve: rows while rows move' 'sound 50000 families 1 committed'
 }
 
-# Lines that ask nothing are reported with their numbers, and the engine runs on: one that is none, one that is too long, an id that
-# is taken, a partition and a table that aren't there, a text that is no plan, a plan for three partitions, and a line without
-# its end.
+# Lines that ask nothing are reported with their numbers and the ids of their jobs, and the engine runs on: one that is none, one that
+# is too long, an id that is taken, a partition and a table that aren't there, a job without all of its words and one without an id, a
+# text that is no plan, and a plan for three partitions. Standard error says why. The last line needs no end.
 served_faults() {
     begin_engine
     opening >&8
-    ask 'mov' 'fault 126 5'
-    ask "$(head -c 65537 /dev/zero | tr '\0' a)" 'fault 231 6'
     ask 'txn 0 1 5 get 0 0' 'commit 1 10/-'
-    ask 'txn 0 1 5 get 0 0' 'fault 127 8'
-    ask 'txn 2 2 5 get 0 0' 'fault 219 9'
-    ask 'txn 0 2 5 get 99 0' 'fault 133 10'
+    ask 'mov' 'fault 126 6'
+    ask "$(head -c 65537 /dev/zero | tr '\0' a)" 'fault 231 7'
+    ask 'txn 0 1 5 get 0 0' 'fault 127 8 id 1'
+    ask 'txn 2 2 5 get 0 0' 'fault 219 9 id 2'
+    ask 'txn 0 2 5 get 99 0' 'fault 133 10 id 2'
+    ask 'txn 0 2 5 get 0' 'fault 126 11 id 2'
+    ask 'txn x 2' 'fault 126 12'
     ask 'move {' 'refused 101'
     ask "move ${all_at_0/2/3}" 'refused 111'
-    ask '' 'fault 126 13'
+    ask '' 'fault 126 15'
     ask 'txn 0 2 5 get 0 0' 'commit 2 10/-'
+    said_so_far "squall: line 6: fault 126: $no_line" 'squall: line 7: fault 231: a line has more than 65536 bytes' \
+        'squall: line 8: fault 127: a job has the id of one before it (id 1)' "squall: line 8: word 3 is '1'" \
+        'squall: line 9: fault 219: there is no such partition (id 2)' "squall: line 9: word 2 is '2'" \
+        "squall: line 10: fault 133: a table isn't in the schema (id 2)" "squall: line 10: word 6 is '99'" \
+        "squall: line 11: fault 126: $no_line (id 2)" \
+        'squall: line 11: word 7 is missing: a sub key, a number up to 4294967295 in decimal digits without a leading zero' \
+        "squall: line 12: fault 126: $no_line" \
+        "squall: line 12: word 2, 'x', isn't a number up to 18446744073709551615, in decimal digits without a leading zero" \
+        "squall: line 13: refused 101: a plan isn't JSON" 'squall: line 13: its JSON ends too soon, at its line 1, column 1' \
+        'squall: line 14: refused 111: the old and the new plan have different numbers of partitions' \
+        "squall: line 15: fault 126: $no_line"
+    refused=10
     printf 'status' >&8 || true
-    end_engine 'serve: lines that ask nothing' 'fault 126 15' 'sound 2 families 2 committed'
+    end_engine 'serve: lines that ask nothing' 'at rest, 0 jobs open' 'sound 2 families 2 committed'
+}
+
+# With --strict the engine ends after the first line that is refused: what was asked before is done, and the status is 3.
+served_strictly() {
+    { opening; printf '%s\n' 'txn 0 1 5 add 0 0 1' 'txn 2 2 5 get 0 0' 'txn 0 3 5 add 0 0 1'; } > "$room/jobs"
+    give "$room/jobs" serve --strict
+    sort "$room/out" > "$room/got" && mv "$room/got" "$room/out"
+    printf '%s\n' 'commit 1 11' 'fault 219 6 id 2' 'sound 2 families 1 committed' > "$room/wanted"
+    printf 'squall: %s\n' 'line 6: fault 219: there is no such partition (id 2)' "line 6: word 2 is '2'" '1 line was refused' \
+        > "$room/said"
+    judge 'serve --strict' 3 "$room/wanted" "$room/said"
+    sed '6d' "$room/jobs" > "$room/sound"
+    give "$room/sound" serve --strict
+    printf '%s\n' 'commit 1 11' 'commit 3 12' 'sound 2 families 2 committed' > "$room/wanted"
+    judge 'serve --strict without a refusal' 0 "$room/wanted" /dev/null
+}
+
+# Lines are counted from the first of the file that they stand in, also if the plan and the rows have files of their own.
+served_places() {
+    local table_form="'ROOT,TABLE,SUB,NUMBER,NOTE', as in '5,0,0,10,': root key, table, sub key, number, note"
+    echo "$all_at_0" > "$room/plan.json"
+    opening | grep '^row ' > "$room/rows.txt"
+    printf '%s\n' 'config 64 64 1' 'txn 0 1 5 add 0 0 5' mov > "$room/begin"
+    printf '%s\n' mov 'txn 9 4 5 get 0 0' > "$room/more"
+    give "$room/more" serve --plan "$room/plan.json" --rows "$room/rows.txt" "$room/begin"
+    sort "$room/out" > "$room/got" && mv "$room/got" "$room/out"
+    printf '%s\n' 'commit 1 15' 'fault 126 1' 'fault 126 3' 'fault 219 2 id 4' 'sound 2 families 1 committed' > "$room/wanted"
+    printf 'squall: %s\n' "$room/begin: line 3: fault 126: $no_line" "line 1: fault 126: $no_line" \
+        'line 2: fault 219: there is no such partition (id 4)' "line 2: word 2 is '9'" '3 lines were refused' > "$room/said"
+    judge 'serve: lines of two files and standard input' 0 "$room/wanted" "$room/said"
+    place_of_row rows.txt 2 "it is to be $(form 4)" 'row 5 0 0 10 -' '' 'row 9 0 0 20 -'
+    place_of_row rows.csv 3 "it is to be $table_form" root,table,sub,number,note 5,0,0,10, 9,0,0,
+    place_of_row rows.csv 2 "it is to be $table_form
+squall: $room/rows.csv: line 2: column 5 begins with a quote that isn't closed before the file ends" 5,0,0,10, '9,0,0,20,"ab'
+    { opening; echo; } > "$room/begin"
+    give /dev/null serve "$room/begin"
+    echo 'fault 121 5' > "$room/wanted"
+    echo "squall: $room/begin: line 5: fault 121: it is to be $(form 4)" > "$room/said"
+    judge 'serve: a line of the file that is no row' 2 "$room/wanted" "$room/said"
+}
+
+# place_of_row FILE LINE SAID LINES..: in this file of rows, which has these lines, this one is no row, and standard error says that.
+place_of_row() {
+    printf '%s\n' "${@:4}" > "$room/$1"
+    give <(echo 'config 64 64 1'; echo status) serve --plan "$room/plan.json" --rows "$room/$1"
+    echo "fault 121 $2" > "$room/wanted"
+    echo "squall: $room/$1: line $2: fault 121: $3" > "$room/said"
+    judge "serve: line $2 of $1 is no row" 2 "$room/wanted" "$room/said"
+}
+
+# A header has as many rows as there are, also more than a portion of the input has lines: none is lost. A line among them that is no row
+# is its fault, wherever it is, and nothing is served.
+served_many_rows() {
+    local end
+    echo "$all_at_0" > "$room/plan.json"
+    seq -f 'row %.0f 0 0 1 -' 0 1099999 > "$room/rows.txt"
+    printf '%s\n' 'commit 7 2' 'sound 1100000 families 1 committed' > "$room/wanted"
+    { printf '%s\n' "plan $all_at_0" 'config 64 64 1'; cat "$room/rows.txt"; } > "$room/header"
+    give <(cat "$room/header"; echo 'txn 0 7 1099999 add 0 0 1') serve
+    judge 'serve: 1,100,000 rows' 0 "$room/wanted" /dev/null
+    give <(printf '%s\n' 'config 64 64 1' 'txn 0 7 1099999 add 0 0 1') serve --plan "$room/plan.json" --rows "$room/rows.txt"
+    judge 'serve: 1,100,000 rows in a file' 0 "$room/wanted" /dev/null
+    for end in '' 'row 5' 'row 7 0 0 1 -'; do
+        echo 'fault 121 1100003' > "$room/wanted"
+        if [ "$end" = 'row 7 0 0 1 -' ]; then echo 'fault 136 1100003' > "$room/wanted"; fi
+        give <(cat "$room/header"; echo "$end"; echo status) serve
+        count "serve: '$end' behind 1,100,000 rows" "$([ "$ended" = 2 ] || echo "status $ended; ")$(difference "$room/wanted" "$room/out")"
+    done
 }
 
 # The example, whose answers come in any order.
@@ -277,6 +378,13 @@ served_files() {
     judge 'serve: a file that is not there' 2 "$room/wanted" "$room/said"
 }
 
+# A header's last line needs no end.
+served_rest() {
+    give <(printf 'plan %s\nconfig 64 64 1\nrow 5 0 0 10 -' "$all_at_0") serve
+    echo 'sound 1 families 0 committed' > "$room/wanted"
+    judge 'serve: a last row without an end' 0 "$room/wanted" /dev/null
+}
+
 # Headers that have a fault.
 served_headers() {
     local fault line text said
@@ -291,6 +399,9 @@ served_headers() {
     done <<END
 121|1|
 121|1|config 1 64 1
+121|3|plan $all_at_0;config 1 64 1;;row 5 0 0 1 -
+121|4|plan $all_at_0;config 1 64 1;row 5 0 0 1 -;;row 9 0 0 1 -;status
+121|4|plan $all_at_0;config 1 64 1;row 5 0 0 1 -;moved;status
 101|1|plan {
 112|2|plan $all_at_0;config 0 64 1
 132|3|plan $all_at_0;config 1 64 1;row 4294967296 0 0 1 -
@@ -307,16 +418,17 @@ served_broken_input() {
     { opening; echo 'txn 0 1 5 add 0 0 5'; } > "$room/begin"
     ended=0
     timeout 60 "$squall" serve "$room/begin" < "$room" > "$room/out" 2> "$room/err" || ended=$?
-    printf '%s\n' 'commit 1 15' 'fault 123 6' 'sound 2 families 1 committed' > "$room/wanted"
-    sort "$room/out" > "$room/got"
-    count 'serve: an input that is not read further' "$([ "$ended" = 2 ] || echo "status $ended; ")$(difference "$room/wanted" "$room/got")"
+    printf '%s\n' 'commit 1 15' 'fault 123 1' 'sound 2 families 1 committed' > "$room/wanted"
+    sort "$room/out" > "$room/got" && mv "$room/got" "$room/out"
+    printf 'squall: %s\n' "line 1: fault 123: the input can't be read" '1 line was refused' > "$room/said"
+    judge 'serve: an input that is not read further' 2 "$room/wanted" "$room/said"
 }
 
-# More lines than a header may have: each is answered, with its number.
+# More lines than a portion of the input has: each is answered, with its number.
 served_many_lines() {
-    { opening; yes '' | head -n 1100000; } > "$room/jobs"
+    { opening; yes status | head -n 1100000; echo mov; } > "$room/jobs"
     give "$room/jobs" serve
-    { seq -f 'fault 126 %.0f' 5 1100004; echo 'sound 2 families 0 committed'; } > "$room/wanted"
+    { yes 'at rest, 0 jobs open' | head -n 1100000; printf '%s\n' 'fault 126 1100005' 'sound 2 families 0 committed'; } > "$room/wanted"
     count 'serve: more than a million lines' "$([ "$ended" = 0 ] || echo "status $ended; ")$(cmp "$room/wanted" "$room/out" 2>&1)"
 }
 
@@ -500,7 +612,7 @@ served_closed_output() {
 }
 
 try_serve() {
-    local engine why rows
+    local engine why rows refused no_line='the line is no job, and none of move, fold, status, plan and rows'
     trap '' PIPE
     served_session
     served_before_a_stop
@@ -515,7 +627,11 @@ try_serve() {
     served_end_in_a_move
     served_moves
     served_files
+    served_places
+    served_strictly
     served_headers
+    served_rest
+    served_many_rows
     served_broken_input
     served_many_lines
     served_slow_client

@@ -1,4 +1,5 @@
-// Lets a program have only so many threads as THREADS says, besides its first one: for each further one the system has none.
+// Refuses threads to a program, besides its first one, as a system does that has no more. With THREADS=N it has only N; with
+// NO_THREAD=N only the Nth is refused, counted from 1.
 //
 //     cc -shared -fPIC -o no_thread.so no_thread.c -ldl
 //     THREADS=2 LD_PRELOAD=./no_thread.so program
@@ -13,9 +14,14 @@ typedef int create(pthread_t *, const pthread_attr_t *, void *(*)(void *), void 
 
 static atomic_long asked;
 
+static int refuses(long number) {
+    const char *most = getenv("THREADS");
+    const char *only = getenv("NO_THREAD");
+    return (most != NULL && number > atol(most)) || (only != NULL && number == atol(only));
+}
+
 int pthread_create(pthread_t *thread, const pthread_attr_t *how, void *(*start)(void *), void *with) {
-    const char *number = getenv("THREADS");
-    if (number != NULL && atomic_fetch_add(&asked, 1) >= atol(number)) return EAGAIN;
+    if (refuses(atomic_fetch_add(&asked, 1) + 1)) return EAGAIN;
     create *next = (create *)dlsym(RTLD_NEXT, "pthread_create");
     return next(thread, how, start, with);
 }

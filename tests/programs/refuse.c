@@ -6,15 +6,16 @@
 #define _GNU_SOURCE
 #include <dlfcn.h>
 #include <fcntl.h>
+#include <stdatomic.h>
 #include <stdlib.h>
 #include <unistd.h>
 
-static long asked;
+static atomic_long asked;
 
 static int refuses(void) {
     const char *number = getenv("REFUSE");
     const char *file = getenv("REFUSED");
-    if (number == NULL || file == NULL || ++asked != atol(number)) return 0;
+    if (number == NULL || file == NULL || atomic_fetch_add(&asked, 1) + 1 != atol(number)) return 0;
     int made = open(file, O_WRONLY | O_CREAT | O_TRUNC, 0644);
     if (made >= 0) close(made);
     return 1;
