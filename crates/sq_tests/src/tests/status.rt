@@ -305,14 +305,14 @@ fn split_down_to_leaves(tree: &StatusTree, seat: &mut TreeSeat)
 
 /// What two threads claimed, and what the tree has then.
 #[derive(Drop)]
-struct Race {
+struct Claims {
     by_pull_2: Vec<NodeId>,
     by_pull_3: Vec<NodeId>,
     statuses: [Status; NODES],
 }
 
 // Two threads claim the leaves of a tree whose other nodes are split, one with pull 2 and one with pull 3.
-fn race<R: Threads + Sync>(rt: &R, alloc: Global) -> Result<Race, AllocError> {
+fn claim_in_two_threads<R: Threads + Sync>(rt: &R, alloc: Global) -> Result<Claims, AllocError> {
     let (tree, mut first) = StatusTree::open(alloc)?;
     split_down_to_leaves(&tree, &mut first);
     let (one, other) = share_two(&tree, &mut first);
@@ -331,7 +331,7 @@ fn race<R: Threads + Sync>(rt: &R, alloc: Global) -> Result<Race, AllocError> {
     let (one, by_pull_2) = left?;
     let (other, by_pull_3) = right?;
     join_two(&tree, &mut first, one, other);
-    Ok(Race {
+    Ok(Claims {
         by_pull_2,
         by_pull_3,
         statuses: tree.close(first),
@@ -347,15 +347,18 @@ fn times(nodes: &[NodeId], node: NodeId) -> usize {
 #[test]
 fn two_threads_claim_each_leaf_once(rt: HostRuntime) -> Result<(), Fail> {
     for _ in 0..20 {
-        let race = race(&rt, rt.alloc())?;
+        let claims = claim_in_two_threads(&rt, rt.alloc())?;
         for node in NodeId::all() {
-            let want = match (times(&race.by_pull_2, node), times(&race.by_pull_3, node)) {
+            let want = match (
+                times(&claims.by_pull_2, node),
+                times(&claims.by_pull_3, node),
+            ) {
                 (0, 0) => Status::Split,
                 (1, 0) => Status::Claimed(2),
                 (0, 1) => Status::Claimed(3),
                 _ => Status::Free,
             };
-            let status = race.statuses[node.index()];
+            let status = claims.statuses[node.index()];
             assert!(rt; status == want, "{node:?} is {status:?}");
             assert!(rt; (status == Status::Split) == (node.number() < 32));
         }
