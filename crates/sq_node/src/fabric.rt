@@ -135,9 +135,10 @@ impl Fabric {
         }
     }
 
-    /// Posts a job to a partition. It comes back where there is no such partition, where that queue was full at one moment of
-    /// the call, and where the run takes no more jobs: since [`Fabric::close_jobs`], or since a node has ended idle in the last
-    /// stage. A job that was taken is answered, or what is gathered of the run hands it out.
+    /// Posts `job` to `part`. The job is returned if there is no such partition, if its queue was full at one moment of
+    /// the call, or if the run takes no more jobs: since [`Fabric::close_jobs`], or since a node closed the run by
+    /// [`Node::close_if_idle`](crate::Node::close_if_idle). A job that was taken is answered, or what is gathered of the
+    /// run hands it out.
     pub fn post<R: Wait>(&self, rt: &R, part: PartId, job: Txn) -> Result<(), Txn>
         ensures there { OnOk result (part < self.now.parts) }
         ensures back { IfErr result (λ back. back ≡ job) }

@@ -22,7 +22,7 @@ use sq_tree::{NodeId, Status};
 use std::sync::Wait;
 
 impl Node {
-    /// Sends the jobs that are pending up to the first whose queue is full, and each pending request whose queue has room.
+    /// Sends the pending jobs up to the first whose queue is full, and each pending request whose queue has room.
     pub fn send_pending<R: Wait>(&mut self, rt: &R, fabric: &Fabric)
         ensures { self.new ≡ self.old }
     {
@@ -30,10 +30,9 @@ impl Node {
         self.puller.send_pending(rt, fabric.shared().requests);
     }
 
-    /// Whether nothing is pending or under way here, and each segment of the running stage that leaves or comes here is
-    /// complete. At the last stage it asks besides that no transaction waits and that each job that was posted is
-    /// answered, and the run takes no more jobs once a node is idle. It looks at the words of a segment until node 1 reads
-    /// complete, and never again.
+    /// Returns true if nothing is pending or under way here, and each segment of the running stage that leaves or comes
+    /// here is complete. In the last stage it also requires that no transaction waits and that each posted job is
+    /// answered. It looks at the words of a segment until node 1 reads complete, and never again.
     pub fn idle(&mut self, fabric: &Fabric) -> bool
         requires { IsNodeOf fabric.now self.old }
         ensures looks { Looks self.old self.new }
@@ -45,14 +44,23 @@ impl Node {
             return false;
         }
         let part = self.core.part();
-        if !see_all_complete(fabric, &mut self.seats, &mut self.complete, part) {
-            return false;
-        }
-        !fabric.is_last_stage() || fabric.close_answered()
+        see_all_complete(fabric, &mut self.seats, &mut self.complete, part)
     }
 
-    /// Whether it gave up keys that aren't all cut and sent. No step asks for it: a driver may, before it lets the node
-    /// give up more.
+    /// Returns true if the node is [`Node::idle`] and, in the last stage, the run takes no more jobs from then on. In the
+    /// last stage it closes the run to jobs if each posted job is answered.
+    pub fn close_if_idle(&mut self, fabric: &Fabric) -> bool
+        requires { IsNodeOf fabric.now self.old }
+        ensures looks { Looks self.old self.new }
+        ensures idle { IsTrue result → IsIdle self.new }
+        ensures of { IsNodeOf fabric.now self.new }
+        ensures holds { KeepsAll self.old self.new }
+    {
+        self.idle(fabric) && (!fabric.is_last_stage() || fabric.close_answered())
+    }
+
+    /// Returns true if it gave up keys that aren't all cut and sent. A driver may ask before it lets the node give up
+    /// more; no step does.
     pub fn is_giving_up(&self) -> bool {
         (0..self.core.parts()).map(PartId::new).any(|dst| self.core.may_cut(dst)
             || self.core.outbox(dst).is_some())
@@ -85,8 +93,8 @@ impl Node {
         }
     }
 
-    // Whether no transaction waits here and each job that was posted is answered. Before the last stage this isn't
-    // asked: what is left continues in the next one.
+    // Returns true if no transaction waits here and each posted job is answered, or if the stage isn't the last: what
+    // is left continues in the next one.
     fn has_answered(&self, fabric: &Fabric) -> bool
         ensures { IsTrue result → stages fabric.now.recon ≤ fabric.now.stage + 1
             → self.now.core.waiting ≡ [] }
@@ -94,7 +102,7 @@ impl Node {
         !fabric.is_last_stage() || (fabric.is_answered() && !self.core.has_waiting())
     }
 
-    // Whether nothing is pending or under way here.
+    // Returns true if nothing is pending or under way here.
     fn is_at_rest(&self) -> bool
         ensures quiet { IsTrue result → (other : ℕ) → IsQuiet self.now.core other }
         ensures settled { IsTrue result → AllSettled self.now.core self.now.seats }
@@ -105,7 +113,7 @@ impl Node {
             && self.is_quiet()
     }
 
-    // Whether nothing is under way here.
+    // Returns true if nothing is under way between this partition and any other.
     fn is_quiet(&self) -> bool
         ensures { IsTrue result → (other : ℕ) → IsQuiet self.now.core other }
     {
@@ -117,7 +125,7 @@ impl Node {
         true
     }
 
-    // Whether nothing is under way here between this partition and another.
+    // Returns true if nothing is under way between this partition and `part`.
     fn is_quiet_with(&self, part: PartId) -> bool
         ensures { IsTrue result → IsQuiet self.now.core part }
     {
@@ -127,8 +135,8 @@ impl Node {
     }
 }
 
-// Whether each segment of the running stage that leaves or comes to a partition is complete. One that was seen to be so
-// isn't looked at again.
+// Returns true if each segment of the running stage that leaves or comes to `part` is complete. It doesn't look again at
+// those whose flag in `complete` is set.
 fn see_all_complete(
     fabric: &Fabric,
     seats: &mut Vec<TreeSeat>,
@@ -157,7 +165,7 @@ fn see_all_complete(
     true
 }
 
-// Whether a segment runs in the running stage, and leaves or comes to a partition.
+// Returns true if `segment` moves in the running stage, and leaves or comes to `part`.
 fn is_of(fabric: &Fabric, segment: &Range, part: PartId) -> bool
     ensures { result ≡ takes_part fabric.now.recon fabric.now.stage part segment.now }
 {
@@ -165,7 +173,7 @@ fn is_of(fabric: &Fabric, segment: &Range, part: PartId) -> bool
         && fabric.recon().stage_on(segment.src, segment.dst) == fabric.stage()
 }
 
-// Whether the whole of a segment reads complete. Where it does, its flag says so from then on.
+// Returns true, and sets its flag in `complete`, if the whole of segment `at` reads complete.
 pub(super) fn see_complete_at(
     trees: &[StatusTree],
     seats: &mut Vec<TreeSeat>,
@@ -191,7 +199,7 @@ pub(super) fn see_complete_at(
     reads
 }
 
-// Whether the whole of a segment reads complete.
+// Returns true if the whole of segment `at` reads complete.
 fn read_complete_at(trees: &[StatusTree], seats: &mut Vec<TreeSeat>, at: usize) -> bool
     requires seats { AreSeatsOf trees.now seats.old.items }
     requires segment { at < length trees.now }
@@ -202,7 +210,7 @@ fn read_complete_at(trees: &[StatusTree], seats: &mut Vec<TreeSeat>, at: usize) 
     reads_complete(&trees[at], &mut seats[at], NodeId::WHOLE)
 }
 
-// Whether a live node reads complete: it is, or it is split and both halves do.
+// Returns true if the live node `node` reads complete: it is, or it is split and both halves do.
 fn reads_complete(tree: &StatusTree, seat: &mut TreeSeat, node: NodeId) -> bool
     requires { seat.old.tree ≡ tree.now }
     ensures seat { IsSameSeat seat.old seat.new }

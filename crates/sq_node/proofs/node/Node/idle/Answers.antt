@@ -21,26 +21,6 @@ invariant_of-self c =
           (known_looked old new c.see_all_complete.ensures.looked) c.see_all_complete.ensures.seen c.self.invariant.1,
     )
 
-pub invariant_of-self-2 : goal.invariant_of-self-2
-invariant_of-self-2 c =
-    let inside = c.self.inside in
-    let old = inside.seats.items in
-    let new = c.see_all_complete.new.seats.items in (
-      c.self.invariant.0,
-      other_flags inside.core.core old new inside.to_complete.items inside.complete.items c.see_all_complete.new.complete.items c.see_all_complete.ensures.flags
-          (known_looked old new c.see_all_complete.ensures.looked) c.see_all_complete.ensures.seen c.self.invariant.1,
-    )
-
-pub returns-then-not-see_all_complete-clause-looks : goal.returns-then-not-see_all_complete-clause-looks
-returns-then-not-see_all_complete-clause-looks c = search rules
-
-pub returns-then-not-see_all_complete-clause-holds : goal.returns-then-not-see_all_complete-clause-holds
-returns-then-not-see_all_complete-clause-holds c = looks_keep c.args.self.now _ (returns-then-not-see_all_complete-clause-looks c)
-
-pub returns-then-not-see_all_complete-clause-of : goal.returns-then-not-see_all_complete-clause-of
-returns-then-not-see_all_complete-clause-of c =
-    request_stays c.args.fabric.now c.args.self.now Nothing _ (returns-then-not-see_all_complete-clause-looks c) c.requires
-
 pub returns-clause-looks : goal.returns-clause-looks
 returns-clause-looks c = search rules
 
@@ -51,7 +31,7 @@ pub returns-clause-of : goal.returns-clause-of
 returns-clause-of c = request_stays c.args.fabric.now c.args.self.now Nothing _ (returns-clause-looks c) c.requires
 
 pub returns-clause-idle : goal.returns-clause-idle
-returns-clause-idle c = λ _.
+returns-clause-idle c = λ all.
     let new = c.see_all_complete.new.seats.items in
     let node = c.args.self.now in
     let fabric = c.args.fabric.now in
@@ -65,7 +45,7 @@ returns-clause-idle c = λ _.
       settled = λ seg n whole. settled_seats node.seats new known seg n (rest.settled c.if-not-is_at_rest.false seg n whole);
       complete = λ seg segment there part.
           seen seg
-          (c.see_all_complete.ensures.complete c.if-not-see_all_complete.false seg segment (ap (λ (recon : ReconValue). slice_get recon.segments seg) (sym c.requires.recon) ∙ there)
+          (c.see_all_complete.ensures.complete all seg segment (ap (λ (recon : ReconValue). slice_get recon.segments seg) (sym c.requires.recon) ∙ there)
           ((λ k. takes_part (sym c.requires.recon k) (sym c.requires.stage k) (own k) segment) ∙ part));
       waiting = λ last.
           c.has_answered.ensures c.if-not-has_answered.false
