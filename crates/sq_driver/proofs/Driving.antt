@@ -9,7 +9,7 @@ use Rattle.sq_node.specs.Steps.{Looks}
 use Rattle.sq_node.proofs.Stays.{job_stays, request_stays, cut_stays, send_stays, recv_stays, load_stays, complete_stays, resume_stays}
 use Rattle.sq_node.proofs.Keeps.{same_keeps, job_keeps, request_keeps, cut_keeps, send_keeps, recv_keeps, load_keeps, complete_keeps, resume_keeps, looks_keep}
 use Rattle.sq_driver.specs.declared.gate.NodeStep.{NodeStep}
-use Rattle.sq_driver.specs.declared.gate.NodeStep.TheVariants.{Job, Request, Cut, Send, Recv, Load, Complete, Resume, Pump}
+use Rattle.sq_driver.specs.declared.gate.NodeStep.TheVariants.{Job, Request, Cut, Send, Recv, Load, Complete, Resume, Pump, Answered}
 use Rattle.sq_driver.specs.Nodes.{MakesStep, Driven}
 use Rattle.sq_driver.proofs.Parts.{step_part}
 
@@ -23,6 +23,7 @@ step_stays fabric Load old answer new made of = load_stays fabric old answer new
 step_stays fabric Complete old answer new made of = complete_stays fabric old answer new made of
 step_stays fabric Resume old answer new made of = resume_stays fabric old answer new made of
 step_stays fabric Pump old answer new made of = subst (IsNodeOf fabric) (sym made.1) of
+step_stays fabric Answered old answer new made of = subst (IsNodeOf fabric) (sym made.1) of
 
 step_keeps : (fabric : FabricValue) (step : NodeStep) (old : NodeState) (answer : Stepped) (new : NodeState) → MakesStep fabric step old answer new → KeepsAll old new
 step_keeps fabric Job old answer new made = job_keeps old answer new made
@@ -34,6 +35,7 @@ step_keeps fabric Load old answer new made = load_keeps old answer new made
 step_keeps fabric Complete old answer new made = complete_keeps old answer new made
 step_keeps fabric Resume old answer new made = resume_keeps old answer new made
 step_keeps fabric Pump old answer new made = same_keeps old new made.1
+step_keeps fabric Answered old answer new made = same_keeps old new made.1
 
 -- one step more
 pub then_step : (fabric : FabricValue) (first old : NodeState) (step : NodeStep) (answer : Stepped) (new : NodeState) → Driven fabric first old → MakesStep fabric step old answer new → Driven fabric first new

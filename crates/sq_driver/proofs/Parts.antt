@@ -12,7 +12,7 @@ use Rattle.sq_node.specs.declared.stepped.Stepped.TheVariants.{Did, Nothing, Mem
 use Rattle.sq_node.specs.FabricValue.{FabricValue}
 use Rattle.sq_node.specs.NodeState.{NodeState}
 use Rattle.sq_driver.specs.declared.gate.NodeStep.{NodeStep}
-use Rattle.sq_driver.specs.declared.gate.NodeStep.TheVariants.{Job, Request, Cut, Send, Recv, Load, Complete, Resume, Pump}
+use Rattle.sq_driver.specs.declared.gate.NodeStep.TheVariants.{Job, Request, Cut, Send, Recv, Load, Complete, Resume, Pump, Answered}
 use Rattle.sq_driver.specs.Nodes.{MakesStep}
 
 taken_part : (waits : Bool) (old new : CoreValue) (txn : TxnValue) (outcome : Outcome) → IsTaken waits old txn outcome new → new.part ≡ old.part
@@ -52,3 +52,4 @@ step_part fabric Resume old Did new made = ap (λ (c : CoreValue). c.part) made.
 step_part fabric Resume old Nothing new made = same_part old new made.0
 step_part fabric Resume old Memory new made = same_part old new made
 step_part fabric Pump old answer new made = same_part old new made.1
+step_part fabric Answered old answer new made = same_part old new made.1

@@ -13,7 +13,7 @@ use Rattle.sq_node.specs.FabricValue.{FabricValue}
 use Rattle.sq_node.specs.NodeState.{NodeState, IsNodeOf}
 use Rattle.sq_node.specs.Steps.{Looks}
 use Rattle.sq_driver.specs.declared.gate.NodeStep.{NodeStep}
-use Rattle.sq_driver.specs.declared.gate.NodeStep.TheVariants.{Job, Request, Cut, Send, Recv, Load, Complete, Resume, Pump}
+use Rattle.sq_driver.specs.declared.gate.NodeStep.TheVariants.{Job, Request, Cut, Send, Recv, Load, Complete, Resume, Pump, Answered}
 use Rattle.sq_driver.specs.Nodes.{MakesStep}
 use Rattle.sq_driver.specs.Told.{TellsEach, HasTold, DrivenAndTold}
 use Rattle.sq_driver.specs.Laws.{node_no_turn, told_none}
@@ -58,6 +58,7 @@ step_writes fabric Resume old Did new made = written old new _ made.after (after
 step_writes fabric Resume old Nothing new made = written old new old made.0 (inl refl)
 step_writes fabric Resume old Memory new made = written old new old made (inl refl)
 step_writes fabric Pump old answer new made = written old new old made.1 (inl refl)
+step_writes fabric Answered old answer new made = written old new old made.1 (inl refl)
 
 longer : (old new : List ReceiptValue) (receipt : ReceiptValue) → new ≡ old ++ receipt ∷ [] → length new ≡ length old + 1
 longer old new receipt grown = ap length grown ∙ length-append old (receipt ∷ [])

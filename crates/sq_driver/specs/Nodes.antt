@@ -7,10 +7,10 @@ use Rattle.sq_node.specs.NodeState.{NodeState, IsNodeOf}
 use Rattle.sq_node.specs.Holds.{KeepsAll}
 use Rattle.sq_node.specs.Steps.{JobStep, RequestStep, CutStep, SendStep, RecvStep, LoadStep, CompleteStep, ResumeStep, Looks}
 use Rattle.sq_driver.specs.declared.gate.NodeStep.{NodeStep}
-use Rattle.sq_driver.specs.declared.gate.NodeStep.TheVariants.{Job, Request, Cut, Send, Recv, Load, Complete, Resume, Pump}
+use Rattle.sq_driver.specs.declared.gate.NodeStep.TheVariants.{Job, Request, Cut, Send, Recv, Load, Complete, Resume, Pump, Answered}
 use Rattle.sq_driver.specs.Ways.{ComesStepByStep, EachDriven}
 
--- a node made the step. It takes no turn of a pump
+-- a node made the step. A turn of a pump and an answer are no steps of a node
 abbrev pub MakesStep : FabricValue → NodeStep → NodeState → Stepped → NodeState → Type 0
 MakesStep fabric Job old answer new = JobStep old answer new
 MakesStep fabric Request old answer new = RequestStep old answer new
@@ -21,6 +21,7 @@ MakesStep fabric Load old answer new = LoadStep old answer new
 MakesStep fabric Complete old answer new = CompleteStep old answer new
 MakesStep fabric Resume old answer new = ResumeStep old answer new
 MakesStep fabric Pump old answer new = (answer ≡ Nothing) × (new ≡ old)
+MakesStep fabric Answered old answer new = (answer ≡ Nothing) × (new ≡ old)
 
 -- a node made one of its steps, or looked at trees
 abbrev pub StepsOrLooks : FabricValue → NodeState → NodeState → Type 0

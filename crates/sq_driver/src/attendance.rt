@@ -1,15 +1,14 @@
 // Which workers have a thread, and whether they give up.
-use crate::gate::WorkerId;
 use std::sync::atomic::{AtomicBool, AtomicU64, Ordering};
 
 /// How workers that were driven in threads ended.
 #[derive(Clone, Copy, Debug, PartialEq, Eq)]
 pub enum WorkersEnd {
-    /// Each of them took its turns, or ended before, where it was done or where its gate ended it.
+    /// Each of them took its turns, or ended before: it was done, or its gate ended it.
     Done,
-    /// One of them had no work for 5 seconds, or some more, while a node or all pumps had no thread. Then all gave up.
+    /// One of them had no work for some 5 seconds while a node or all pumps had no thread. Then all gave up.
     LacksThreads,
-    /// One of them lacked memory for 5 seconds, or some more, and could do nothing meanwhile. Then all gave up.
+    /// One of them lacked memory for some 5 seconds, and could do nothing meanwhile. Then all gave up.
     LacksMemory,
 }
 
@@ -25,7 +24,7 @@ pub(crate) struct Attendance {
 }
 
 impl Attendance {
-    /// Of so many nodes and so many pumps, none of which has come.
+    /// For `nodes` nodes and `pumps` pumps, none of which has come.
     pub(crate) fn new(nodes: usize, pumps: usize) -> Attendance {
         Attendance {
             nodes: nodes as u64,
@@ -36,22 +35,22 @@ impl Attendance {
         }
     }
 
-    /// Of one worker, which waits for no other.
+    /// For one worker, which waits for no other.
     pub(crate) fn alone() -> Attendance {
         Attendance::new(0, 0)
     }
 
-    /// Takes note of a worker that comes. Each comes once.
-    pub(crate) fn note(&self, who: WorkerId) {
-        match who {
-            WorkerId::Node(_) => {
-                self.nodes_come.fetch_add(1, Ordering::SeqCst);
-            }
-            WorkerId::Pump(_) => self.has_pump.store(true, Ordering::SeqCst),
-        }
+    /// Takes note of a node that comes. Each comes once.
+    pub(crate) fn note_node(&self) {
+        self.nodes_come.fetch_add(1, Ordering::SeqCst);
     }
 
-    /// Whether each node has come, and a pump if there are any.
+    /// Takes note of a pump that comes.
+    pub(crate) fn note_pump(&self) {
+        self.has_pump.store(true, Ordering::SeqCst);
+    }
+
+    /// Returns whether each node has come, and a pump if there are any.
     pub(crate) fn is_whole(&self) -> bool {
         self.nodes_come.load(Ordering::SeqCst) >= self.nodes && self.has_pump.load(Ordering::SeqCst)
     }
@@ -66,7 +65,7 @@ impl Attendance {
         self.lacks_memory.store(true, Ordering::SeqCst);
     }
 
-    /// Whether they give up, and why.
+    /// Returns whether they give up, and why.
     pub(crate) fn end(&self) -> WorkersEnd {
         if self.lacks_threads.load(Ordering::SeqCst) {
             WorkersEnd::LacksThreads

@@ -10,16 +10,7 @@ const TRIES_AWAKE: u64 = 256;
 // How many microseconds a worker sleeps where it finds no work.
 const SLEEP: u64 = 50;
 
-/// A worker of a run.
-#[derive(Clone, Copy, Debug, PartialEq, Eq)]
-pub enum WorkerId {
-    /// The node of the partition of a number.
-    Node(u8),
-    /// The pump of a number.
-    Pump(u32),
-}
-
-/// A step for which a worker asks.
+/// What a worker asks its gate for: a step, or whether it continues after a receipt.
 #[derive(Clone, Copy, Debug, PartialEq, Eq)]
 pub enum NodeStep {
     /// A node takes a job, and submits it.
@@ -40,6 +31,8 @@ pub enum NodeStep {
     Resume,
     /// A pump takes a turn.
     Pump,
+    /// A node continues after a step in which it wrote a receipt.
+    Answered,
 }
 
 /// What a worker reports of a step in which there was something to do.
@@ -64,27 +57,66 @@ pub enum WorkerEvent {
     Made(NodeStep),
 }
 
-/// All workers of a run ask it before each of their steps, and inform it of each step in which they did something.
-pub trait Gate {
-    /// Whether a worker may make a step. Where it may not, it ends. A call may keep the worker for a while, and has to
-    /// return.
-    fn pass(&self, who: WorkerId, step: NodeStep) -> bool;
+/// Decides whether the workers of a run continue, and hears what they did. All of them share it.
+///
+/// A worker has a number, `who`: that of a node is its partition's, `p`, and that of pump `u` of a run of `P` partitions is
+/// `P + u`.
+pub trait Gate: Sync {
+    /// Returns whether worker `who` may perform `step`; if not, the worker ends. It is asked before each step, and with
+    /// [`NodeStep::Answered`] after each receipt, once the teller of the node has it and [`Gate::did`] was called. If the
+    /// answer to `Answered` is false, the worker ends after the step that wrote the receipt, which stays written. A call
+    /// may keep the worker for a while, and has to return.
+    fn pass(&self, who: u64, step: NodeStep) -> bool;
 
-    /// Hears of each step in which there was something to do, once that is made. A gate that ends the worker for it
-    /// says so where it is asked next.
-    fn did(&self, _who: WorkerId, _event: WorkerEvent) {}
+    /// Called after each step in which worker `who` did something, in its thread. A gate that ends the worker for it says
+    /// so the next time that it is asked.
+    fn did(&self, _who: u64, _event: WorkerEvent) {}
 
-    /// Hears that a worker has taken a turn without work, and how many it has taken in a row. A call may keep the
-    /// worker for a while. By default other threads go first, and after many turns in a row the worker sleeps for some
-    /// microseconds. It hears nothing of a turn in which memory was lacking, or a worker that hasn't come yet.
-    fn rests<R: Wait>(&self, rt: &R, _who: WorkerId, turns: u64) {
+    /// Called after a turn in which worker `who` found no work; `turns` is how many such turns it has taken in a row. A
+    /// call may keep the worker for a while. By default other threads go first, and after 256 turns the worker sleeps for
+    /// 50 microseconds. It isn't called after a turn that lacked memory, or while another worker has no thread yet.
+    fn rests<R: Wait>(&self, rt: &R, _who: u64, turns: u64) {
         rest(rt, turns, SLEEP);
     }
 
-    /// Whether a node ends where it is idle. Otherwise it continues until it may not pass, since more may come. It is
-    /// asked after each turn of a node. A pump that is done ends in any case: nothing more comes for it in a stage.
+    /// Returns whether a node ends once it is idle: the default. If not, it continues until it may not pass, since more
+    /// may come. It is asked after each turn of a node. A pump that is done ends in any case.
     fn ends_idle(&self) -> bool {
         true
+    }
+}
+
+/// A gate, as the worker in one thread asks it. It isn't `Sync`: the checker covers no method of a trait that calls a
+/// function with a bound that has `Sync` among its supertraits.
+pub(crate) trait OwnGate {
+    /// [`Gate::pass`].
+    fn lets_pass(&self, who: u64, step: NodeStep) -> bool;
+
+    /// [`Gate::did`].
+    fn hears(&self, who: u64, event: WorkerEvent);
+
+    /// [`Gate::rests`].
+    fn lets_rest<R: Wait>(&self, rt: &R, who: u64, turns: u64);
+
+    /// [`Gate::ends_idle`].
+    fn ends_when_idle(&self) -> bool;
+}
+
+impl<G: Gate> OwnGate for G {
+    fn lets_pass(&self, who: u64, step: NodeStep) -> bool {
+        self.pass(who, step)
+    }
+
+    fn hears(&self, who: u64, event: WorkerEvent) {
+        self.did(who, event);
+    }
+
+    fn lets_rest<R: Wait>(&self, rt: &R, who: u64, turns: u64) {
+        self.rests(rt, who, turns);
+    }
+
+    fn ends_when_idle(&self) -> bool {
+        self.ends_idle()
     }
 }
 
@@ -93,7 +125,7 @@ pub trait Gate {
 pub struct OpenGate;
 
 impl Gate for OpenGate {
-    fn pass(&self, _who: WorkerId, _step: NodeStep) -> bool {
+    fn pass(&self, _who: u64, _step: NodeStep) -> bool {
         true
     }
 }

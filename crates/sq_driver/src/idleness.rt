@@ -2,14 +2,16 @@
 ghost use Rattle.std.specs.Prelude.{◌≡◌, ◌+◌, ◌-◌, ◌^◌, min, nat_le};
 
 use crate::attendance::Attendance;
-use crate::gate::{Gate, WorkerId, rest};
+use crate::gate::{OwnGate, rest};
 use std::sync::Wait;
 
-/// After so many turns in a row that lack something, a worker gives up: after some 5 seconds, since it sleeps after most of them.
-pub(crate) const TURNS_LACKING: u64 = 20_000;
+/// A worker gives up after this many turns in a row that lack something: after some 5 seconds, most of which it sleeps.
+pub(crate) const TURNS_LACKING: u64 = 700;
 
-// How many microseconds a worker sleeps after a turn that lacks something.
-const SLEEP_LACKING: u64 = 200;
+// By how many microseconds longer a worker sleeps after each further one of them, and for how many at most.
+const SLEEP_GROWS: u64 = 25;
+
+const LONGEST_SLEEP: u64 = 10_000;
 
 /// How many turns in a row a worker has had no work.
 #[derive(Clone, Copy)]
@@ -33,10 +35,10 @@ impl Idleness {
 
     /// Lets a worker rest after a turn in which there was nothing to do. The gate hears of it, unless another worker hasn't come:
     /// then it waits for that one, and in the end gives up.
-    pub(crate) fn rest<R: Wait, G: Gate>(
+    pub(crate) fn rest<R: Wait, G: OwnGate>(
         &mut self,
         rt: &R,
-        who: WorkerId,
+        who: u64,
         gate: &G,
         attendance: &Attendance,
     ) {
@@ -44,7 +46,7 @@ impl Idleness {
         self.lacked = 0;
         if attendance.is_whole() {
             self.waited = 0;
-            gate.rests(rt, who, self.rested);
+            gate.lets_rest(rt, who, self.rested);
         } else if lacks_for_long(rt, &mut self.waited) {
             attendance.lack_threads();
         }
@@ -59,12 +61,12 @@ impl Idleness {
     }
 }
 
-// Counts a turn that lacks something, and sleeps after it. Whether there were enough of them to give up.
+// Counts a turn that lacks something, and sleeps after it. Returns whether there were enough of them to give up.
 fn lacks_for_long<R: Wait>(rt: &R, turns: &mut u64) -> bool
     ensures turns { turns.new ≡ min (turns.old + 1) (2 ^ 64 - 1) }
     ensures long { result ≡ nat_le TURNS_LACKING turns.new }
 {
     *turns = turns.saturating_add(1);
-    rest(rt, *turns, SLEEP_LACKING);
+    rest(rt, turns.saturating_mul(SLEEP_GROWS), LONGEST_SLEEP);
     *turns >= TURNS_LACKING
 }

@@ -14,7 +14,7 @@ mod worker;
 mod workers;
 
 pub use attendance::WorkersEnd;
-pub use gate::{Gate, NodeStep, OpenGate, WorkerEvent, WorkerId, rest};
+pub use gate::{Gate, NodeStep, OpenGate, WorkerEvent, rest};
 pub use nodes::{drive, drive_telling};
 pub use pumps::drive_pump;
 pub use teller::{NoTeller, Teller, TellingNode};

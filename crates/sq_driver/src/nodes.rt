@@ -1,10 +1,11 @@
 // Nodes that are driven.
+ghost use Rattle.std.specs.Prelude.{◌≡◌};
 ghost use Rattle.sq_node.specs.Prelude.{IsNodeOf};
 ghost use Rattle.sq_driver.specs.Nodes.{MakesStep, Driven};
 ghost use Rattle.sq_driver.specs.Told.{HasTold, DrivenAndTold, DrivenTelling};
 
 use crate::attendance::Attendance;
-use crate::gate::{Gate, NodeStep, WorkerEvent, WorkerId};
+use crate::gate::{Gate, NodeStep, OwnGate, WorkerEvent};
 use crate::teller::{NoTeller, Teller, TellingNode};
 use crate::worker::{Turn, Worker, take_turns};
 use sq_node::{Effort, Fabric, Node, Stepped};
@@ -37,13 +38,17 @@ impl Worker for Node {
 
     ghost Driven = { Driven };
 
-    fn id(&self) -> WorkerId {
-        WorkerId::Node(self.part().number())
+    fn number_in(&self, _fabric: &Fabric) -> u64 {
+        number_of(self)
+    }
+
+    fn come(&self, attendance: &Attendance) {
+        attendance.note_node();
     }
 
     fn begin(&mut self, _fabric: &Fabric) {}
 
-    fn take_turn<R: Wait, G: Gate>(&mut self, rt: &R, fabric: &Fabric, gate: &G) -> Turn {
+    fn take_turn<R: Wait, G: OwnGate>(&mut self, rt: &R, fabric: &Fabric, gate: &G) -> Turn {
         take_node_turn(rt, fabric, self, &mut NoTeller, gate)
     }
 
@@ -63,13 +68,17 @@ impl<T: Teller> Worker for TellingNode<T> {
 
     ghost Driven = { λ fabric old new. DrivenTelling T.Tells fabric old new };
 
-    fn id(&self) -> WorkerId {
-        self.node.id()
+    fn number_in(&self, _fabric: &Fabric) -> u64 {
+        number_of(&self.node)
+    }
+
+    fn come(&self, attendance: &Attendance) {
+        attendance.note_node();
     }
 
     fn begin(&mut self, _fabric: &Fabric) {}
 
-    fn take_turn<R: Wait, G: Gate>(&mut self, rt: &R, fabric: &Fabric, gate: &G) -> Turn {
+    fn take_turn<R: Wait, G: OwnGate>(&mut self, rt: &R, fabric: &Fabric, gate: &G) -> Turn {
         take_node_turn(rt, fabric, &mut self.node, &mut self.teller, gate)
     }
 
@@ -82,15 +91,14 @@ impl<T: Teller> Worker for TellingNode<T> {
         first.node first.teller old.node old.teller new.node new.teller was more };
 }
 
-/// Drives a node: it takes this many turns. In a turn it makes each step once, and cuts and sends a second chunk. It
-/// takes no request while it has something to cut or to send: it still serves what isn't asked of it yet. Where it cut
-/// or loaded a chunk, it continues with jobs until it has done three times as much for them as for chunks, or finds
-/// none.
+/// Drives a node: it takes `turns` turns. In a turn it performs each step once, and cuts and sends a second chunk. It takes
+/// no request while it has something to cut or to send: it still serves what isn't asked of it yet. After it cut or loaded
+/// a chunk, it continues with jobs until it has done three times as much for them as for chunks, or finds none.
 ///
-/// It ends before where it is idle, unless the gate says that it continues then. It also ends where the gate says so,
-/// which is asked before each step, and once it has lacked memory for 5 seconds or some more and done nothing else. The
-/// gate hears of each step in which there was something to do, and where the node rests after a turn without work,
-/// during which it may keep it for a while.
+/// It ends before if it is idle, unless the gate says that it continues then. It also ends if the gate says so, which is
+/// asked before each step and after each receipt ([`NodeStep::Answered`]), and once it has lacked memory for some 5 seconds
+/// and done nothing else. The gate hears of each step in which there was something to do, and each time that the node
+/// rests after a turn without work, when it may keep it for a while.
 pub fn drive<R: Wait, G: Gate>(rt: &R, fabric: &Fabric, node: &mut Node, turns: u64, gate: &G)
     requires { IsNodeOf fabric.now node.old }
     ensures { Driven fabric.now node.old node.new }
@@ -99,8 +107,7 @@ pub fn drive<R: Wait, G: Gate>(rt: &R, fabric: &Fabric, node: &mut Node, turns: 
 }
 
 /// Drives a node with its teller, as [`drive`] does. The teller hears of each receipt that the node writes, once, in
-/// their order, and of nothing else. It hears of it as soon as the step is made that wrote the receipt, before the gate
-/// is.
+/// their order, and of nothing else: as soon as the step that wrote the receipt is performed, before the gate hears of it.
 pub fn drive_telling<T: Teller, R: Wait, G: Gate>(
     rt: &R,
     fabric: &Fabric,
@@ -115,7 +122,7 @@ pub fn drive_telling<T: Teller, R: Wait, G: Gate>(
 }
 
 // Sends what is pending, and makes each step once. Where a chunk was cut or loaded, it continues with jobs for a while.
-fn take_node_turn<T: Teller, R: Wait, G: Gate>(
+fn take_node_turn<T: Teller, R: Wait, G: OwnGate>(
     rt: &R,
     fabric: &Fabric,
     node: &mut Node,
@@ -137,10 +144,10 @@ fn take_node_turn<T: Teller, R: Wait, G: Gate>(
     if !serve_on(rt, fabric, node, teller, before, gate) {
         return Turn::Ended;
     }
-    if !gate.ends_idle() {
+    if !gate.ends_when_idle() {
         return turn;
     }
-    if node.idle(fabric) {
+    if node.close_if_idle(fabric) {
         return Turn::Ended;
     }
     turn
@@ -148,7 +155,7 @@ fn take_node_turn<T: Teller, R: Wait, G: Gate>(
 
 // Continues with jobs, by as much as is owed for the chunks that were cut or loaded since a turn began. Says whether
 // the gate lets the node continue.
-fn serve_on<T: Teller, R: Wait, G: Gate>(
+fn serve_on<T: Teller, R: Wait, G: OwnGate>(
     rt: &R,
     fabric: &Fabric,
     node: &mut Node,
@@ -179,7 +186,7 @@ fn serve_on<T: Teller, R: Wait, G: Gate>(
 }
 
 // Takes up a transaction that waits, or else takes a job.
-fn serve<T: Teller, R: Wait, G: Gate>(
+fn serve<T: Teller, R: Wait, G: OwnGate>(
     rt: &R,
     fabric: &Fabric,
     node: &mut Node,
@@ -195,9 +202,8 @@ fn serve<T: Teller, R: Wait, G: Gate>(
     }
 }
 
-// Makes a step of a node, where the gate lets it pass, and informs its teller of the receipt and the gate of what it
-// did.
-fn try_step<T: Teller, R: Wait, G: Gate>(
+// Makes a step of a node, if the gate lets it pass. The teller gets the receipt first, and then the gate hears of the step.
+fn try_step<T: Teller, R: Wait, G: OwnGate>(
     rt: &R,
     fabric: &Fabric,
     node: &mut Node,
@@ -211,17 +217,13 @@ fn try_step<T: Teller, R: Wait, G: Gate>(
     if step == NodeStep::Request && node.is_giving_up() {
         return Turn::Rested;
     }
-    let who = node.id();
-    if !gate.pass(who, step) {
+    if !gate.lets_pass(number_of(node), step) {
         return Turn::Ended;
     }
     let receipts = node.receipts().len();
     let before = node.effort();
     match step_and_tell(rt, fabric, node, teller, step) {
-        Stepped::Did => {
-            gate.did(who, event_of(node, step, receipts, before));
-            Turn::Worked
-        }
+        Stepped::Did => report(gate, node, event_of(node, step, receipts, before)),
         Stepped::Nothing => Turn::Rested,
         Stepped::Memory => Turn::Lacked,
     }
@@ -247,6 +249,23 @@ fn step_and_tell<T: Teller, R: Wait>(
     stepped
 }
 
+// Reports to the gate what a node did in a step. If that wrote a receipt, the gate says whether the node continues.
+fn report<G: OwnGate>(gate: &G, node: &Node, event: WorkerEvent) -> Turn {
+    let who = number_of(node);
+    gate.hears(who, event);
+    if matches!(event, WorkerEvent::Answered(_)) && !gate.lets_pass(who, NodeStep::Answered) {
+        return Turn::Ended;
+    }
+    Turn::Worked
+}
+
+// The number of a node to a gate.
+fn number_of(node: &Node) -> u64
+    ensures { result ≡ node.now.core.part }
+{
+    u64::from(node.part().number())
+}
+
 // What the gate hears of a step in which a node did something. Before the step the node had so many receipts, and had
 // done this.
 fn event_of(node: &Node, step: NodeStep, receipts: usize, before: Effort) -> WorkerEvent {
@@ -269,7 +288,7 @@ fn event_of(node: &Node, step: NodeStep, receipts: usize, before: Effort) -> Wor
     WorkerEvent::Made(step)
 }
 
-// Makes a step of a node. A node takes no turn of a pump.
+// Makes a step of a node. A turn of a pump and an answer are none.
 fn make_step<R: Wait>(rt: &R, fabric: &Fabric, node: &mut Node, step: NodeStep) -> Stepped
     requires { IsNodeOf fabric.now node.old }
     ensures { MakesStep fabric.now step node.old result node.new }
@@ -283,6 +302,6 @@ fn make_step<R: Wait>(rt: &R, fabric: &Fabric, node: &mut Node, step: NodeStep) 
         NodeStep::Load => node.step_load(fabric),
         NodeStep::Complete => node.step_complete(fabric),
         NodeStep::Resume => node.step_resume(rt, fabric),
-        NodeStep::Pump => Stepped::Nothing,
+        NodeStep::Pump | NodeStep::Answered => Stepped::Nothing,
     }
 }

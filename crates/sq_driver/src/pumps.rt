@@ -1,9 +1,10 @@
 // Pumps that are driven.
+ghost use Rattle.std.specs.Prelude.{◌≡◌, ◌+◌};
 ghost use Rattle.sq_pull.specs.Seats.{AreSeatsOf};
 ghost use Rattle.sq_driver.specs.Pumps.{PumpDriven};
 
 use crate::attendance::Attendance;
-use crate::gate::{Gate, NodeStep, WorkerEvent, WorkerId};
+use crate::gate::{Gate, NodeStep, OwnGate, WorkerEvent};
 use crate::worker::{Turn, Worker, take_turns};
 use sq_node::Fabric;
 use sq_pull::{Pump, PumpTurn};
@@ -26,22 +27,26 @@ impl Worker for Pump {
 
     ghost Driven = { PumpDriven };
 
-    fn id(&self) -> WorkerId {
-        WorkerId::Pump(self.number())
+    fn number_in(&self, fabric: &Fabric) -> u64 {
+        number_of(fabric, self)
+    }
+
+    fn come(&self, attendance: &Attendance) {
+        attendance.note_pump();
     }
 
     fn begin(&mut self, fabric: &Fabric) {
         divide(fabric, self);
     }
 
-    fn take_turn<R: Wait, G: Gate>(&mut self, rt: &R, fabric: &Fabric, gate: &G) -> Turn {
-        let who = self.id();
-        if self.is_done() || !gate.pass(who, NodeStep::Pump) {
+    fn take_turn<R: Wait, G: OwnGate>(&mut self, rt: &R, fabric: &Fabric, gate: &G) -> Turn {
+        let who = number_of(fabric, self);
+        if self.is_done() || !gate.lets_pass(who, NodeStep::Pump) {
             return Turn::Ended;
         }
         let turn = claim(rt, fabric, self);
         if turn == Turn::Worked {
-            gate.did(who, WorkerEvent::Made(NodeStep::Pump));
+            gate.hears(who, WorkerEvent::Made(NodeStep::Pump));
         }
         turn
     }
@@ -53,20 +58,25 @@ impl Worker for Pump {
     ghost further = { pump_further };
 }
 
-/// Drives a pump: it takes this many turns. Before them it splits the segments where they are few, so that it claims no
-/// large part of what moves at once. In a turn it claims a tree node of a segment whose source has few requests to
-/// begin, if there is one: what isn't claimed is still served where it is, and a transaction that waits can claim
-/// it.
+/// Drives a pump: it takes `turns` turns. Before them it splits the segments if they are few, so that it claims no large
+/// part of what moves at once. In a turn it claims a tree node of a segment whose source has few requests to begin, if
+/// there is one: what isn't claimed is still served where it is, and a transaction that waits can claim it.
 ///
-/// It ends before where it is done: there was nothing to claim in any segment of the running stage, and nothing is
-/// pending. It also ends where the gate says so, which is asked before each turn, and once it has lacked memory for
-/// 5 seconds or some more. The gate hears of each claim, and where the pump rests, during which it may keep it for a
-/// while.
+/// It ends before if it is done: there was nothing to claim in any segment of the running stage, and nothing is pending.
+/// It also ends if the gate says so, which is asked before each turn, and once it has lacked memory for some 5 seconds.
+/// The gate hears of each claim, and each time that the pump rests, when it may keep it for a while.
 pub fn drive_pump<R: Wait, G: Gate>(rt: &R, fabric: &Fabric, pump: &mut Pump, turns: u64, gate: &G)
     requires { AreSeatsOf fabric.now.trees pump.old.seats }
     ensures { PumpDriven fabric.now pump.old pump.new }
 {
     take_turns(rt, fabric, pump, turns, gate, &Attendance::alone());
+}
+
+// The number of a pump to a gate.
+fn number_of(fabric: &Fabric, pump: &Pump) -> u64
+    ensures { result ≡ fabric.now.parts + pump.now.number }
+{
+    u64::from(fabric.parts()) + u64::from(pump.number())
 }
 
 // Splits each segment into as many parts as are to be claimed.

@@ -2,7 +2,7 @@
 ghost use Rattle.sq_node.specs.Prelude.{FabricValue};
 
 use crate::attendance::{Attendance, WorkersEnd};
-use crate::gate::{Gate, WorkerId};
+use crate::gate::OwnGate;
 use crate::idleness::Idleness;
 use sq_node::Fabric;
 use std::sync::Wait;
@@ -40,8 +40,11 @@ pub(crate) trait Worker {
     /// How a worker changes in its turns.
     ghost Driven: { FabricValue → Self → Self → Type 0 };
 
-    /// Its name to a gate.
-    fn id(&self) -> WorkerId;
+    /// Its number to a gate.
+    fn number_in(&self, fabric: &Fabric) -> u64;
+
+    /// Takes note that it has come.
+    fn come(&self, attendance: &Attendance);
 
     /// What it does before its turns.
     fn begin(&mut self, fabric: &Fabric)
@@ -49,7 +52,7 @@ pub(crate) trait Worker {
         ensures { Driven fabric.now self.old self.new };
 
     /// A turn. The gate is asked before each step.
-    fn take_turn<R: Wait, G: Gate>(&mut self, rt: &R, fabric: &Fabric, gate: &G) -> Turn
+    fn take_turn<R: Wait, G: OwnGate>(&mut self, rt: &R, fabric: &Fabric, gate: &G) -> Turn
         requires { IsOf fabric.now self.old }
         ensures { Driven fabric.now self.old self.new };
 
@@ -66,9 +69,9 @@ pub(crate) trait Worker {
         → Driven fabric first old → Driven fabric old new → Driven fabric first new };
 }
 
-/// Drives a worker: it takes this many turns, or fewer where it stops. The gate hears where it rests. It gives up where it has no
-/// work for long while another worker hasn't come, or lacks memory for long, and where another worker has given up.
-pub(crate) fn take_turns<W: Worker, R: Wait, G: Gate>(
+/// Drives a worker: it takes `turns` turns, or fewer if it ends. It gives up once it has had no work for long while another
+/// worker hasn't come, once it has lacked memory for long, and once another worker has given up.
+pub(crate) fn take_turns<W: Worker, R: Wait, G: OwnGate>(
     rt: &R,
     fabric: &Fabric,
     worker: &mut W,
@@ -80,8 +83,8 @@ pub(crate) fn take_turns<W: Worker, R: Wait, G: Gate>(
     ensures { W.Driven fabric.now worker.old worker.new }
 {
     worker.begin(fabric);
-    let who = worker.id();
-    attendance.note(who);
+    let who = worker.number_in(fabric);
+    worker.come(attendance);
     let mut idleness = Idleness::new();
     for _turn in 0..turns {
         if attendance.end() != WorkersEnd::Done {

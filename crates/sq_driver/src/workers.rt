@@ -7,7 +7,7 @@ ghost use Rattle.sq_driver.specs.Told.{AllDrivenTelling};
 ghost use Rattle.sq_driver.specs.Pumps.{HasAllSeats, AllPumpsDriven};
 
 use crate::attendance::{Attendance, WorkersEnd};
-use crate::gate::Gate;
+use crate::gate::{Gate, OwnGate};
 use crate::teller::{Teller, TellingNode};
 use crate::worker::{Worker, take_turns};
 use sq_node::{Fabric, Node};
@@ -16,13 +16,13 @@ use std::sync::Wait;
 use std::thread;
 use std::thread::{Threads, join_mut};
 
-/// Drives each node and each pump in a thread of its own, with this many turns each. All of them have ended when it returns,
-/// and the run takes no more jobs until [`Fabric::open_jobs`]. It says how they ended.
+/// Drives each node and each pump in a thread of its own, with `turns` turns each, and returns how they ended. All of them
+/// have ended when it returns, and the run takes no more jobs until [`Fabric::open_jobs`].
 ///
-/// Where a thread can't be made, workers go one after another. They all give up once one of them has had no work for
-/// 5 seconds, or some more, while a node hasn't come, or no pump has, and so once one of them has lacked memory for as
-/// long and could do nothing meanwhile.
-pub fn run_workers<R: Threads + Wait + Sync, G: Gate + Sync>(
+/// If a thread can't be made, workers go one after another. All give up once one of them has had no work for some 5
+/// seconds while a node or all pumps have no thread, and once one of them has lacked memory for as long and could do
+/// nothing meanwhile.
+pub fn run_workers<R: Threads + Wait + Sync, G: Gate>(
     rt: &R,
     fabric: &Fabric,
     nodes: &mut [Node],
@@ -42,7 +42,7 @@ pub fn run_workers<R: Threads + Wait + Sync, G: Gate + Sync>(
 
 /// Drives each node, with its teller, and each pump, as [`run_workers`] does. A teller hears of each receipt that its
 /// node writes, once, in their order, and of nothing else, by the thread that drives the node.
-pub fn run_telling<T: Teller + Send, R: Threads + Wait + Sync, G: Gate + Sync>(
+pub fn run_telling<T: Teller + Send, R: Threads + Wait + Sync, G: Gate>(
     rt: &R,
     fabric: &Fabric,
     pairs: &mut [TellingNode<T>],
@@ -61,7 +61,7 @@ pub fn run_telling<T: Teller + Send, R: Threads + Wait + Sync, G: Gate + Sync>(
 }
 
 // Drives each of these workers, and each pump, in a thread of its own.
-fn run_all<W: Worker + Send, R: Threads + Wait + Sync, G: Gate + Sync>(
+fn run_all<W: Worker + Send, R: Threads + Wait + Sync, G: OwnGate + Sync>(
     rt: &R,
     fabric: &Fabric,
     workers: &mut [W],
@@ -90,7 +90,7 @@ fn run_all<W: Worker + Send, R: Threads + Wait + Sync, G: Gate + Sync>(
 }
 
 // Drives each of these workers in a thread of its own.
-fn run_each<W: Worker + Send, R: Threads + Wait + Sync, G: Gate + Sync>(
+fn run_each<W: Worker + Send, R: Threads + Wait + Sync, G: OwnGate + Sync>(
     rt: &R,
     fabric: &Fabric,
     workers: &mut [W],

@@ -4,7 +4,7 @@ ghost use Rattle.std.specs.Prelude.{◌≡◌, IfOk};
 use crate::node_bell::NodeBell;
 use crate::nodes_here::NodesHere;
 use crate::stage_progress::StageProgress;
-use sq_driver::{Gate, NodeStep, WorkerEvent, WorkerId, WorkersEnd, rest};
+use sq_driver::{Gate, NodeStep, WorkerEvent, WorkersEnd, rest};
 use sq_plan::PartId;
 use std::alloc::{AllocError, Global};
 use std::sync::Wait;
@@ -109,14 +109,6 @@ impl EpochGate {
         }
     }
 
-    // The bell of a node. A pump has none.
-    fn bell_of(&self, who: WorkerId) -> Option<&NodeBell> {
-        match who {
-            WorkerId::Node(part) => self.bells.get(usize::from(part)),
-            WorkerId::Pump(_) => None,
-        }
-    }
-
     // Wakes each node that sleeps.
     fn wake_all(&self) {
         for bell in &self.bells {
@@ -148,12 +140,12 @@ impl EpochGate {
 }
 
 impl Gate for EpochGate {
-    fn pass(&self, who: WorkerId, _step: NodeStep) -> bool {
+    fn pass(&self, who: u64, _step: NodeStep) -> bool {
         self.nodes.note(who);
         !self.is_over()
     }
 
-    fn did(&self, _who: WorkerId, event: WorkerEvent) {
+    fn did(&self, _who: u64, event: WorkerEvent) {
         match event {
             WorkerEvent::Answered(_) => {
                 self.answers.fetch_add(1, Ordering::SeqCst);
@@ -176,8 +168,8 @@ impl Gate for EpochGate {
         }
     }
 
-    fn rests<R: Wait>(&self, rt: &R, who: WorkerId, turns: u64) {
-        match self.bell_of(who) {
+    fn rests<R: Wait>(&self, rt: &R, who: u64, turns: u64) {
+        match self.bells.get(who as usize) {
             Some(bell) if self.is_rest() => bell.wait(rt, turns),
             _ => rest(rt, turns, SHORT_REST),
         }

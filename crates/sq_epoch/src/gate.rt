@@ -1,6 +1,6 @@
 // The gate of an epoch.
 use crate::stage_progress::StageProgress;
-use sq_driver::{Gate, NodeStep, WorkerEvent, WorkerId};
+use sq_driver::{Gate, NodeStep, WorkerEvent};
 use std::sync::Wait;
 use std::sync::atomic::{AtomicU64, Ordering};
 
@@ -15,8 +15,8 @@ pub struct CountingGate<'a, G> {
     moved_bytes: AtomicU64,
 }
 
-impl<'a, G: Gate> CountingGate<'a, G> {
-    /// Before this gate, in a stage that is so far.
+impl<'a, G> CountingGate<'a, G> {
+    /// Before `gate`, in a stage that is as far as `progress` says.
     pub fn new(gate: &'a G, progress: StageProgress) -> CountingGate<'a, G> {
         CountingGate {
             gate,
@@ -27,7 +27,7 @@ impl<'a, G: Gate> CountingGate<'a, G> {
         }
     }
 
-    /// How far the stage is.
+    /// Returns how far the stage is.
     pub fn progress(&self) -> StageProgress {
         StageProgress {
             segments: self.segments,
@@ -36,19 +36,14 @@ impl<'a, G: Gate> CountingGate<'a, G> {
             moved_bytes: self.moved_bytes.load(Ordering::SeqCst),
         }
     }
-
-    // Whether no worker continues: the stage is done, and workers that are idle don't end.
-    fn is_over(&self) -> bool {
-        self.progress().is_done() && !self.gate.ends_idle()
-    }
 }
 
 impl<G: Gate> Gate for CountingGate<'_, G> {
-    fn pass(&self, who: WorkerId, step: NodeStep) -> bool {
-        !self.is_over() && self.gate.pass(who, step)
+    fn pass(&self, who: u64, step: NodeStep) -> bool {
+        (self.gate.ends_idle() || !self.progress().is_done()) && self.gate.pass(who, step)
     }
 
-    fn did(&self, who: WorkerId, event: WorkerEvent) {
+    fn did(&self, who: u64, event: WorkerEvent) {
         match event {
             WorkerEvent::SegmentComplete => {
                 self.complete.fetch_add(1, Ordering::SeqCst);
@@ -62,7 +57,7 @@ impl<G: Gate> Gate for CountingGate<'_, G> {
         self.gate.did(who, event);
     }
 
-    fn rests<R: Wait>(&self, rt: &R, who: WorkerId, turns: u64) {
+    fn rests<R: Wait>(&self, rt: &R, who: u64, turns: u64) {
         self.gate.rests(rt, who, turns);
     }
 

@@ -1,5 +1,4 @@
 // Which nodes have a thread.
-use sq_driver::WorkerId;
 use std::sync::atomic::{AtomicU64, Ordering};
 
 /// Which nodes of an epoch have come: each of them has a thread.
@@ -19,10 +18,10 @@ impl NodesHere {
         }
     }
 
-    /// Takes note of a worker that has come. Only the thread of a node notes it.
-    pub(crate) fn note(&self, who: WorkerId) {
-        if let WorkerId::Node(part) = who {
-            let bit = 1u64 << (part % 64);
+    /// Takes note that the worker `who` has come, if it is a node. Only the thread of a node notes it.
+    pub(crate) fn note(&self, who: u64) {
+        if who < u64::from(self.parts) {
+            let bit = 1u64 << (who % 64);
             if self.come.load(Ordering::SeqCst) & bit == 0 {
                 self.come.fetch_add(bit, Ordering::SeqCst);
             }

@@ -6,7 +6,7 @@ use sq_node::Node;
 
 /// A gate of a live run that is also informed of the run: once its input is read, of each stage, and at its end. Where
 /// memory runs out, or threads are lacking, it may hear of nothing more but the end.
-pub trait Watch: Gate + Sync {
+pub trait Watch: Gate {
     /// Called once the input is read: these jobs are to be posted, in this order.
     fn posts(&self, _jobs: &[Job]) {}
 

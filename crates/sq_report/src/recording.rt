@@ -10,7 +10,7 @@ use crate::results::{KeptReplies, KeptRows};
 use crate::timeline::Timeline;
 use crate::waits::Waits;
 use sq_audit::Job;
-use sq_driver::{Gate, NodeStep, WorkerEvent, WorkerId};
+use sq_driver::{Gate, NodeStep, WorkerEvent};
 use sq_gather::Gathered;
 use sq_live::{MAX_JOBS, Watch};
 use sq_node::Node;
@@ -212,11 +212,11 @@ impl<'a, R: Wait + Clock, W: Watch> RecordingWatch<'a, R, W> {
 }
 
 impl<R: Wait + Clock + Sync, W: Watch> Gate for RecordingWatch<'_, R, W> {
-    fn pass(&self, who: WorkerId, step: NodeStep) -> bool {
+    fn pass(&self, who: u64, step: NodeStep) -> bool {
         self.watch.pass(who, step)
     }
 
-    fn did(&self, who: WorkerId, event: WorkerEvent) {
+    fn did(&self, who: u64, event: WorkerEvent) {
         self.waits.hear(who, event);
         if let Some(timeline) = &self.timeline {
             timeline.record(who, event);
@@ -224,7 +224,7 @@ impl<R: Wait + Clock + Sync, W: Watch> Gate for RecordingWatch<'_, R, W> {
         self.watch.did(who, event);
     }
 
-    fn rests<S: Wait>(&self, rt: &S, who: WorkerId, turns: u64) {
+    fn rests<S: Wait>(&self, rt: &S, who: u64, turns: u64) {
         self.watch.rests(rt, who, turns);
     }
 

@@ -2,7 +2,7 @@
 use crate::answers::AnswerMarks;
 use crate::clock::Stopwatch;
 use crate::wait_marks::WaitMarks;
-use sq_driver::{NodeStep, WorkerEvent, WorkerId};
+use sq_driver::{NodeStep, WorkerEvent};
 use sq_node::Node;
 use sq_summary::{Event, Happened, Moment, StageStart, TimedAnswer};
 use std::alloc::{AllocError, Global};
@@ -67,18 +67,18 @@ impl<'a, C: Clock> Timeline<'a, C> {
         self.answered.name(nodes);
     }
 
-    /// Marks a job that was answered or begins to wait, or a segment that is complete. Other events of a worker are none of these.
-    pub fn record(&self, who: WorkerId, event: WorkerEvent) {
-        match (who, event) {
-            (WorkerId::Node(part), WorkerEvent::Answered(step)) => {
+    /// Marks a job that was answered or begins to wait, or a segment that is complete. Other events of worker `who` are none
+    /// of these. Only a node answers jobs, or has one that waits: then `who` is its partition.
+    pub fn record(&self, who: u64, event: WorkerEvent) {
+        match event {
+            WorkerEvent::Answered(step) => {
                 let has_waited = step == NodeStep::Resume;
-                self.answered.mark(self.clock.micros(), part, has_waited);
+                self.answered
+                    .mark(self.clock.micros(), part_of(who), has_waited);
             }
-            (WorkerId::Node(part), WorkerEvent::Waits { id }) => {
-                self.waits.mark(self.clock.micros(), part, id);
-            }
-            (_, WorkerEvent::SegmentComplete) => self.complete.mark(self.clock.micros()),
-            _ => {}
+            WorkerEvent::Waits { id } => self.waits.mark(self.clock.micros(), part_of(who), id),
+            WorkerEvent::SegmentComplete => self.complete.mark(self.clock.micros()),
+            WorkerEvent::Loaded { .. } | WorkerEvent::Made(_) => {}
         }
     }
 
@@ -115,6 +115,11 @@ impl<'a, C: Clock> Timeline<'a, C> {
             answer: None,
         }
     }
+}
+
+// The partition of the node of number `who`.
+fn part_of(who: u64) -> u8 {
+    u8::try_from(who).unwrap_or(u8::MAX)
 }
 
 // The times of what happened, in any order.

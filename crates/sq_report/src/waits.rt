@@ -1,5 +1,5 @@
 // How many jobs were answered after they had waited.
-use sq_driver::{NodeStep, WorkerEvent, WorkerId};
+use sq_driver::{NodeStep, WorkerEvent};
 use sq_pull::MAX_OWNERS;
 use std::alloc::{AllocError, Global};
 use std::sync::atomic::{AtomicU64, Ordering};
@@ -21,15 +21,12 @@ impl Waits {
         Ok(Waits { parts })
     }
 
-    /// Hears what a worker reports. A pump answers no jobs.
-    pub(crate) fn hear(&self, who: WorkerId, event: WorkerEvent) {
-        let WorkerId::Node(part) = who else {
-            return;
-        };
+    /// Hears what worker `who` reports. Only a node answers jobs: then `who` is its partition.
+    pub(crate) fn hear(&self, who: u64, event: WorkerEvent) {
         if event != WorkerEvent::Answered(NodeStep::Resume) {
             return;
         }
-        if let Some(waited) = self.parts.get(usize::from(part)) {
+        if let Some(waited) = self.parts.get(who as usize) {
             waited.fetch_add(1, Ordering::SeqCst);
         }
     }

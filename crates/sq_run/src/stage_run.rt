@@ -119,7 +119,7 @@ impl StageRun {
     }
 
     /// Drives each node and each pump in a thread of its own, as [`run_workers`] does, and says how they ended.
-    pub fn drive<R: Threads + Wait + Sync, G: Gate + Sync>(
+    pub fn drive<R: Threads + Wait + Sync, G: Gate>(
         &mut self,
         rt: &R,
         turns: u64,

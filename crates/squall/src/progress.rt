@@ -1,5 +1,5 @@
 // How far a live run is, said meanwhile.
-use sq_driver::{Gate, NodeStep, WorkerEvent, WorkerId};
+use sq_driver::{Gate, NodeStep, WorkerEvent};
 use sq_live::Watch;
 use sq_report::Stopwatch;
 use std::sync::atomic::{AtomicBool, AtomicU64, Ordering};
@@ -77,11 +77,11 @@ impl<'a, E: Eprint + Clock> Progress<'a, E> {
 }
 
 impl<E: Eprint + Clock + Sync> Gate for Progress<'_, E> {
-    fn pass(&self, _who: WorkerId, _step: NodeStep) -> bool {
+    fn pass(&self, _who: u64, _step: NodeStep) -> bool {
         true
     }
 
-    fn did(&self, _who: WorkerId, event: WorkerEvent) {
+    fn did(&self, _who: u64, event: WorkerEvent) {
         match event {
             WorkerEvent::Answered(_) => self.add(&self.answered, 1),
             WorkerEvent::SegmentComplete => self.add(&self.complete, 1),

@@ -1,5 +1,5 @@
 // Gates that record what they are asked and hear, that end a worker, and that keep one until others run beside it.
-use sq_driver::{Gate, NodeStep, WorkerEvent, WorkerId};
+use sq_driver::{Gate, NodeStep, WorkerEvent};
 use sq_live::Watch;
 use std::alloc::Global;
 use std::sync::Wait;
@@ -19,31 +19,22 @@ fn digit(step: NodeStep) -> u64 {
         NodeStep::Complete => 7,
         NodeStep::Resume => 8,
         NodeStep::Pump => 9,
+        NodeStep::Answered => 10,
     }
 }
 
-// The digit of a receipt, and of a segment that is complete.
-const RECEIPT: u64 = 10;
-
+// The digit of a segment that is complete.
 const SEGMENT: u64 = 11;
 
-/// The number of the first pump among the workers. The number of a partition's node is the partition's.
-pub const FIRST_PUMP: u64 = 1_000;
-
-// The number of a worker.
-fn number(who: WorkerId) -> u64 {
-    match who {
-        WorkerId::Node(part) => u64::from(part),
-        WorkerId::Pump(number) => FIRST_PUMP + u64::from(number),
-    }
-}
+/// The number of the first pump of a run of two partitions.
+pub const FIRST_PUMP: u64 = 2;
 
 /// At what a recorder ends its worker.
 #[derive(Clone, Copy, PartialEq, Eq)]
 pub enum RecorderEnd {
-    /// Where it asks for this step.
+    /// Each time that it asks for this step.
     Asked(NodeStep),
-    /// Once it has written a receipt.
+    /// Once it has written a receipt. Only the first answer is refused.
     Answered,
 }
 
@@ -54,17 +45,17 @@ pub struct Recorder {
     who: AtomicU64,
     heard: AtomicU64,
     end: Option<RecorderEnd>,
-    ended: AtomicBool,
+    answered: AtomicBool,
 }
 
 impl Recorder {
-    /// It ends the worker there, if it is to.
+    /// It ends the worker at `end`.
     pub fn new(end: Option<RecorderEnd>) -> Recorder {
         Recorder {
             who: AtomicU64::new(99),
             heard: AtomicU64::new(0),
             end,
-            ended: AtomicBool::new(false),
+            answered: AtomicBool::new(false),
         }
     }
 
@@ -76,32 +67,28 @@ impl Recorder {
         )
     }
 
-    fn hear(&self, who: WorkerId, digit: u64) {
-        self.who.store(number(who), Ordering::SeqCst);
+    fn hear(&self, who: u64, digit: u64) {
+        self.who.store(who, Ordering::SeqCst);
         let heard = self.heard.load(Ordering::SeqCst);
         self.heard.store(heard << 4 | digit, Ordering::SeqCst);
     }
 }
 
 impl Gate for Recorder {
-    fn pass(&self, who: WorkerId, step: NodeStep) -> bool {
-        if self.ended.load(Ordering::SeqCst) {
-            return false;
-        }
+    fn pass(&self, who: u64, step: NodeStep) -> bool {
         self.hear(who, digit(step));
-        self.end != Some(RecorderEnd::Asked(step))
+        match self.end {
+            Some(RecorderEnd::Asked(end)) => step != end,
+            Some(RecorderEnd::Answered) if step == NodeStep::Answered => {
+                self.answered.swap(true, Ordering::SeqCst)
+            }
+            Some(RecorderEnd::Answered) | None => true,
+        }
     }
 
-    fn did(&self, who: WorkerId, event: WorkerEvent) {
-        match event {
-            WorkerEvent::Answered(_) => {
-                self.hear(who, RECEIPT);
-                if self.end == Some(RecorderEnd::Answered) {
-                    self.ended.store(true, Ordering::SeqCst);
-                }
-            }
-            WorkerEvent::SegmentComplete => self.hear(who, SEGMENT),
-            WorkerEvent::Loaded { .. } | WorkerEvent::Waits { .. } | WorkerEvent::Made(_) => {}
+    fn did(&self, who: u64, event: WorkerEvent) {
+        if event == WorkerEvent::SegmentComplete {
+            self.hear(who, SEGMENT);
         }
     }
 }
@@ -111,7 +98,6 @@ impl Watch for Recorder {}
 /// Keeps each worker at its first step until all have come there. One that waits too long has missed the others.
 #[derive(Drop)]
 pub struct Meeting {
-    nodes: u64,
     came: Vec<AtomicBool>,
     count: AtomicU64,
     missed: AtomicU64,
@@ -122,13 +108,11 @@ const LOOKS: u32 = 20_000_000;
 impl Meeting {
     /// Gates of this many nodes and pumps.
     pub fn new(alloc: Global, nodes: u8, pumps: u8) -> Result<Meeting, Fail> {
-        let nodes = u64::from(nodes);
         let mut came = Vec::new(alloc);
-        for _worker in 0..nodes + u64::from(pumps) {
+        for _worker in 0..u64::from(nodes) + u64::from(pumps) {
             came.push(AtomicBool::new(false))?;
         }
         Ok(Meeting {
-            nodes,
             came,
             count: AtomicU64::new(0),
             missed: AtomicU64::new(0),
@@ -143,12 +127,8 @@ impl Meeting {
 }
 
 impl Gate for Meeting {
-    fn pass(&self, who: WorkerId, _step: NodeStep) -> bool {
-        let place = match who {
-            WorkerId::Node(part) => u64::from(part),
-            WorkerId::Pump(number) => self.nodes.saturating_add(u64::from(number)),
-        };
-        let Some(came) = self.came.get(place as usize) else {
+    fn pass(&self, who: u64, _step: NodeStep) -> bool {
+        let Some(came) = self.came.get(who as usize) else {
             return false;
         };
         if !came.swap(true, Ordering::SeqCst) {
@@ -170,14 +150,14 @@ impl Watch for Meeting {}
 /// Keeps one partition at its first job until another has answered one.
 #[derive(Drop)]
 pub struct After {
-    kept: u8,
-    other: u8,
+    kept: u64,
+    other: u64,
     answered: AtomicBool,
 }
 
 impl After {
-    /// Keeps the first of these partitions until the second has answered one.
-    pub fn new(kept: u8, other: u8) -> After {
+    /// Keeps partition `kept` until `other` has answered one.
+    pub fn new(kept: u64, other: u64) -> After {
         After {
             kept,
             other,
@@ -187,8 +167,11 @@ impl After {
 }
 
 impl Gate for After {
-    fn pass(&self, who: WorkerId, step: NodeStep) -> bool {
-        if who != WorkerId::Node(self.kept) || step != NodeStep::Job {
+    fn pass(&self, who: u64, step: NodeStep) -> bool {
+        if who == self.other && step == NodeStep::Answered {
+            self.answered.store(true, Ordering::SeqCst);
+        }
+        if who != self.kept || step != NodeStep::Job {
             return true;
         }
         for _look in 0..200_000_000 {
@@ -197,12 +180,6 @@ impl Gate for After {
             }
         }
         false
-    }
-
-    fn did(&self, who: WorkerId, event: WorkerEvent) {
-        if who == WorkerId::Node(self.other) && matches!(event, WorkerEvent::Answered(_)) {
-            self.answered.store(true, Ordering::SeqCst);
-        }
     }
 }
 
@@ -226,11 +203,11 @@ impl Enough {
 }
 
 impl Gate for Enough {
-    fn pass(&self, _who: WorkerId, _step: NodeStep) -> bool {
+    fn pass(&self, _who: u64, _step: NodeStep) -> bool {
         self.complete.load(Ordering::SeqCst) < self.segments
     }
 
-    fn did(&self, _who: WorkerId, event: WorkerEvent) {
+    fn did(&self, _who: u64, event: WorkerEvent) {
         if event == WorkerEvent::SegmentComplete {
             self.complete.fetch_add(1, Ordering::SeqCst);
         }
@@ -288,14 +265,14 @@ impl Counter {
 }
 
 impl Gate for Counter {
-    fn pass(&self, _who: WorkerId, _step: NodeStep) -> bool {
+    fn pass(&self, _who: u64, _step: NodeStep) -> bool {
         if !self.runs.load(Ordering::SeqCst) {
             self.asked_beside.store(true, Ordering::SeqCst);
         }
         true
     }
 
-    fn did(&self, _who: WorkerId, event: WorkerEvent) {
+    fn did(&self, _who: u64, event: WorkerEvent) {
         match event {
             WorkerEvent::Answered(_) => {
                 self.answered.fetch_add(1, Ordering::SeqCst);
@@ -344,11 +321,11 @@ impl Lasting {
 }
 
 impl Gate for Lasting {
-    fn pass(&self, _who: WorkerId, _step: NodeStep) -> bool {
+    fn pass(&self, _who: u64, _step: NodeStep) -> bool {
         self.rested() < self.turns
     }
 
-    fn rests<R: Wait>(&self, _rt: &R, _who: WorkerId, turns: u64) {
+    fn rests<R: Wait>(&self, _rt: &R, _who: u64, turns: u64) {
         self.rested.store(turns, Ordering::SeqCst);
     }
 

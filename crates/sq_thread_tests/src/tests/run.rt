@@ -229,7 +229,7 @@ impl TestRun {
     }
 
     /// Runs all workers, and says how they ended.
-    pub fn work<R: Threads + Wait + Sync, G: Gate + Sync>(
+    pub fn work<R: Threads + Wait + Sync, G: Gate>(
         &mut self,
         rt: &R,
         turns: u64,

@@ -11,8 +11,8 @@ made g c =
     telling_step g.T.Teller.Tells c.args.fabric.now c.args.step c.args.node.now c.args.teller.now c.step_and_tell.result
     c.step_and_tell.new.node c.step_and_tell.new.teller c.requires c.step_and_tell.ensures.made c.step_and_tell.ensures.told
 
-pub returns-then-not-pass : goal.returns-then-not-pass
-returns-then-not-pass g c = telling_no_turn g.T.Teller.Tells c.args.fabric.now c.args.node.now c.args.teller.now c.requires
+pub returns-then-not-lets_pass : goal.returns-then-not-lets_pass
+returns-then-not-lets_pass g c = telling_no_turn g.T.Teller.Tells c.args.fabric.now c.args.node.now c.args.teller.now c.requires
 
 pub returns-in-Did : goal.returns-in-Did
 returns-in-Did g c = made g (goal.at.returns-in-Did g c).After-step_and_tell
