@@ -1,6 +1,6 @@
 // An engine that lasts.
 ghost use Rattle.std.specs.Prelude.{◌≡◌, ◌≤◌, ◌↔◌, ◌∷◌, [], ◌++◌, true, IsTrue, IsSome};
-ghost use Rattle.std.specs.Prelude.{option_copied, IfOk, IfErr, OnOk, OnErr, IsErrOf, MatchResult};
+ghost use Rattle.std.specs.Prelude.{option_copied, IfNone, IfOk, IfErr, OnOk, OnErr, IsErrOf, MatchResult};
 ghost use Rattle.std.specs.List.{list_any};
 ghost use Rattle.sq_pull.specs.declared.numbers.TheConstants.{MAX_PUMPS};
 ghost use Rattle.sq_ranges.specs.Prelude.{IsSetUp};
@@ -21,7 +21,7 @@ use crate::pause::NotTaken;
 use crate::rest_page::RestPage;
 use crate::serving::Served;
 use crate::standing::{Standing, begin_due, done_pause_of, go_on, move_from, pause_of, resume};
-use sq_driver::Gate;
+use sq_driver::{Gate, WorkersEnd};
 use sq_epoch::{Client, PostFault, StageProgress, any_shows_long_log};
 use sq_page::Page;
 use sq_plan::{PartId, Plan};
@@ -87,7 +87,9 @@ pub struct EngineServed {
     pub is_whole: bool,
     /// Whether the epoch ended since no thread could be had for a node, as in [`Served`].
     pub lacks_threads: bool,
-    /// Whether it ended since a worker lacked memory for some seconds, as in [`Served`].
+    /// How its workers ended, as in [`Served`].
+    pub end: WorkersEnd,
+    /// Whether they ended since one of them lacked memory for some seconds, and could do nothing meanwhile.
     pub lacks_memory: bool,
     /// How far its stage was as the epoch ended, by the reports of the workers.
     pub progress: StageProgress,
@@ -197,24 +199,28 @@ impl Engine {
 
     /// Runs the workers of the epoch, as [`Epoch::run`] does, and then continues where it can: once each segment of the
     /// stage is complete to the next stage, and after the last one to rest. Workers that continue where they are idle
-    /// end then too. Where there is no memory to continue it waits, and the next call tries it first.
-    pub fn run_epoch<R: Threads + Wait + Sync, G: Gate + Sync>(
+    /// end then too. Where there is no memory to continue it waits, and the next call tries it first. Returns how the workers
+    /// ended; `None` if there was no memory to begin the epoch.
+    pub fn run_epoch<R: Threads + Wait + Sync, G: Gate>(
         self,
         rt: &R,
         alloc: Global,
         turns: u64,
         gate: &G,
-    ) -> Engine
-        ensures goes { KeepsHistoryAndJobs self result }
-        ensures plan { KeepsPlan self result }
+    ) -> (Engine, Option<WorkersEnd>)
+        ensures goes { KeepsHistoryAndJobs self result.0 }
+        ensures plan { KeepsPlan self result.0 }
+        ensures not_run { IfNone result.1 (IsSome (stores_in result.0)) }
+        ensures none_written { IfNone result.1 (KeepsReceipts self result.0) }
     {
         let Engine { standing, pumps } = self;
         match resume(alloc, standing, pumps) {
             Standing::Running(epoch) => {
-                let standing = end_stage(rt, alloc, epoch.run(rt, turns, gate), pumps);
-                Engine { standing, pumps }
+                let (epoch, end) = epoch.run(rt, turns, gate);
+                let standing = end_stage(rt, alloc, epoch, pumps);
+                (Engine { standing, pumps }, Some(end))
             }
-            standing => Engine { standing, pumps },
+            standing => (Engine { standing, pumps }, None),
         }
     }
 
@@ -240,6 +246,8 @@ impl Engine {
         ensures not_served { IfErr result (KeepsHistoryAndJobs self) }
         ensures none_written { IfErr result (KeepsReceipts self) }
         ensures not_called { OnErr result (client.new ≡ client.old) }
+        ensures memory { IfOk result (λ served.
+            IsTrue served.lacks_memory ↔ (served.end ≡ WorkersEnd.LacksMemory)) }
         ensures progress { IfOk result (λ served.
             served.progress.complete ≤ served.progress.segments) }
     {
@@ -251,7 +259,7 @@ impl Engine {
                         epoch,
                         is_whole,
                         lacks_threads,
-                        lacks_memory,
+                        end,
                     },
                 ) => {
                     let progress = epoch.progress();
@@ -260,7 +268,8 @@ impl Engine {
                         engine: Engine { standing, pumps },
                         is_whole,
                         lacks_threads,
-                        lacks_memory,
+                        end,
+                        lacks_memory: end == WorkersEnd::LacksMemory,
                         progress,
                     })
                 }

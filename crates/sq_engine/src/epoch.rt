@@ -13,7 +13,7 @@ ghost use Rattle.sq_engine.specs.History.{Episode, RunsAfter, EndsEpochAfter, On
 
 use crate::pause::Pause;
 use sq_audit::Job;
-use sq_driver::{Gate, run_workers};
+use sq_driver::{Gate, WorkersEnd, run_workers};
 use sq_epoch::{
     CountingGate, PostFault, PostedJobs, StageProgress, any_node_shows_long_log,
     any_shows_long_log, post_job, progress_at_start, stage_segments,
@@ -139,19 +139,19 @@ impl Epoch {
     }
 
     /// Runs the workers: each partition and each pump in a thread of its own, for this many turns at most. All of them
-    /// have ended when it returns. A node ends before where it is idle, and each worker where the gate says so. Where
-    /// nodes that are idle continue by the gate, they end once each segment that moves in the stage is complete. All
-    /// end too where one of them has no work for some seconds while no thread can be had for another, and where one lacks
+    /// have ended when it returns, and it returns how. A node ends before if it is idle, and each worker if the gate says so.
+    /// If nodes that are idle continue by the gate, they end once each segment that moves in the stage is complete. All
+    /// end too if one of them has no work for some seconds while no thread can be had for another, and if one lacks
     /// memory for as long. Jobs may be posted after that, and the workers run again.
-    pub fn run<R: Threads + Wait + Sync, G: Gate + Sync>(
+    pub fn run<R: Threads + Wait + Sync, G: Gate>(
         self,
         rt: &R,
         turns: u64,
         gate: &G,
-    ) -> Epoch
-        ensures driven { OnlyDriven self result }
+    ) -> (Epoch, WorkersEnd)
+        ensures driven { OnlyDriven self result.0 }
         ensures history { (o : OpeningValue) (past : List Episode)
-            → RunsAfter o past self → RunsAfter o past result }
+            → RunsAfter o past self → RunsAfter o past result.0 }
     {
         let Epoch {
             opening,
@@ -160,7 +160,7 @@ impl Epoch {
             progress,
         } = self;
         let counting = CountingGate::new(gate, progress);
-        run_workers(
+        let end = run_workers(
             rt,
             &run.fabric,
             &mut run.nodes,
@@ -170,12 +170,13 @@ impl Epoch {
         );
         run.fabric.open_jobs(rt);
         let progress = counting.progress();
-        Epoch {
+        let epoch = Epoch {
             opening,
             jobs,
             run,
             progress,
-        }
+        };
+        (epoch, end)
     }
 
     /// Ends the epoch: what its workers left is gathered. It is placed, whatever they did. Its receipts are those since the last

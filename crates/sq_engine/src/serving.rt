@@ -5,6 +5,7 @@ ghost use Rattle.sq_engine.specs.History.{Episode, RunsAfter, OnlyDriven};
 ghost use Rattle.sq_engine.specs.Served.{EpochIsServed};
 
 use crate::epoch::Epoch;
+use sq_driver::WorkersEnd;
 use sq_epoch::{Client, make_ready, serve_with};
 use sq_node::RunParts;
 use std::alloc::Global;
@@ -21,8 +22,8 @@ pub struct Served {
     pub is_whole: bool,
     /// Whether it ended since no thread could be had for a node. Its client wasn't asked for anything then, and posted no job.
     pub lacks_threads: bool,
-    /// Whether it ended since a worker lacked memory for some seconds, and could do nothing meanwhile.
-    pub lacks_memory: bool,
+    /// How its workers ended. If no pump had a thread it is [`WorkersEnd::LacksThreads`] although each node had one.
+    pub end: WorkersEnd,
 }
 
 impl Epoch {
@@ -81,7 +82,7 @@ impl Epoch {
                     },
                     is_whole: parts.is_whole,
                     lacks_threads: parts.lacks_threads,
-                    lacks_memory: parts.lacks_memory,
+                    end: parts.end,
                 })
             }
             Err(nodes) => Err(Epoch {

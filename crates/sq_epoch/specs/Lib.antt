@@ -4,5 +4,6 @@ pub mod LongLog
 pub mod Exchanges
 pub mod Rings
 pub mod Telling
+pub mod Meeting
 pub mod Crew
 pub mod Serving

@@ -2,12 +2,12 @@
 ghost use Rattle.std.specs.Prelude.{◌≡◌, length};
 ghost use Rattle.sq_epoch.specs.Crew.{IsCrewOf, IsDriven};
 ghost use Rattle.sq_epoch.specs.Exchanges.{InStage};
-ghost use Rattle.sq_epoch.specs.Rings.{Serves};
+ghost use Rattle.sq_epoch.specs.Meeting.{FrontServes};
 
 use crate::client::Client;
 use crate::epoch_gate::EpochGate;
 use crate::front::Front;
-use sq_driver::{TellingNode, run_telling};
+use sq_driver::{TellingNode, WorkersEnd, run_telling};
 use sq_node::Fabric;
 use sq_pull::Pump;
 use sq_teller::RingTeller;
@@ -22,23 +22,24 @@ pub(crate) struct Crew {
 }
 
 impl Crew {
-    // Drives the workers until the epoch ends.
+    // Drives the workers until the epoch ends, and returns how they ended.
     fn run<R: Threads + Wait + Sync>(
         &mut self,
         rt: &R,
         fabric: &Fabric,
         turns: u64,
         gate: &EpochGate,
-    )
+    ) -> WorkersEnd
         requires { IsCrewOf fabric.now self.old }
         ensures { IsDriven fabric.now self.old self.new }
     {
         let end = run_telling(rt, fabric, &mut self.pairs, &mut self.pumps, turns, gate);
         gate.workers_end(end);
+        end
     }
 }
 
-/// Drives the workers in threads of their own, and serves a client in this one.
+/// Drives the workers in threads of their own, and serves a client in this one. Returns how the workers ended.
 pub(crate) fn run_and_serve<C: Client, R: Threads + Wait + Sync>(
     rt: &R,
     fabric: &Fabric,
@@ -47,15 +48,14 @@ pub(crate) fn run_and_serve<C: Client, R: Threads + Wait + Sync>(
     turns: u64,
     gate: &EpochGate,
     client: &mut C,
-)
+) -> WorkersEnd
     requires crew { IsCrewOf fabric.now crew.old }
     requires rings { length front.old.rings.items ≡ fabric.now.parts }
     ensures crew { IsDriven fabric.now crew.old crew.new }
-    ensures front { Serves (InStage gate.now.segments C.Becomes)
-        front.old.jobs front.old.rings.items client.old
-        front.new.jobs front.new.rings.items client.new front.new.lacks_threads }
+    ensures front { FrontServes (InStage gate.now.segments C.Becomes)
+        front.old client.old front.new client.new front.new.lacks_threads }
 {
-    join_mut(
+    let (end, ()) = join_mut(
         rt,
         &mut ||
             requires { IsCrewOf fabric.now crew.now }
@@ -63,10 +63,10 @@ pub(crate) fn run_and_serve<C: Client, R: Threads + Wait + Sync>(
         { crew.run(rt, fabric, turns, gate) },
         &mut ||
             requires { length front.now.rings.items ≡ fabric.now.parts }
-            ensures { Serves (InStage gate.entry.now.segments C.Becomes)
-                front.entry.now.jobs front.entry.now.rings.items client.entry.now
-                front.exit.now.jobs front.exit.now.rings.items client.exit.now
+            ensures { FrontServes (InStage gate.entry.now.segments C.Becomes)
+                front.entry.now client.entry.now front.exit.now client.exit.now
                 front.exit.now.lacks_threads }
         { front.serve(rt, fabric, gate, client) },
     );
+    end
 }

@@ -1,7 +1,7 @@
 // Where an epoch and its client meet.
 ghost use Rattle.std.specs.Prelude.{◌≡◌, true, false, length};
-ghost use Rattle.sq_epoch.specs.Rings.{Serves};
 ghost use Rattle.sq_epoch.specs.Exchanges.{InStage, IsOffered, DoesWish};
+ghost use Rattle.sq_epoch.specs.Meeting.{FrontServes};
 
 use crate::client::{Client, Command};
 use crate::epoch_gate::EpochGate;
@@ -61,9 +61,8 @@ impl Front {
         client: &mut C,
     )
         requires { length self.old.rings.items ≡ fabric.now.parts }
-        ensures { Serves (InStage gate.now.segments C.Becomes)
-            self.old.jobs self.old.rings.items client.old
-            self.new.jobs self.new.rings.items client.new self.new.lacks_threads }
+        ensures { FrontServes (InStage gate.now.segments C.Becomes)
+            self.old client.old self.new client.new self.new.lacks_threads }
     {
         if self.meets_nodes(rt, fabric, gate, client) {
             self.take_turns(rt, fabric, gate, client);
@@ -85,9 +84,8 @@ impl Front {
         client: &mut C,
     ) -> bool
         requires { length self.old.rings.items ≡ fabric.now.parts }
-        ensures { Serves (InStage gate.now.segments C.Becomes)
-            self.old.jobs self.old.rings.items client.old
-            self.new.jobs self.new.rings.items client.new true }
+        ensures { FrontServes (InStage gate.now.segments C.Becomes)
+            self.old client.old self.new client.new true }
     {
         for turn in 0..TURNS_ALONE {
             if gate.have_all_come() {
@@ -112,9 +110,8 @@ impl Front {
         client: &mut C,
     )
         requires { length self.old.rings.items ≡ fabric.now.parts }
-        ensures { Serves (InStage gate.now.segments C.Becomes)
-            self.old.jobs self.old.rings.items client.old
-            self.new.jobs self.new.rings.items client.new true }
+        ensures { FrontServes (InStage gate.now.segments C.Becomes)
+            self.old client.old self.new client.new true }
     {
         let mut tries = 0u64;
         for _ in rt.forever() {
@@ -137,9 +134,8 @@ impl Front {
         client: &mut C,
     )
         requires { length self.old.rings.items ≡ fabric.now.parts }
-        ensures { Serves (InStage gate.now.segments C.Becomes)
-            self.old.jobs self.old.rings.items client.old
-            self.new.jobs self.new.rings.items client.new false }
+        ensures { FrontServes (InStage gate.now.segments C.Becomes)
+            self.old client.old self.new client.new false }
     {
         let mut tries = 0u64;
         for _ in rt.forever() {
@@ -179,9 +175,8 @@ impl Front {
         client: &mut C,
     ) -> Arrivals
         requires { length self.old.rings.items ≡ fabric.now.parts }
-        ensures { Serves (InStage gate.now.segments C.Becomes)
-            self.old.jobs self.old.rings.items client.old
-            self.new.jobs self.new.rings.items client.new true }
+        ensures { FrontServes (InStage gate.now.segments C.Becomes)
+            self.old client.old self.new client.new true }
     {
         let came = give_come(fabric.parts(), &mut self.rings, client);
         self.given = self.given.saturating_add(came.count);
@@ -199,9 +194,8 @@ impl Front {
         client: &mut C,
     ) -> bool
         requires { length self.old.rings.items ≡ fabric.now.parts }
-        ensures { Serves (InStage gate.now.segments C.Becomes)
-            self.old.jobs self.old.rings.items client.old
-            self.new.jobs self.new.rings.items client.new false }
+        ensures { FrontServes (InStage gate.now.segments C.Becomes)
+            self.old client.old self.new client.new false }
     {
         let told = gate.answers();
         let came = self.give_come(fabric, gate, client);

@@ -15,7 +15,7 @@ use crate::rings::give_rest;
 use crate::stage_progress::StageProgress;
 use crate::telling::{are_whole, open_rings, with_tellers, without_tellers};
 use rtrb::Consumer;
-use sq_driver::TellingNode;
+use sq_driver::{TellingNode, WorkersEnd};
 use sq_node::{Fabric, Node, Receipt};
 use sq_pull::Pump;
 use sq_teller::RingTeller;
@@ -47,8 +47,8 @@ pub struct ServedParts {
     pub is_whole: bool,
     /// Whether it ended since no thread could be had for a node.
     pub lacks_threads: bool,
-    /// Whether it ended since a worker lacked memory for long.
-    pub lacks_memory: bool,
+    /// How its workers ended.
+    pub end: WorkersEnd,
 }
 
 /// Gives the nodes of so many partitions, whose stage is so far, tellers. Where there is no memory they come back.
@@ -108,7 +108,7 @@ pub fn serve_with<C: Client, R: Threads + Wait + Sync>(
     let answered = count_receipts(fabric, &pairs);
     let mut crew = Crew { pairs, pumps };
     let mut front = Front::new(jobs, rings, answered);
-    run_and_serve(rt, fabric, &mut crew, &mut front, turns, &gate, client);
+    let end = run_and_serve(rt, fabric, &mut crew, &mut front, turns, &gate, client);
     let Crew { mut pairs, pumps } = crew;
     let Front {
         jobs,
@@ -125,7 +125,7 @@ pub fn serve_with<C: Client, R: Threads + Wait + Sync>(
         progress: gate.progress(),
         is_whole,
         lacks_threads,
-        lacks_memory: gate.workers_lack_memory(),
+        end,
     }
 }
 

@@ -56,10 +56,10 @@ pub settles_one : (parts : ℕ) (moving : Option MoveProgress) (fed : Fed) (line
 settles_one parts moving fed lines kept is =
     (lines, kept, [], [], is, (refl, refl), sym (append-nil lines), sym (append-nil kept))
 
--- what is handled after something else by which no job was offered
-pub handles_then : (more more' : List Fed) (back offered : List Job) (a b c : ServeDeskValue)
-    → Handles more back a [] b → Handles more' [] b offered c → Handles (more ++ more') back a offered c
-handles_then more more' back offered a b c one two =
+-- what is handled after something else, with the jobs back that this offered
+handles_through : (more more' : List Fed) (back mid offered : List Job) (a b c : ServeDeskValue)
+    → Handles more back a mid b → Handles more' mid b offered c → Handles (more ++ more') back a offered c
+handles_through more more' back mid offered a b c one two =
     record {
       goes_on = λ still. one.goes_on (two.goes_on still);
       others = one.others ++ two.others;
@@ -88,17 +88,21 @@ handles_then more more' back offered a b c one two =
           ∙ two.jobs still part (subst (λ (n : ℕ). part < n) (sym one.count) within);
     }
 
--- what is heard after something else by which no job was offered
-pub hears_then : (back offered : List Job) (a b c : ServeDeskValue) → Hears back a [] b → Hears [] b offered c → Hears back a offered c
-hears_then back offered a b c first second =
+-- what is heard after something else, with the jobs back that this offered
+pub hears_through : (back mid offered : List Job) (a b c : ServeDeskValue) → Hears back a mid b → Hears mid b offered c → Hears back a offered c
+hears_through back mid offered a b c first second =
     record {
       more = first.more ++ second.more;
       heard =
           second.heard ∙ ap (λ (l : List Fed). l ++ second.more) first.heard
           ∙ append_assoc a.heard first.more second.more;
       handles =
-          handles_then first.more second.more back offered a b c first.handles second.handles;
+          handles_through first.more second.more back mid offered a b c first.handles second.handles;
     }
+
+-- the same where no job was offered
+pub hears_then : (back offered : List Job) (a b c : ServeDeskValue) → Hears back a [] b → Hears [] b offered c → Hears back a offered c
+hears_then back offered = hears_through back [] offered
 
 -- a line is answered at once that asks for no job
 pub answers_one : (fed : Fed) (line : OtherLine) (a b : ServeDeskValue) → WritesBytes (other_line line) a b

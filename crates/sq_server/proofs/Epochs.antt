@@ -1,6 +1,5 @@
 -- What a desk writes over an epoch.
 use Rattle.std.proofs.Common.{◌≡◌, ⊎_elim, ℕ, ◌<◌, ◌≤◌, ◌==◌, Bool, true, false, if◌then◌else◌, List, [], ◌∷◌, ◌++◌, length, map, refl, sym, ap, subst, ◌∙◌, append_assoc, append-nil, arith}
-use Rattle.std.specs.Prelude.{Option}
 use Rattle.std.specs.List.{flat_map}
 use Rattle.std.specs.Io.KnownBytes.{Appends}
 use Rattle.std.proofs.lemmas.List.{map-append}
@@ -19,13 +18,12 @@ use Rattle.sq_server.specs.declared.feed.Fed.{Fed}
 use Rattle.sq_server.specs.declared.desk.AskedTxn.{AskedTxn}
 use Rattle.sq_server.specs.declared.desk.Wish.{Wish}
 use Rattle.sq_server.specs.Saying.{OtherLine, Answered, other_line}
-use Rattle.sq_server.specs.Settling.{refusal_of, SettlesEach}
+use Rattle.sq_server.specs.Settling.{refusal_of}
 use Rattle.sq_server.specs.Sides.{waiting_at}
 use Rattle.sq_epoch.specs.declared.stage_progress.StageProgress.{StageProgress}
-use Rattle.sq_server.specs.declared.desk.MoveProgress.{MoveProgress}
 use Rattle.sq_server.specs.Becoming.{ServeDeskValue, asked_by, asked_at, jobs_for, with_stage, Hears, WritesReceipt, AnswersRefusal, Stops, TakesJobBack, Becomes}
 use Rattle.sq_server.specs.Written.{SaidLine, OfReceipt, Other, said_line, receipt_at, told_from, settled_job, settled_in, as_jobs, jobs_waiting, jobs_asked, WritesEach, other_said, others_in, Settlement, settles_nothing, settled_both, AnswersReturned, SettlesHeard, SettlesReturned, SettlesExchange, SettlesAll, AnswersEach}
-use Rattle.sq_server.proofs.Desks.{false-not-true, settles_then}
+use Rattle.sq_server.proofs.Desks.{false-not-true, hears_through}
 
 -- jobs that go through two steps, one after another
 through : (held asked more first second between left all_asked all : List Job)
@@ -95,7 +93,7 @@ others_are [] = refl
 others_are (line ∷ others) = ap (λ (l : List OtherLine). line ∷ l) (others_are others)
 
 -- nothing
-pub none_written : (a : ServeDeskValue) → WritesEach [] a a
+abbrev pub none_written : (a : ServeDeskValue) → WritesEach [] a a
 none_written a =
     record {
       goes_on = λ still. still;
@@ -111,16 +109,7 @@ none_written a =
 none_answered : (a : ServeDeskValue) → AnswersEach [] a a
 none_answered a =
     record {
-      writes = record {
-        goes_on = λ still. still;
-        said = [];
-        written = λ still. appends_none a.written;
-        told = λ part. refl;
-        more = [];
-        heard = sym (append-nil a.heard);
-        count = refl;
-        jobs = λ still part within. append-nil (jobs_waiting a.waiting part);
-      };
+      writes = none_written a;
       kept = [];
       wishes = λ still. sym (append-nil a.wishes);
       settled = λ still. refl;
@@ -265,44 +254,6 @@ answers_once part receipt a b writes =
       settled = λ still. settles_once (length a.waiting) (Answers part receipt) settles_nothing refl;
     }
 
--- a job that came back waits where its queue is full
-full_once : (job : Job) (a b c : ServeDeskValue) → Hears [] a (job ∷ []) b → Hears (job ∷ []) b [] c → Hears [] a [] c
-full_once job a b c offers returns =
-    let one = offers.handles in
-    let two = returns.handles in
-    record {
-      more = offers.more ++ returns.more;
-      heard =
-          returns.heard ∙ ap (λ (l : List Fed). l ++ returns.more) offers.heard
-          ∙ append_assoc a.heard offers.more returns.more;
-      handles = record {
-        goes_on = λ still. one.goes_on (two.goes_on still);
-        others = one.others ++ two.others;
-        written = λ still.
-            both a.written b.written c.written (flat_map other_line one.others) (flat_map other_line two.others)
-            (flat_map other_line (one.others ++ two.others)) (one.written (two.goes_on still)) (two.written still)
-            (sym (flat_map-append other_line one.others two.others));
-        kept = one.kept ++ two.kept;
-        wishes = λ still.
-            two.wishes still ∙ ap (λ (l : List Wish). l ++ two.kept) (one.wishes (two.goes_on still))
-            ∙ append_assoc a.wishes one.kept two.kept;
-        settled = λ still.
-            settles_then (length a.waiting) a.moving offers.more returns.more one.others two.others one.kept two.kept
-            (one.settled (two.goes_on still))
-            (subst (λ (moving : Option MoveProgress). SettlesEach (length a.waiting) moving returns.more two.others two.kept) one.moving
-            (subst (λ (parts : ℕ). SettlesEach parts b.moving returns.more two.others two.kept) one.count (two.settled still)));
-        count = two.count ∙ one.count;
-        moving = two.moving ∙ one.moving;
-        jobs = λ still part within.
-            let asked = flat_map (asked_by part) offers.more in
-            let later = flat_map (asked_by part) returns.more in
-            ap (λ (l : List AskedTxn). waiting_at a.waiting part ++ l) (flat_map-append (asked_by part) offers.more returns.more)
-            ∙ sym (append_assoc (waiting_at a.waiting part) asked later)
-            ∙ ap (λ (l : List AskedTxn). l ++ later) (one.jobs (two.goes_on still) part within)
-            ∙ two.jobs still part (subst (λ (n : ℕ). part < n) (sym one.count) within);
-      };
-    }
-
 -- a job is of no partition that there is
 for_none : (job : Job) (parts part : ℕ) → parts ≤ job.part → part < parts → jobs_for part (job ∷ []) ≡ []
 for_none job parts part beyond within =
@@ -387,7 +338,7 @@ waits_once job progress a b c within offers returns =
       answers = (λ inside. refl, λ beyond. absurd (omega (arith, within, beyond)));
       lines = sym (append-nil all.lines);
     })
-    (full_once job (with_stage progress a) b c offers returns)
+    (hears_through [] (job ∷ []) [] (with_stage progress a) b c offers returns)
 
 refuses_once : (job : Job) (why : PostFault) (progress : StageProgress) (a b c : ServeDeskValue) → Hears [] (with_stage progress a) (job ∷ []) b
     → TakesJobBack job why b c

@@ -1,5 +1,5 @@
 -- What is written, unless a write failed.
-use Rattle.std.specs.Prelude.{◌≡◌, ◌==◌, false, ℕ, List, ◌++◌, Option, count_by}
+use Rattle.std.specs.Prelude.{◌≡◌, ◌==◌, ◌+◌, ◌<◌, ◌^◌, false, ℕ, List, ◌++◌, Option, count_by}
 use Rattle.std.specs.List.{flat_map}
 use Rattle.std.specs.Io.KnownBytes.{Appends}
 use Rattle.sq_schema.specs.Family.{FamilyValue}
@@ -22,6 +22,10 @@ lines_in text = count_by (λ byte. byte == 10) text
 -- the lines of rows, and how many these are
 abbrev pub rows_told : List ℕ → List ℕ
 rows_told lines = lines ++ serve_answer_line (Rows (lines_in lines))
+
+-- one line more was refused, unless 64 bits can't count them
+abbrev pub CountsOneMore : ℕ → ℕ → Type 0
+CountsOneMore old new = old + 1 < 2 ^ 64 → new ≡ old + 1
 
 -- what a line is that isn't what a job was answered, or what lines are that go together: those of the rows of families
 pub data OtherLine : Type 0 where

@@ -1,7 +1,7 @@
 // Between the lines that come and the epochs of an engine.
 ghost use Rattle.std.specs.Prelude.{◌≡◌, ◌⊎◌, ◌||◌, ℕ, true, false, [], ◌∷◌, ◌++◌, ◌<◌, ◌≤◌, ◌^◌};
 ghost use Rattle.std.specs.Prelude.{length, IsTrue, Ok, Err, Some, None, IfSome, IfNone, MatchOption};
-ghost use Rattle.std.specs.Prelude.{string_bytes, sum_by, if◌then◌else◌};
+ghost use Rattle.std.specs.Prelude.{string_bytes, sum_by, is_some, if◌then◌else◌, ◌==◌};
 ghost use Rattle.rtrb.specs.Ring.{received};
 ghost use Rattle.sq_text.specs.Texts.{refused_line};
 ghost use Rattle.sq_serve.specs.declared.serve_line.ServeLine.TheVariants as asks;
@@ -14,7 +14,8 @@ ghost use Rattle.sq_server.specs.Becoming.{WritesReceipt, WritesStatus, KeepsWis
 ghost use Rattle.sq_server.specs.Becoming.{AnswersRefusal, WaitsOrHasNoPartition, TakesJobBack};
 ghost use Rattle.sq_server.specs.Becoming.{Stops, with_stage, job_list, offered_by};
 ghost use Rattle.sq_server.specs.Settling.{line_wish, refusal_of, IsStatus, unanswered_jobs};
-ghost use Rattle.sq_server.specs.Saying.{rows_told};
+ghost use Rattle.sq_server.specs.Saying.{rows_told, CountsOneMore};
+ghost use Rattle.sq_server.specs.Closing.{expects_nothing, is_done, wish_of, is_page_wished};
 
 use crate::bell::Bell;
 use crate::ending::{InputOutcome, ServeEnding};
@@ -146,7 +147,7 @@ pub struct ServeDesk<W: Write + Drop> {
     pub moving: Option<MoveProgress>,
     /// The text of the plan in force.
     pub plan: String,
-    /// Why the epoch is to end, if it is, and the next one.
+    /// Why the epoch is to end, if it was asked for, and the next one. Nobody asks for the end once all is done.
     pub wish: Option<Wish>,
     pub next_wish: Option<Wish>,
     /// How far the input was taken, once no more lines are.
@@ -229,21 +230,31 @@ impl<W: Write + Drop> ServeDesk<W> {
     }
 
     /// Whether the epoch is to end.
-    pub fn has_wish(&self) -> bool {
-        self.wish.is_some()
+    pub fn has_wish(&self) -> bool
+        ensures { result ≡ is_some (wish_of self.now) }
+    {
+        self.wish.is_some() || self.is_done()
     }
 
     /// Whether a page is to be taken, or the last one.
-    pub fn wants_page(&self) -> bool {
-        matches!(&self.wish, Some(Wish::Fold | Wish::Page | Wish::Close))
+    pub fn wants_page(&self) -> bool
+        ensures { result ≡ is_page_wished (wish_of self.now) }
+    {
+        match &self.wish {
+            Some(Wish::Fold | Wish::Page | Wish::Close) => true,
+            Some(Wish::Move(_) | Wish::Rows(_)) => false,
+            None => self.is_done(),
+        }
     }
 
-    /// Takes why the epoch is to end.
+    /// Takes why the epoch is to end: to close, once all is done.
     pub fn take_wish(&mut self) -> Option<Wish>
-        ensures { TakesWish result (desk_value W.contents self.old)
+        ensures takes { TakesWish result (desk_value W.contents self.old)
             (desk_value W.contents self.new) }
+        ensures wish { result ≡ wish_of self.old }
     {
-        let wish = self.wish.take();
+        let close = self.is_done().then_some(Wish::Close);
+        let wish = self.wish.take().or(close);
         self.wish = self.next_wish.take();
         wish
     }
@@ -262,18 +273,16 @@ impl<W: Write + Drop> ServeDesk<W> {
         self.calls = self.calls.saturating_add(1);
         let is_due = self.counts.since_page >= self.config.fold_after;
         if is_due && !audit_goes_on && self.moving.is_none() {
-            self.put_own_wish(Wish::Page);
+            self.want_page();
         }
     }
 
-    // Lets the epoch end for a wish that no line has, unless it ends for something else.
-    fn put_own_wish(&mut self, wish: Wish)
-        requires { line_wish (Some wish) ≡ [] }
+    // Lets the epoch end for a page, unless it ends for something else.
+    fn want_page(&mut self)
         ensures { desk_value W.contents self.new ≡ desk_value W.contents self.old }
     {
-        match &self.wish {
-            None => self.wish = Some(wish),
-            Some(_) => drop(wish),
+        if self.wish.is_none() {
+            self.wish = Some(Wish::Page);
         }
     }
 
@@ -652,12 +661,13 @@ impl<W: Write + Drop> ServeDesk<W> {
         self.say_fault(watch, refusal);
     }
 
-    /// Answers a line with its fault, which `watch` is told.
+    /// Answers a line with its fault, which `watch` is told once.
     pub fn say_fault<V: ServeWatch>(&mut self, watch: &V, refusal: LineRefusal<'_>)
         ensures line { WritesBytes
             (serve_answer_line (Fault refusal.entry.number refusal.entry.place.line refusal.entry.id))
             (desk_value W.contents self.old) (desk_value W.contents self.new) }
         ensures speaks { Speaks (desk_value W.contents self.old) (desk_value W.contents self.new) }
+        ensures counted { CountsOneMore self.old.refused_lines self.new.refused_lines }
     {
         self.note_refusal(watch, refusal);
         self.say(ServeAnswer::Fault {
@@ -667,22 +677,25 @@ impl<W: Write + Drop> ServeDesk<W> {
         });
     }
 
-    /// Answers a line with its refusal, which `watch` is told.
+    /// Answers a line with its refusal, which `watch` is told once.
     pub fn say_refused<V: ServeWatch>(&mut self, watch: &V, refusal: LineRefusal<'_>)
         ensures line { WritesBytes (refused_line refusal.entry.number)
             (desk_value W.contents self.old) (desk_value W.contents self.new) }
         ensures speaks { Speaks (desk_value W.contents self.old) (desk_value W.contents self.new) }
+        ensures counted { CountsOneMore self.old.refused_lines self.new.refused_lines }
     {
         self.note_refusal(watch, refusal);
         self.outlet.say_refused(refusal.number);
     }
 
-    // Counts a line that is answered with a fault or a refusal, and tells it. No line is taken after it from a strict input.
+    // Counts a line that is answered with a fault or a refusal, and tells `watch`, which hears of none elsewhere. No line is
+    // taken after it from a strict input.
     fn note_refusal<V: ServeWatch>(&mut self, watch: &V, refusal: LineRefusal<'_>)
         ensures value { desk_value W.contents self.new ≡ desk_value W.contents self.old }
         ensures outlet { self.new.outlet ≡ self.old.outlet }
         ensures ends { self.new.end ≡ (if self.old.config.is_strict
             then Some (outcome_refused self.old.end) else self.old.end) }
+        ensures counted { CountsOneMore self.old.refused_lines self.new.refused_lines }
     {
         watch.refuses(refusal);
         self.refused_lines = self.refused_lines.saturating_add(1);
@@ -696,6 +709,7 @@ impl<W: Write + Drop> ServeDesk<W> {
         ensures line { WritesBytes (serve_answer_line answer) (desk_value W.contents self.old)
             (desk_value W.contents self.new) }
         ensures speaks { Speaks (desk_value W.contents self.old) (desk_value W.contents self.new) }
+        ensures counts_none { self.new.refused_lines ≡ self.old.refused_lines }
     {
         self.outlet.say(answer);
     }
@@ -753,37 +767,37 @@ impl<W: Write + Drop> ServeDesk<W> {
 
     /// How many jobs have no answer.
     pub(crate) fn unanswered(&self) -> u64
-        ensures { unanswered_jobs self.now.counts (sum_by length self.now.sides) < 2 ^ 64
+        ensures counts { unanswered_jobs self.now.counts (sum_by length self.now.sides) < 2 ^ 64
             → result ≡ unanswered_jobs self.now.counts (sum_by length self.now.sides) }
+        ensures none { (result == 0)
+            ≡ (unanswered_jobs self.now.counts (sum_by length self.now.sides) == 0) }
     {
         let waiting = self.sides.waiting() as u64;
         let running = self.counts.posted.saturating_sub(self.counts.answered);
         running.saturating_add(waiting)
     }
 
-    // Without a job to be posted: what was written goes out, queues that were full are tried again, and if the input has ended and
-    // all is answered, all is done.
+    // Without a job to be posted: what was written goes out, and queues that were full are tried again.
     fn idle(&mut self)
         ensures { WritesBytes [] (desk_value W.contents self.old) (desk_value W.contents self.new) }
     {
         self.idle_calls = self.idle_calls.saturating_add(1);
         self.outlet.flush();
         self.sides.try_again();
-        self.close_if_done();
     }
 
-    // Once the input has ended and all is answered, all is done.
-    fn close_if_done(&mut self)
-        ensures { desk_value W.contents self.new ≡ desk_value W.contents self.old }
+    /// Whether all is done: the input has ended, no rows move, and no answer is expected.
+    pub fn is_done(&self) -> bool
+        ensures { result ≡ is_done self.now }
     {
-        if self.end.is_some() && self.moving.is_none() && self.expects_nothing() {
-            self.put_own_wish(Wish::Close);
-        }
+        self.end.is_some() && self.moving.is_none() && self.expects_nothing()
     }
 
-    // Whether no answer is expected: each job has one; or none waits to be posted, and none was answered for so long that those
-    // that are open are lost. The audit of the last page finds these.
-    fn expects_nothing(&self) -> bool {
+    // Whether each job has its answer; or none waits to be posted, and none was answered for so long that those that are open are
+    // lost. The audit of the last page finds these.
+    fn expects_nothing(&self) -> bool
+        ensures { result ≡ expects_nothing self.now }
+    {
         self.unanswered() == 0 || (self.sides.waiting() == 0 && self.idle_calls >= LOST_CALLS)
     }
 

@@ -39,7 +39,7 @@ pub(crate) fn make_call<R: Threads + Wait + Sync>(
     match call {
         EngineCall::GoTo(choice) => go_to(rt, alloc, engine, choice),
         EngineCall::Post(count) => post(rt, engine, client, count),
-        EngineCall::Run(turns) => Ok(engine.run_epoch(rt, alloc, turns, &OpenGate)),
+        EngineCall::Run(turns) => Ok(engine.run_epoch(rt, alloc, turns, &OpenGate).0),
         EngineCall::Serve => serve(rt, alloc, engine, client),
         EngineCall::TakePage => take_page(rt, alloc, engine, client),
     }

@@ -18,7 +18,10 @@ use std::test::Fail;
 // How often a desk is called within the seconds in which a job may still be answered, and in how many calls it is lost at last.
 const CALLS_TOO_FEW: u64 = 50_000;
 
-const CALLS_ENOUGH: u64 = 200_000;
+const CALLS_ENOUGH: u64 = 90_000;
+
+// A line that asks for a job.
+const JOB: &str = "txn 1 41 7 get 0 0";
 
 // Who counts the lines that are refused.
 #[derive(Drop)]
@@ -40,167 +43,270 @@ impl ServeWatch for Counter {
     }
 }
 
-fn none_refused() -> Counter {
-    Counter {
-        refused: Cell::new(0),
-    }
-}
+type Desk = ServeDesk<Vec<u8>>;
 
 // A desk of two partitions, and where lines are handed on to it.
 #[derive(Drop)]
 struct Served {
     feed: Producer<Fed>,
-    desk: ServeDesk<Vec<u8>>,
+    desk: Desk,
+}
+
+// What is done with a desk. It writes into the same text what is noted of it.
+#[derive(Clone, Copy)]
+enum Act {
+    // The line with this number is handed on.
+    Line(u64, &'static str),
+    // The input ends.
+    End,
+    // The desk is asked what it wants, and `job ID` or `rest` is noted.
+    Ask,
+    // It is asked, and a job that it offers comes back for this.
+    Return(PostFault),
+    // It is called so many times.
+    Calls(u64),
+    // It is called so many times, and each job that it offers comes back since its queue is full.
+    Retries(u64),
+    // Rows begin to move, so many segments of them.
+    Move(u64),
+    // It is told of a stage in which so many segments move.
+    Stage(u64),
+    // It is noted how far it is.
+    State,
 }
 
 fn desk_at(alloc: Global, is_strict: bool) -> Result<Served, Fail> {
+    let bell = Arc::new(alloc, Bell::new())?;
+    let plan = String::from_str(alloc, "{}")?;
+    let sides = SideQueues::new(alloc, 2)?;
     let (feed, lines) = RingBuffer::new(alloc, 8)?;
-    let desk = ServeDesk::new(
-        lines,
-        Arc::new(alloc, Bell::new())?,
-        Outlet::new(Vec::new(alloc)),
-        SideQueues::new(alloc, 2)?,
-        String::from_str(alloc, "{}")?,
-        DeskConfig {
-            fold_after: u64::MAX,
-            is_strict,
-        },
-    );
+    let config = DeskConfig {
+        fold_after: u64::MAX,
+        is_strict,
+    };
+    let outlet = Outlet::new(Vec::new(alloc));
+    let desk = ServeDesk::new(lines, bell, outlet, sides, plan, config);
     Ok(Served { feed, desk })
 }
 
-fn place(line: u64) -> LinePlace {
-    LinePlace {
-        source: LineSource::Input,
-        line,
+// What a line asks, as it is handed on.
+fn fed_line(alloc: Global, line: u64, text: &str) -> Result<Fed, Fail> {
+    let schema = Schema::new(MAX_TABLES).ok_or("no schema")?;
+    let text = text.as_bytes();
+    let asks = read_serve_line(alloc, &schema, text);
+    Ok(Fed::Line {
+        place: LinePlace {
+            source: LineSource::Input,
+            line,
+        },
+        asks: asks.map_err(|fault| FaultyLine::new(alloc, fault, text)),
+    })
+}
+
+fn hand(feed: &mut Producer<Fed>, fed: Fed) -> Result<(), Fail> {
+    feed.push(fed).ok().ok_or("the feed is full")?;
+    Ok(())
+}
+
+fn id_of(job: Job) -> u64 {
+    job.txn.id()
+}
+
+// The id of the job that is offered next, which is lost.
+fn offered(desk: &mut Desk, watch: &Counter) -> Option<u64> {
+    match desk.next_command(watch) {
+        Command::Post(job) => Some(id_of(job)),
+        Command::Rest | Command::End => None,
     }
 }
 
-impl Served {
-    fn hand(&mut self, fed: Fed) -> Result<(), Fail> {
-        self.feed.push(fed).ok().ok_or("the feed is full")?;
-        Ok(())
-    }
-
-    // Hands on what a line asks.
-    fn hand_line(&mut self, alloc: Global, number: u64, line: &[u8]) -> Result<(), Fail> {
-        let schema = Schema::new(MAX_TABLES).ok_or("no schema")?;
-        let asks = read_serve_line(alloc, &schema, line);
-        self.hand(Fed::Line {
-            place: place(number),
-            asks: asks.map_err(|fault| FaultyLine::new(alloc, fault, line)),
-        })
-    }
-
-    // The job that is offered next.
-    fn job(&mut self, watch: &Counter) -> Result<Job, Fail> {
-        let offered = match self.desk.next_command(watch) {
-            Command::Post(job) => Some(job),
-            Command::Rest | Command::End => None,
-        };
-        Ok(offered.ok_or("no job is offered")?)
-    }
-
-    // Whether nothing is offered next.
-    fn rests(&mut self, watch: &Counter) -> bool {
-        match self.desk.next_command(watch) {
-            Command::Rest => true,
-            Command::Post(job) => {
-                drop(job);
-                false
-            }
-            Command::End => false,
-        }
-    }
-
-    fn written(&self) -> &[u8] {
-        &self.desk.outlet.writer
+// Asks for a job, which comes back for this.
+fn return_next(desk: &mut Desk, watch: &Counter, fault: PostFault) {
+    if let Command::Post(job) = desk.next_command(watch) {
+        desk.take_back(job, fault, watch);
     }
 }
 
-// Calls a desk so many times, and says whether it wants its epoch to end.
-fn is_closed_after(served: &mut Served, watch: &Counter, calls: u64) -> bool {
+fn call_often(desk: &mut Desk, watch: &Counter, calls: u64) {
     for _call in 0..calls {
-        served.desk.begin_call(false);
-        served.rests(watch);
+        desk.begin_call(false);
+        offered(desk, watch);
     }
-    served.desk.has_wish()
+}
+
+fn retry_often(desk: &mut Desk, watch: &Counter, calls: u64) {
+    for _call in 0..calls {
+        desk.begin_call(false);
+        return_next(desk, watch, PostFault::QueueFull);
+    }
+}
+
+// Adds a line to what a desk wrote.
+fn note(desk: &mut Desk, line: &str) -> Result<(), Fail> {
+    desk.outlet.writer.extend_from_slice(line.as_bytes())?;
+    desk.outlet.writer.push(b'\n')?;
+    Ok(())
+}
+
+fn note_offered(alloc: Global, desk: &mut Desk, offered: Option<u64>) -> Result<(), Fail> {
+    match offered {
+        Some(id) => {
+            let line = format!(in alloc; "job {id}")?;
+            note(desk, line.as_str())
+        }
+        None => note(desk, "rest"),
+    }
+}
+
+fn input_of(desk: &Desk) -> &'static str {
+    match desk.end {
+        None => "open",
+        Some(InputOutcome::Whole) => "whole",
+        Some(InputOutcome::Broken) => "broken",
+        Some(InputOutcome::Refused) => "refused",
+    }
+}
+
+fn note_state(alloc: Global, desk: &mut Desk, watch: &Counter) -> Result<(), Fail> {
+    let told = watch.refused.get();
+    let refused = desk.refused_lines;
+    let input = input_of(desk);
+    let next = if desk.has_wish() { "ends" } else { "stays" };
+    let line = format!(in alloc; "{refused} refused, {told} told, {input}, {next}")?;
+    note(desk, line.as_str())
+}
+
+fn moved(segments: u64) -> MoveProgress {
+    MoveProgress {
+        segments,
+        stage: StageProgress::at_start(segments),
+    }
+}
+
+fn perform(alloc: Global, served: &mut Served, watch: &Counter, act: Act) -> Result<(), Fail> {
+    let desk = &mut served.desk;
+    match act {
+        Act::Line(line, text) => hand(&mut served.feed, fed_line(alloc, line, text)?)?,
+        Act::End => hand(&mut served.feed, Fed::End(InputEnd::Whole))?,
+        Act::Ask => {
+            let offered = offered(desk, watch);
+            note_offered(alloc, desk, offered)?;
+        }
+        Act::Return(fault) => return_next(desk, watch, fault),
+        Act::Calls(calls) => call_often(desk, watch, calls),
+        Act::Retries(calls) => retry_often(desk, watch, calls),
+        Act::Move(segments) => desk.moving = Some(moved(segments)),
+        Act::Stage(segments) => desk.note_stage(StageProgress::at_start(segments)),
+        Act::State => note_state(alloc, desk, watch)?,
+    }
+    Ok(())
+}
+
+fn perform_all(
+    alloc: Global,
+    served: &mut Served,
+    watch: &Counter,
+    acts: &[Act],
+) -> Result<(), Fail> {
+    for act in acts {
+        perform(alloc, served, watch, *act)?;
+    }
+    Ok(())
+}
+
+fn text_of(served: Served) -> Vec<u8> {
+    let Served { feed, desk } = served;
+    drop(feed);
+    desk.into_outlet().writer
+}
+
+// What a desk writes, with what is noted of it.
+fn answers(alloc: Global, is_strict: bool, acts: &[Act]) -> Result<Vec<u8>, Fail> {
+    let watch = Counter {
+        refused: Cell::new(0),
+    };
+    let mut served = desk_at(alloc, is_strict)?;
+    let done = perform_all(alloc, &mut served, &watch, acts);
+    let text = text_of(served);
+    done?;
+    Ok(text)
 }
 
 #[test]
 fn a_lost_job_ends_the_engine(rt: HostRuntime) -> Result<(), Fail> {
-    let watch = none_refused();
-    let mut served = desk_at(rt.alloc(), false)?;
-    served.hand_line(rt.alloc(), 5, b"txn 1 41 7 get 0 0")?;
-    served.hand(Fed::End(InputEnd::Whole))?;
-    drop(served.job(&watch)?);
-    assert!(rt; !is_closed_after(&mut served, &watch, CALLS_TOO_FEW));
-    assert!(rt; is_closed_after(&mut served, &watch, CALLS_ENOUGH));
+    let acts = [
+        Act::Line(5, JOB),
+        Act::End,
+        Act::Ask,
+        Act::Calls(CALLS_TOO_FEW),
+        Act::State,
+        Act::Calls(CALLS_ENOUGH),
+        Act::State,
+    ];
+    let text = answers(rt.alloc(), false, &acts)?;
+    let want = b"job 41\n0 refused, 0 told, whole, stays\n0 refused, 0 told, whole, ends\n";
+    assert!(rt; text.as_slice() == want.as_slice());
     Ok(())
 }
 
 #[test]
 fn a_job_that_waits_is_not_lost(rt: HostRuntime) -> Result<(), Fail> {
-    let watch = none_refused();
-    let mut served = desk_at(rt.alloc(), false)?;
-    served.hand_line(rt.alloc(), 5, b"txn 1 41 7 get 0 0")?;
-    served.hand(Fed::End(InputEnd::Whole))?;
-    for _call in 0..CALLS_ENOUGH {
-        served.desk.begin_call(false);
-        if let Command::Post(job) = served.desk.next_command(&watch) {
-            served.desk.take_back(job, PostFault::QueueFull, &watch);
-        }
-    }
-    assert!(rt; !served.desk.has_wish());
+    let acts = [
+        Act::Line(5, JOB),
+        Act::End,
+        Act::Retries(CALLS_ENOUGH),
+        Act::State,
+    ];
+    let text = answers(rt.alloc(), false, &acts)?;
+    let want = b"0 refused, 0 told, whole, stays\n";
+    assert!(rt; text.as_slice() == want.as_slice());
     Ok(())
 }
 
 #[test]
 fn a_refused_job_has_one_line_with_its_id(rt: HostRuntime) -> Result<(), Fail> {
-    let watch = none_refused();
-    let mut served = desk_at(rt.alloc(), false)?;
-    served.hand_line(rt.alloc(), 5, b"txn 1 41 7 get 0 0")?;
-    served.hand_line(rt.alloc(), 6, b"txn 2 42 7 get 0 0")?;
-    let job = served.job(&watch)?;
-    served.desk.take_back(job, PostFault::RepeatedId, &watch);
-    assert!(rt; served.written() == b"fault 127 5 id 41\n".as_slice());
-    assert!(rt; served.rests(&watch));
-    assert!(rt; served.written() == b"fault 127 5 id 41\nfault 219 6 id 42\n".as_slice());
-    assert!(rt; served.desk.refused_lines == 2 && watch.refused.get() == 2);
+    let acts = [
+        Act::Line(5, JOB),
+        Act::Line(6, "txn 2 42 7 get 0 0"),
+        Act::Return(PostFault::RepeatedId),
+        Act::State,
+        Act::Ask,
+        Act::State,
+    ];
+    let text = answers(rt.alloc(), false, &acts)?;
+    let want =
+        b"fault 127 5 id 41\n1 refused, 1 told, open, stays\nfault 219 6 id 42\nrest\n2 refused, 2 told, open, stays\n";
+    assert!(rt; text.as_slice() == want.as_slice());
     Ok(())
 }
 
 #[test]
 fn a_strict_input_ends_with_its_first_fault(rt: HostRuntime) -> Result<(), Fail> {
-    let watch = none_refused();
-    let mut served = desk_at(rt.alloc(), true)?;
-    served.hand_line(rt.alloc(), 5, b"nonsense")?;
-    served.hand_line(rt.alloc(), 6, b"txn 1 41 7 get 0 0")?;
-    assert!(rt; served.rests(&watch));
-    assert!(rt; served.written() == b"fault 126 5\n".as_slice());
-    assert!(rt; served.desk.end == Some(InputOutcome::Refused));
-    assert!(rt; served.desk.has_wish());
+    let acts = [
+        Act::Line(5, "nonsense"),
+        Act::Line(6, JOB),
+        Act::Ask,
+        Act::State,
+    ];
+    let text = answers(rt.alloc(), true, &acts)?;
+    let want = b"fault 126 5\nrest\n1 refused, 1 told, refused, ends\n";
+    assert!(rt; text.as_slice() == want.as_slice());
     Ok(())
 }
 
 #[test]
 fn a_stage_at_rest_is_not_told_as_a_move(rt: HostRuntime) -> Result<(), Fail> {
-    let watch = none_refused();
-    let mut served = desk_at(rt.alloc(), false)?;
-    served.desk.moving = Some(MoveProgress {
-        segments: 3,
-        stage: StageProgress::at_start(3),
-    });
-    served.hand_line(rt.alloc(), 5, b"status")?;
-    served.desk.note_stage(StageProgress::at_start(3));
-    served.rests(&watch);
-    assert!(rt; served.written() == b"moving 0 of 3 segments, 0 jobs open\n".as_slice());
-    served.hand_line(rt.alloc(), 6, b"status")?;
-    served.desk.note_stage(StageProgress::at_start(0));
-    served.rests(&watch);
-    assert!(rt;
-        served.written()
-            == b"moving 0 of 3 segments, 0 jobs open\nat rest, 0 jobs open\n".as_slice()
-    );
+    let acts = [
+        Act::Move(3),
+        Act::Line(5, "status"),
+        Act::Stage(3),
+        Act::Ask,
+        Act::Line(6, "status"),
+        Act::Stage(0),
+        Act::Ask,
+    ];
+    let text = answers(rt.alloc(), false, &acts)?;
+    let want = b"moving 0 of 3 segments, 0 jobs open\nrest\nat rest, 0 jobs open\nrest\n";
+    assert!(rt; text.as_slice() == want.as_slice());
     Ok(())
 }

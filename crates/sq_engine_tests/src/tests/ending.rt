@@ -2,7 +2,7 @@
 ghost use Rattle.std.specs.Prelude.{IfOk};
 ghost use Rattle.sq_gather.specs.Gathered.{AreAllOf};
 
-use sq_driver::{Gate, NodeStep, WorkerEvent, WorkerId, run_workers};
+use sq_driver::{Gate, NodeStep, run_workers};
 use sq_gather::{Gathered, gather};
 use sq_node::{Fabric, Node, RunParts};
 use sq_pull::Pump;
@@ -32,14 +32,11 @@ struct EnoughGate {
 }
 
 impl Gate for EnoughGate {
-    fn pass(&self, _who: WorkerId, _step: NodeStep) -> bool {
-        self.answers.load(Ordering::SeqCst) < ENOUGH
-    }
-
-    fn did(&self, _who: WorkerId, event: WorkerEvent) {
-        if matches!(event, WorkerEvent::Answered(_)) {
+    fn pass(&self, _who: u64, step: NodeStep) -> bool {
+        if step == NodeStep::Answered {
             self.answers.fetch_add(1, Ordering::SeqCst);
         }
+        self.answers.load(Ordering::SeqCst) < ENOUGH
     }
 
     fn ends_idle(&self) -> bool {

@@ -9,28 +9,28 @@ use Rattle.sq_epoch.proofs.AllGiven.{all_in_pairs, nodes_back, still_paired, all
 use Rattle.sq_epoch.proofs.Passing.{come_in_stage}
 use Rattle.sq_epoch.proofs.serving.serve_with.Goals as goal
 
-pub run_and_serve-requires-clause-crew : goal.run_and_serve-requires-clause-crew
-run_and_serve-requires-clause-crew g c κs within = record {
+pub run_and_serve-end-requires-clause-crew : goal.run_and_serve-end-requires-clause-crew
+run_and_serve-end-requires-clause-crew g c κs within = record {
   nodes = all_in_pairs (IsNodeOf c.args.fabric.now) c.args.ready.pairs.items c.requires.nodes;
   pumps = c.requires.pumps;
 }
 
 pub give_rest-requires-clause-paired : goal.give_rest-requires-clause-paired
 give_rest-requires-clause-paired g c =
-    let crew = c.run_and_serve.ensures.crew in
-    let rings = c.run_and_serve.ensures.front.passes.rings in
-    let same = subst (λ (list : List Ring). AreSameRings list c.run_and_serve.new.front.rings.items)
+    let crew = c.run_and_serve-end.ensures.crew in
+    let rings = c.run_and_serve-end.ensures.front.passes.rings in
+    let same = subst (λ (list : List Ring). AreSameRings list c.run_and_serve-end.new.front.rings.items)
     (ap (λ v. v.items) c.new-front.ensures.1) rings in
     subst (λ (p : List Pair × List Ring). ArePaired p.0 p.1)
     (λ k. (sym c.deref_mut.ensures.value k, sym c.deref_mut-2.ensures.value k))
-    (still_paired c.args.fabric.now c.args.fabric.now.parts c.args.ready.pairs.items c.run_and_serve.new.crew.pairs.items
-    c.args.ready.rings.items c.requires.ready.rings crew.nodes c.run_and_serve.new.front.rings.items same)
+    (still_paired c.args.fabric.now c.args.fabric.now.parts c.args.ready.pairs.items c.run_and_serve-end.new.crew.pairs.items
+    c.args.ready.rings.items c.requires.ready.rings crew.nodes c.run_and_serve-end.new.front.rings.items same)
 
 pub returns : goal.returns
 returns g c =
     let segments = c.args.ready.gate.segments in
     let becomes = InStage segments g.C.Client.Becomes in
-    let run = c.run_and_serve in
+    let run = c.run_and_serve-end in
     let crew = run.new.crew in
     let front = run.new.front in
     let serves = subst (λ (p : List Job × List Ring). Serves becomes p.0 p.1 c.args.client.now front.jobs front.rings.items run.new.client front.lacks_threads)

@@ -10,7 +10,7 @@ returns-in-None g c =
     let dv = desk_value g.W.Write.contents in
     let book = c.args.book.now in
     no_page_judged [] book book c.args.engine (dv c.args.desk.now) c.args.engine (dv c.take_wish.new.self) refl refl refl
-    (refl, no_wish_taken (dv c.args.desk.now) (dv c.take_wish.new.self) c.in-None.ensures) none_missing
+    (refl, no_wish_taken (dv c.args.desk.now) (dv c.take_wish.new.self) c.in-None.ensures.takes) none_missing
 
 pub returns-in-Some : goal.returns-in-Some
 returns-in-Some g c =
@@ -18,5 +18,5 @@ returns-in-Some g c =
     let book = c.args.book.now in
     let between = dv c.take_wish.new.self in
     served_steps book book c.grant.new.book c.args.engine (dv c.args.desk.now) c.args.engine between c.grant.result (dv c.grant.new.desk)
-    (speaks_only book c.args.engine (dv c.args.desk.now) between (wish_speaks (Some c.in-Some.wish) _ _ c.in-Some.ensures))
+    (speaks_only book c.args.engine (dv c.args.desk.now) between (wish_speaks (Some c.in-Some.wish) _ _ c.in-Some.ensures.takes))
     c.grant.ensures

@@ -1,0 +1,33 @@
+-- When all is done at a desk, and why an epoch is to end.
+use Rattle.std.specs.Prelude.{Bool, true, false, ◌==◌, ◌&&◌, ◌||◌, nat_le, length, sum_by, Option, Some, None, is_some, is_none}
+use Rattle.std.specs.Bool.{then_some}
+use Rattle.std.specs.Option.{option_or}
+use Rattle.sq_server.specs.declared.desk.ServeDesk.{ServeDesk}
+use Rattle.sq_server.specs.declared.desk.Wish.{Wish}
+use Rattle.sq_server.specs.declared.desk.Wish.TheVariants as wish
+use Rattle.sq_server.specs.declared.desk.TheConstants.{LOST_CALLS}
+use Rattle.sq_server.specs.Settling.{unanswered_jobs}
+
+module _ {W : Type 0} where
+  -- each job has its answer; or none waits to be posted, and there was no work in so many calls that the open ones are lost
+  abbrev pub expects_nothing : ServeDesk W → Bool
+  expects_nothing desk =
+      (unanswered_jobs desk.counts (sum_by length desk.sides) == 0)
+      || ((sum_by length desk.sides == 0) && nat_le LOST_CALLS desk.idle_calls)
+
+  -- the input has ended, no rows move, and no answer is expected
+  abbrev pub is_done : ServeDesk W → Bool
+  is_done desk = is_some desk.end && is_none desk.moving && expects_nothing desk
+
+  -- why the epoch is to end: for what was asked for, or else to close once all is done
+  abbrev pub wish_of : ServeDesk W → Option Wish
+  wish_of desk = option_or desk.wish (then_some (is_done desk) wish.Close)
+
+-- a page is to be taken, or the last one
+abbrev pub is_page_wished : Option Wish → Bool
+is_page_wished (Some (wish.Move asked)) = false
+is_page_wished (Some wish.Fold) = true
+is_page_wished (Some wish.Page) = true
+is_page_wished (Some (wish.Rows asked)) = false
+is_page_wished (Some wish.Close) = true
+is_page_wished None = false
