@@ -1,10 +1,12 @@
 // What the tests of several crates start from, read from the texts of a run.
+ghost use Rattle.std.specs.Prelude.{◌≡◌, [], IfOk};
+
 use sq_chunk::Note;
 use sq_lines::LineReader;
 use sq_model::Step;
 use sq_plan::{PartId, Plan};
 use sq_ranges::{Opening, Recon, SegId};
-use sq_schema::{Family, Root, Row, RowKey, Schema, Table, Txn};
+use sq_schema::{Family, Root, Row, RowKey, Rows, Schema, Table, Txn};
 use sq_text::{read_header, read_step};
 use sq_tree::NodeId;
 use std::alloc::Global;
@@ -50,6 +52,17 @@ pub fn opening(alloc: Global, lines: &str) -> Result<Opening, Fail> {
     let header = format!(in alloc; "{PLANS}{lines}")?;
     let mut lines = LineReader::new(alloc, header.as_bytes())?;
     Ok(read_header(alloc, schema()?, &mut lines)?)
+}
+
+/// The family of this root key, of 56 bytes: its root row has seven times the key.
+pub fn family(alloc: Global, key: u32) -> Result<Family, Fail>
+    ensures root { IfOk result (λ family. family.root ≡ key) }
+    ensures log { IfOk result (λ family. family.log ≡ []) }
+{
+    let root = Root::new(u64::from(key)).ok_or("not a root key")?;
+    let mut rows = Rows::new(alloc);
+    rows.insert(RowKey::ROOT, Row::new(7 * i64::from(key), Vec::new(alloc)))?;
+    Ok(Family::opened(alloc, root, rows)?)
 }
 
 /// Whether these families have the root keys.

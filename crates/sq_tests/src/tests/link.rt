@@ -1,11 +1,11 @@
 // Links in one thread and between two.
 ghost use Rattle.std.specs.Prelude.{◌≡◌, ◌<◌, [], IfOk};
 
-use super::fixtures::note;
+use super::fixtures::{family, note};
 use sq_chunk::{Chunk, Note};
 use sq_link::{RecvPass, SendPass, SharedLink};
 use sq_plan::PartId;
-use sq_schema::{Family, Root, Row, RowKey, Rows};
+use sq_schema::RowKey;
 use std::alloc::Global;
 use std::sync::Wait;
 use std::test::Fail;
@@ -14,17 +14,6 @@ use std::thread;
 const CHUNKS: u32 = 1000;
 
 const TRIES: u64 = 50_000_000;
-
-// The family of this root key, whose root row has seven times the key.
-fn family(alloc: Global, key: u32) -> Result<Family, Fail>
-    ensures root { IfOk result (λ family. family.root ≡ key) }
-    ensures log { IfOk result (λ family. family.log ≡ []) }
-{
-    let root = Root::new(u64::from(key)).ok_or("not a root key")?;
-    let mut rows = Rows::new(alloc);
-    rows.insert(RowKey::ROOT, Row::new(7 * i64::from(key), Vec::new(alloc)))?;
-    Ok(Family::opened(alloc, root, rows)?)
-}
 
 // The chunk of this number, from partition 3 to partition 5, with the family of that root key.
 fn chunk(alloc: Global, number: u32) -> Result<Chunk, Fail> {

@@ -270,3 +270,98 @@ fn four_threads_agree_with_what_they_won(rt: HostRuntime) -> Result<(), Fail> {
     }
     Ok(())
 }
+
+// Claims node after node with a pull, until none is free.
+fn claim_until_none(
+    alloc: Global,
+    tree: &StatusTree,
+    mut seat: TreeSeat,
+    pull: u32,
+) -> Result<(TreeSeat, Vec<NodeId>), AllocError>
+    requires { seat.tree ≡ tree.now }
+    ensures { IfOk result (λ r. r.0.tree ≡ tree.now) }
+{
+    let mut claimed = Vec::new(alloc);
+    for _ in 0..NODES {
+        let Some(node) = tree.claim_any(&mut seat, pull) else {
+            break;
+        };
+        claimed.push(node)?;
+    }
+    Ok((seat, claimed))
+}
+
+// Splits each node above the leaves.
+fn split_down_to_leaves(tree: &StatusTree, seat: &mut TreeSeat)
+    requires { (seat.old.tree ≡ tree.now) × (seat.old.view.first ≡ true) }
+    ensures { (seat.new.tree ≡ tree.now) × (seat.new.view.first ≡ true) }
+{
+    for node in NodeId::all() {
+        if node.number() < 32 {
+            drop(tree.split(seat, node));
+        }
+    }
+}
+
+/// What two threads claimed, and what the tree has then.
+#[derive(Drop)]
+struct Claims {
+    by_pull_2: Vec<NodeId>,
+    by_pull_3: Vec<NodeId>,
+    statuses: [Status; NODES],
+}
+
+// Two threads claim the leaves of a tree whose other nodes are split, one with pull 2 and one with pull 3.
+fn claim_in_two_threads<R: Threads + Sync>(rt: &R, alloc: Global) -> Result<Claims, AllocError> {
+    let (tree, mut first) = StatusTree::open(alloc)?;
+    split_down_to_leaves(&tree, &mut first);
+    let (one, other) = share_two(&tree, &mut first);
+    let shared = &tree;
+    let (left, right) = thread::join(
+        rt,
+        move ||
+            requires { one.tree ≡ shared.now }
+            ensures { IfOk result (λ r. r.0.tree ≡ shared.entry.now) }
+        { claim_until_none(alloc, shared, one, 2) },
+        move ||
+            requires { other.tree ≡ shared.now }
+            ensures { IfOk result (λ r. r.0.tree ≡ shared.entry.now) }
+        { claim_until_none(alloc, shared, other, 3) },
+    );
+    let (one, by_pull_2) = left?;
+    let (other, by_pull_3) = right?;
+    join_two(&tree, &mut first, one, other);
+    Ok(Claims {
+        by_pull_2,
+        by_pull_3,
+        statuses: tree.close(first),
+    })
+}
+
+// How often a node is among these.
+fn times(nodes: &[NodeId], node: NodeId) -> usize {
+    nodes.iter().filter(|one| **one == node).count()
+}
+
+// Two threads claim until nothing is free: each leaf was claimed by exactly one of them, whose pull its status names.
+#[test]
+fn two_threads_claim_each_leaf_once(rt: HostRuntime) -> Result<(), Fail> {
+    for _ in 0..20 {
+        let claims = claim_in_two_threads(&rt, rt.alloc())?;
+        for node in NodeId::all() {
+            let want = match (
+                times(&claims.by_pull_2, node),
+                times(&claims.by_pull_3, node),
+            ) {
+                (0, 0) => Status::Split,
+                (1, 0) => Status::Claimed(2),
+                (0, 1) => Status::Claimed(3),
+                _ => Status::Free,
+            };
+            let status = claims.statuses[node.index()];
+            assert!(rt; status == want, "{node:?} is {status:?}");
+            assert!(rt; (status == Status::Split) == (node.number() < 32));
+        }
+    }
+    Ok(())
+}
