@@ -122,7 +122,7 @@ fn word_byte(byte: u8) -> u8
     if byte > b' ' { byte } else { NO_BYTE }
 }
 
-// The same among hexadecimal digits.
+// The byte of a word of hexadecimal digits for this one.
 fn digit_byte(byte: u8) -> u8
     ensures { result ≡ digit_byte byte }
 {

@@ -11,8 +11,8 @@ use std::alloc::{AllocError, Global};
 use std::io;
 use std::io::{ErrorKind as IoErrorKind, Read};
 
-/// The rows that a table of comma-separated values says, as the lines of a file of rows: each record is a line, but for a first
-/// one that names the columns. They end with the first record that no row can be, since it is too long or inside quotes.
+/// The records of a table of comma-separated values, as the lines of a file of rows, without a first one that names the columns.
+/// The last line is that of the first record which is cut off.
 #[derive(Drop)]
 pub struct CsvRows<'a, R: Read> {
     alloc: Global,
@@ -24,13 +24,12 @@ pub struct CsvRows<'a, R: Read> {
     // The line of the last record, and how many of its bytes were given.
     line: Vec<u8>,
     given: usize,
-    // Where the records are, for whoever wants to know.
+    // Where the records begin.
     lines: &'a RecordLines,
 }
 
 impl<'a, R: Read + Drop> CsvRows<'a, R> {
-    /// The rows of the table that a reader gives. The lines on which its records begin are noted. The only error is that memory
-    /// ran out.
+    /// The rows of the table in `inner`; `lines` gets the lines on which its records begin. The only error is that memory ran out.
     pub fn new(alloc: Global, inner: R, lines: &'a RecordLines) -> io::Result<CsvRows<'a, R>> {
         let inner = LineByLine::new(alloc, inner)?;
         let table = ReaderBuilder::new()
@@ -51,7 +50,7 @@ impl<'a, R: Read + Drop> CsvRows<'a, R> {
 }
 
 impl<R: Read> CsvRows<'_, R> {
-    // Reads the next record, and gives whether there is one.
+    // Reads the next record, and returns whether there is one.
     fn read_record(&mut self) -> io::Result<bool> {
         match self.table.read_byte_record(&mut self.record) {
             Ok(found) => Ok(found),
@@ -62,7 +61,7 @@ impl<R: Read> CsvRows<'_, R> {
         }
     }
 
-    // The same, past a header.
+    // Reads the next record that isn't a header, and returns whether there is one.
     fn read_row(&mut self) -> io::Result<bool> {
         let found = self.read_record()?;
         let is_first = !self.is_begun;
@@ -74,7 +73,7 @@ impl<R: Read> CsvRows<'_, R> {
         Ok(found)
     }
 
-    // Makes a line of the next record. After the last one, and after one that can't be read, there is none.
+    // Makes a line of the next record, if there is one.
     fn read_line(&mut self) -> io::Result<()> {
         if self.is_over {
             return Ok(());
@@ -89,7 +88,7 @@ impl<R: Read> CsvRows<'_, R> {
         Ok(())
     }
 
-    // Notes where the record is, and what is wrong with it.
+    // Notes the line on which the record begins, and its flaw.
     fn note_record(&self) -> Result<(), AllocError> {
         let table = self.table.get_ref();
         match table.flaw() {
@@ -101,7 +100,7 @@ impl<R: Read> CsvRows<'_, R> {
         }
     }
 
-    // The line of the record. That of one inside quotes at the end is no row's.
+    // The line of the record; no row's if the table ends inside its quotes.
     fn line_of_record(&self) -> Result<Vec<u8>, AllocError> {
         match self.table.get_ref().flaw() {
             Some(

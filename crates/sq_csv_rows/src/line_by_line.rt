@@ -13,8 +13,7 @@ const LINE_END: u8 = b'\n';
 // The byte order mark, which the reader of records passes over at the start of a table.
 const MARK: [u8; 3] = [0xef, 0xbb, 0xbf];
 
-/// Another reader's bytes, of one line at a time, so that the lines which were given can be counted. It ends where a record is cut
-/// off.
+/// Gives `inner`'s bytes, of one line at a time, and counts the lines. It ends where a record is cut off.
 #[derive(Drop)]
 pub(crate) struct LineByLine<R: Read> {
     inner: BufReader<R>,
@@ -22,19 +21,19 @@ pub(crate) struct LineByLine<R: Read> {
     lines: u64,
     // The field in which the bytes that were given end.
     field: OpenField,
-    // How many bytes of the mark were given, if no others.
+    // How many bytes of the mark were given; `None` after any other byte.
     mark: Option<usize>,
     end: TableEnd,
 }
 
-/// Whether a table has ended, and what is wrong with its last record then.
+/// Whether a table has ended, and the flaw of its last record.
 #[derive(Clone, Copy, Debug, PartialEq, Eq)]
 pub(crate) enum TableEnd {
     /// More may come.
     Open,
-    /// It is cut off, which wasn't said yet.
+    /// It ends here, which the next read says.
     Coming(Option<PlacedFlaw>),
-    /// It was said that nothing more comes.
+    /// A read has said so.
     Over(Option<PlacedFlaw>),
 }
 
@@ -53,12 +52,12 @@ impl<R: Read + Drop> LineByLine<R> {
 }
 
 impl<R: Read> LineByLine<R> {
-    /// How many lines were given, one that isn't given to its end among them.
+    /// How many lines were given, the last one perhaps in part.
     pub(crate) fn lines(&self) -> u64 {
         self.lines
     }
 
-    /// What is wrong with the record at which it ended.
+    /// The flaw of the record at which it ended.
     pub(crate) fn flaw(&self) -> Option<PlacedFlaw> {
         match self.end {
             TableEnd::Over(flaw) => flaw,
@@ -76,7 +75,7 @@ impl<R: Read> LineByLine<R> {
         0
     }
 
-    // Counts the line that these bytes are of.
+    // Counts the line of `bytes`, unless it was counted before.
     fn count(&mut self, bytes: &[u8]) {
         let Some(last) = bytes.last() else {
             return;
@@ -87,8 +86,7 @@ impl<R: Read> LineByLine<R> {
         self.is_within = *last != LINE_END;
     }
 
-    // Follows the fields through bytes of the line that was counted last, and gives how many of them come before a record is cut
-    // off.
+    // Follows the fields through `bytes` of the current line, and returns how many of them come before the record is cut off.
     fn follow(&mut self, bytes: &[u8]) -> usize
         ensures { result ≤ length bytes.now }
     {
@@ -104,7 +102,7 @@ impl<R: Read> LineByLine<R> {
         bytes.len()
     }
 
-    // Takes a field to be the one in which `byte` is, unless that ends the mark, which is in no field.
+    // Enters `field`, which has `byte`; after the mark the first field begins anew.
     fn enter(&mut self, field: OpenField, byte: u8) {
         self.mark = mark_with(self.mark, byte);
         self.field = if self.mark == Some(MARK.len()) {
@@ -115,7 +113,7 @@ impl<R: Read> LineByLine<R> {
     }
 }
 
-// How many bytes of the mark were given after `byte`, if no others.
+// How many bytes of the mark were given with `byte`; `None` if it isn't the mark's.
 fn mark_with(given: Option<usize>, byte: u8) -> Option<usize> {
     let given = given?;
     (MARK.get(given) == Some(&byte)).then_some(given.saturating_add(1))

@@ -8,11 +8,10 @@ ghost use Rattle.sq_csv_rows.specs.Fields.{field_place, IsUsual};
 use crate::field_place::{COMMA, FieldPlace};
 use crate::record_flaw::{PlacedFlaw, RecordFlaw};
 
-/// The most bytes of a field that are read. Any note fits: `hex:` and two digits for each of its 255 bytes. So does one of 256
-/// bytes, whose fault is that it has too many.
+/// The most bytes of a field that are read: enough for `hex:` and the digits of a note of 256 bytes, one more than a note may have.
 pub(crate) const LONGEST_FIELD: usize = 516;
 
-/// The last column of which a field is read, from 0: the first one that no row has.
+/// The last column that is read, from 0: the one after a row's last.
 pub(crate) const LAST_COLUMN: usize = 5;
 
 /// The field that is being read.
@@ -43,13 +42,14 @@ impl OpenField {
         }
     }
 
-    /// The field that is being read after `byte`, which is on `line` of the table. The error is that the record is cut off before
-    /// `byte`, since no row has so many columns or so long a field.
+    /// The field that is being read after `byte`, which is on `line` of the table. An error cuts the record off before `byte`: no row
+    /// has so many columns or so long a field.
     pub(crate) fn with(self, byte: u8, line: u64) -> Result<OpenField, Option<PlacedFlaw>>
         ensures place { IfOk result (λ field. (state : State) → IsUsual state
             → self.place ≡ field_place state
             → field.place ≡ field_place (step default_config state byte).0) }
-        ensures column { IfOk result (λ field. self.column ≤ LAST_COLUMN → field.column ≤ LAST_COLUMN) }
+        ensures column { IfOk result (λ field. self.column ≤ LAST_COLUMN
+            → field.column ≤ LAST_COLUMN) }
         ensures length { IfOk result (λ field. field.length ≤ LONGEST_FIELD) }
         ensures line { IfOk result (λ field. field.place ≢ FieldPlace.Start
             → self.place ≢ FieldPlace.Start → field.line ≡ self.line) }
@@ -80,7 +80,7 @@ impl OpenField {
         })
     }
 
-    /// What is wrong where the table ends: it may do so anywhere but inside quotes.
+    /// The flaw of a table that ends here, inside quotes; `None` outside them.
     pub(crate) fn flaw_at_end(self) -> Option<PlacedFlaw>
         ensures quoted { IsSome result ↔ (self.place ≡ FieldPlace.Quoted) }
         ensures line { IfSome result (λ placed. placed.line ≡ self.line) }
@@ -92,7 +92,7 @@ impl OpenField {
         })
     }
 
-    // How many bytes the field has if one more leads to this place in it. The quotes around a field aren't among them.
+    // How many bytes the field has after one more, which leads to `place`. The quotes around a field aren't counted.
     fn length_in(self, place: FieldPlace) -> usize
         ensures { result ≤ self.length + 1 }
     {
@@ -102,7 +102,7 @@ impl OpenField {
         }
     }
 
-    // The field after the one that `byte` ends; `None` if no row has so many.
+    // The field after `byte`, which ends this one; `None` if no row has so many.
     fn next(self, byte: u8) -> Option<OpenField>
         ensures none { IfNone result (LAST_COLUMN ≤ self.column) }
         ensures place { IfSome result (λ field. field.place ≡ FieldPlace.Start) }
@@ -119,7 +119,7 @@ impl OpenField {
         })
     }
 
-    // What is wrong with a field that is too long, if that place is inside quotes.
+    // The flaw of a field that is too long at `place`, inside quotes; `None` outside them.
     fn long_flaw(self, place: FieldPlace) -> Option<PlacedFlaw>
         ensures { IfSome result (λ placed. placed.line ≡ self.line) }
     {

@@ -3,14 +3,13 @@ use crate::record_flaw::RecordFlaw;
 use std::alloc::{AllocError, Global};
 use std::cell::RefCell;
 
-/// The lines of a table on which its records begin, as they are read: what a reader notes, and one who has a record's number asks
-/// for.
+/// The lines of a table on which its records begin. The reader of the table notes them.
 #[derive(Drop)]
 pub struct RecordLines {
     lines: RefCell<LineList>,
 }
 
-/// From the record of this number on, each is on the line behind that of the one before it, the first of them on this line.
+/// `record` begins on `line`, and each one after it, up to the next jump, one line further.
 #[derive(Clone, Copy, Debug, PartialEq, Eq)]
 struct Jump {
     record: u64,
@@ -39,7 +38,7 @@ impl RecordLines {
         }
     }
 
-    /// Notes that one more record begins on `line`, and what is wrong with it.
+    /// Notes the `line` on which the next record begins, and its flaw.
     pub(crate) fn note(&self, line: u64, flaw: Option<RecordFlaw>) -> Result<(), AllocError> {
         match self.lines.try_borrow_mut() {
             Ok(mut lines) => {
@@ -56,7 +55,7 @@ impl RecordLines {
         lines.line_of(record)
     }
 
-    /// What is wrong with the record of this number, from 1, beside its fields. Only the last one may have such a flaw.
+    /// Why the record of this number, from 1, isn't read to its end. Only the last one may have such a flaw.
     pub fn flaw_of(&self, record: u64) -> Option<RecordFlaw> {
         let lines = self.lines.try_borrow().ok()?;
         if record == lines.count {
@@ -78,7 +77,7 @@ impl LineList {
         Ok(())
     }
 
-    // The line of the record of this number, if each behind the last jump is on the line behind that of the one before it.
+    // The line of the record of this number, by the last jump up to it.
     fn line_of(&self, record: u64) -> Option<u64> {
         let jump = self.jumps.iter().rev().find(|jump| jump.record <= record)?;
         Some(jump.line.saturating_add(record - jump.record))

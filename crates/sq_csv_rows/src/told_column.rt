@@ -10,8 +10,7 @@ const NOTE_IS: &str = "a note, a text or 'hex:' and two digits from 0-9 and a-f 
 // As many bytes of a word are shown.
 const SHOWN: usize = 40;
 
-/// What doesn't fit in the line of a row, as it is said of the column of the record that the line comes from. Columns are counted
-/// from 1.
+/// What doesn't fit in the line of a row, said of the columns of its record, which are counted from 1.
 #[derive(Clone, Copy, Debug, PartialEq, Eq)]
 pub enum ToldColumn<'a> {
     /// It isn't of its form.
