@@ -1,6 +1,6 @@
 -- Looks at nodes, and what they leave as it was.
 use Rattle.std.proofs.Common.{◌≡◌, ℕ, ◌+◌, ◌*◌, ◌<◌, ◌≤◌, Bool, true, false, IsTrue, List, [], ◌∷◌, ◌++◌, length, get_or, Some, refl, sym, ap, ◌∙◌, subst, inl, inr, ⊎_elim, append_assoc, arith}
-use Rattle.std.specs.Prelude.{◌⊎◌, ◌≢◌, slice_get, slice_set, Result, Ok, Err, is_ok, MatchResult, MatchBool}
+use Rattle.std.specs.Prelude.{◌⊎◌, ◌≢◌, ◌||◌, slice_get, slice_set, Result, Ok, Err, is_ok, MatchResult, MatchBool}
 use Rattle.std.proofs.lemmas.Bool.{eqb-true, lt-leb, cases_Bool, cases_lt}
 use Rattle.std.proofs.lemmas.List.{length-set, length-map, get_or-map}
 use Rattle.std.proofs.lemmas.List.Elements.{Contains-append_right, Contains-append_left}
@@ -13,7 +13,7 @@ use Rattle.sq_tree.specs.declared.fault.CompleteFault.{CompleteFault}
 use Rattle.sq_tree.specs.declared.fault.CompleteFault.TheVariants as complete
 use Rattle.sq_tree.specs.declared.node.TheConstants.{LEAVES}
 use Rattle.sq_tree.specs.Node.{is_node, is_above}
-use Rattle.sq_tree.specs.Status.{is_past}
+use Rattle.sq_tree.specs.Status.{is_past, is_split, is_complete}
 use Rattle.sq_tree.proofs.Nested.{node_bounds, node_within, halves_of}
 use Rattle.sq_tree.proofs.Covering.{high_half}
 use Rattle.sq_model.proofs.Lists.{Contains-first}
@@ -27,6 +27,7 @@ use Rattle.sq_pull.specs.Seats.{AreSeatsOf, StepsAt}
 use Rattle.sq_pull.proofs.Stepped.{steps_at, seats_stay}
 use Rattle.sq_node_model.proofs.Members.{set_stood, set_kept, set_new}
 use Rattle.sq_node.specs.Settled.{IsSettled, HasSettled, SawComplete}
+use Rattle.sq_node.specs.Idle.{FoundUndone, SegmentUndone}
 use Rattle.sq_node.specs.Looks.{OnlyLooked, SeatsLooked, FoundElse, HasNoneToComplete, LooksOnly, LooksAndCompletes}
 use Rattle.sq_node.proofs.Known.{KnowsNoLess, knows_looked, eq_or_not, settled_known, complete_known}
 
@@ -122,6 +123,35 @@ seen_halves v w n low high node inner low_is high_is knows saw_low saw_high = λ
     (λ (first : is_above (2 * n) leaf ≡ true). complete_known v w low knows saw_low leaf (ap (λ (m : ℕ). is_above m leaf) low_is ∙ first))
     (λ (past : is_above (2 * n) leaf ≡ false). saw_high leaf (ap (λ (m : ℕ). is_above m leaf) high_is ∙ high_half n leaf half above past))
     (cases_Bool (is_above (2 * n) leaf))
+
+-- a node that was found neither split nor complete, also after looks
+pub found_undone : (v : View) (n : ℕ) (st : Status) (w : View) → Found v n st w → (is_split st || is_complete st) ≡ false → FoundUndone v w
+found_undone v n st w found undone =
+    record { looks = (n, st) ∷ []; since = ap (λ (u : View). u.looked) found.after; node = n; status = st; found = Contains-first (n, st) []; undone = undone }
+
+pub undone_since : (v u w : View) → OnlyLooked v u → FoundUndone u w → FoundUndone v w
+undone_since v u w looked found =
+    record {
+      looks = found.looks ++ looked.looks;
+      since = found.since ∙ ap (λ (x : View). found.looks ++ x.looked) looked.after ∙ sym (append_assoc found.looks looked.looks v.looked);
+      node = found.node;
+      status = found.status;
+      found = Contains-append_left found.looks looked.looks (found.node, found.status) found.found;
+      undone = found.undone;
+    }
+
+pub segment_undone : (at : ℕ) (old cur new : List SeatValue) → SeatsLooked old cur → StepsAt at FoundUndone cur new → SegmentUndone old new at
+segment_undone at old cur new looked step =
+    let within : at < length old = omega (arith, slice_get_within cur at step.before step.there, looked.count) in
+    let first = get_or old at step.before in
+    let there : slice_get old at ≡ Some first = slice_get-get_or old at step.before within in
+    record {
+      before = first;
+      after = step.after;
+      there = there;
+      then = ap (λ (seats : List SeatValue). slice_get seats at) step.others ∙ set_new cur at step.after step.before step.there;
+      found = undone_since first.view step.before.view step.after.view (looked.each at first step.before there step.there).1 step.told;
+    }
 
 -- more looks at one seat
 pub seats_looked_at : (seg : ℕ) (steps : View → View → Type 0) (old cur new : List SeatValue) → ((v w : View) → steps v w → OnlyLooked v w) → SeatsLooked old cur → StepsAt seg steps cur new → SeatsLooked old new

@@ -1,7 +1,9 @@
 -- Nothing is under way at a partition.
 use Rattle.std.proofs.Common.{◌≡◌, ℕ, ◌<◌, ◌≤◌, List, [], ◌∷◌, length, None, refl, ap, ⊎_elim, arith}
+use Rattle.std.specs.Prelude.{Contains}
 use Rattle.std.proofs.lemmas.Bool.{cases_lt}
 use Rattle.std.proofs.lemmas.List.{get_or_past}
+use Rattle.sq_model.proofs.Lists.{Contains-first}
 use Rattle.sq_waiting.specs.Waiting.{Arrival}
 use Rattle.sq_exec.specs.OutLink.{OutLinkValue, new_out_link, may_cut}
 use Rattle.sq_exec.specs.CoreValue.{CoreValue, out_at}
@@ -21,3 +23,7 @@ all_quiet core arrivals kept below other =
 pub none_left : {X : Type 0} (xs : List X) → (0 < length xs → ⊥) → xs ≡ []
 none_left [] none = refl
 none_left (x ∷ xs) none = absurd (none (omega arith))
+
+pub some_left : {X : Type 0} (xs : List X) → 0 < length xs → (x : X) × Contains xs x
+some_left [] some = absurd (omega arith)
+some_left (x ∷ xs) some = (x, Contains-first x xs)

@@ -6,6 +6,7 @@ pub mod Settled
 pub mod NodeState
 pub mod Looks
 pub mod Steps
+pub mod Turn
 pub mod Idle
 pub mod Opened
 pub mod Left

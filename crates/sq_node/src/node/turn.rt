@@ -1,20 +1,21 @@
 // Turns of a node.
-ghost use Rattle.std.specs.Prelude.{◌≡◌, ℕ, ◌+◌, ◌<◌, ◌≤◌, true, List, [], length, map, slice_get, Some, IsTrue};
+ghost use Rattle.std.specs.Prelude.{◌≡◌, ◌↔◌, ℕ, ◌<◌, true, false, List, [], length, map, slice_get, Some, IsTrue};
 ghost use Rattle.sq_ranges.specs.declared.recon.Range.{Range};
-ghost use Rattle.sq_ranges.specs.Prelude.{stages};
 ghost use Rattle.sq_status.specs.Seat.{IsSameSeat};
 ghost use Rattle.sq_waiting.specs.Waiting.{Arrival, txns_of};
 ghost use Rattle.sq_exec.specs.Prelude.{loaded_at, IsCore, is_whole};
 ghost use Rattle.sq_pull.specs.Seats.{AreSeatsOf, StepsAt};
 ghost use Rattle.sq_node.specs.NodeState.{IsNodeOf};
-ghost use Rattle.sq_node.specs.Holds.{KeepsAll};
+ghost use Rattle.sq_node.specs.Holds.{KeepsAll, DoesAndKeeps};
 ghost use Rattle.sq_node.specs.Looks.{OnlyLooked, SeatsLooked};
 ghost use Rattle.sq_node.specs.Settled.{HasSettled, AllSettled, SawComplete, SawSegmentComplete, AreSeen};
 ghost use Rattle.sq_node.specs.Steps.{Looks};
-ghost use Rattle.sq_node.specs.Idle.{IsQuiet, IsIdle, takes_part, AreFlagged};
+ghost use Rattle.sq_node.specs.Turn.{TakesIn, TurnStep};
+ghost use Rattle.sq_node.specs.Idle.{IsQuiet, IsIdle, IsBusy, IsAtWork, IsUnderWay, IsLastStage, FoundUndone, SomeUndone, takes_part, AreFlagged};
 
 use super::{Node, NodeParts};
 use crate::fabric::Fabric;
+use crate::stepped::Stepped;
 use sq_plan::PartId;
 use sq_ranges::Range;
 use sq_status::{StatusTree, TreeSeat};
@@ -22,6 +23,33 @@ use sq_tree::{NodeId, Status};
 use std::sync::Wait;
 
 impl Node {
+    /// Takes a turn: sends what is pending, and then performs each step once: job, request, cut, send, recv, load,
+    /// complete, resume.
+    pub fn turn<R: Wait>(&mut self, rt: &R, fabric: &Fabric) -> Stepped
+        requires { IsNodeOf fabric.now self.old }
+        ensures { DoesAndKeeps fabric.now (TurnStep fabric.now) self.old result self.new }
+    {
+        self.send_pending(rt, fabric);
+        let job = self.step_job(rt, fabric);
+        let request = self.step_request(rt, fabric);
+        let cut = self.step_cut();
+        let send = self.step_send(rt, fabric);
+        let taken = self.take_in(rt, fabric);
+        job.and(request.and(cut.and(send.and(taken))))
+    }
+
+    // Performs the steps of the second half of a turn.
+    fn take_in<R: Wait>(&mut self, rt: &R, fabric: &Fabric) -> Stepped
+        requires { IsNodeOf fabric.now self.old }
+        ensures { DoesAndKeeps fabric.now TakesIn self.old result self.new }
+    {
+        let recv = self.step_recv(rt, fabric);
+        let load = self.step_load(fabric);
+        let complete = self.step_complete(fabric);
+        let resume = self.step_resume(rt, fabric);
+        recv.and(load.and(complete.and(resume)))
+    }
+
     /// Sends the pending jobs up to the first whose queue is full, and each pending request whose queue has room.
     pub fn send_pending<R: Wait>(&mut self, rt: &R, fabric: &Fabric)
         ensures { self.new ≡ self.old }
@@ -30,9 +58,8 @@ impl Node {
         self.puller.send_pending(rt, fabric.shared().requests);
     }
 
-    /// Returns true if nothing is pending or under way here, and each segment of the running stage that leaves or comes
-    /// here is complete. In the last stage it also requires that no transaction waits and that each posted job is
-    /// answered. It looks at the words of a segment until node 1 reads complete, and never again.
+    /// Returns true if the node is done ([`Node::is_done`]), nothing is pending here and, in the last stage, as many jobs
+    /// were answered as were posted. The counts of jobs are hints, at no certain moment.
     pub fn idle(&mut self, fabric: &Fabric) -> bool
         requires { IsNodeOf fabric.now self.old }
         ensures looks { Looks self.old self.new }
@@ -40,11 +67,7 @@ impl Node {
         ensures of { IsNodeOf fabric.now self.new }
         ensures holds { KeepsAll self.old self.new }
     {
-        if !self.has_answered(fabric) || !self.is_at_rest() {
-            return false;
-        }
-        let part = self.core.part();
-        see_all_complete(fabric, &mut self.seats, &mut self.complete, part)
+        self.has_sent(fabric) && self.is_done(fabric)
     }
 
     /// Returns true if the node is [`Node::idle`] and, in the last stage, the run takes no more jobs from then on. In the
@@ -57,6 +80,24 @@ impl Node {
         ensures holds { KeepsAll self.old self.new }
     {
         self.idle(fabric) && (!fabric.is_last_stage() || fabric.close_answered())
+    }
+
+    /// Returns true if nothing is under way here, each segment of the running stage that leaves or comes here is complete
+    /// and, in the last stage, no transaction waits. It looks at the words of a segment until node 1 reads complete, and
+    /// never again.
+    pub fn is_done(&mut self, fabric: &Fabric) -> bool
+        requires { IsNodeOf fabric.now self.old }
+        ensures looks { Looks self.old self.new }
+        ensures done { IsTrue result → IsIdle self.new }
+        ensures busy { result ≡ false → IsBusy fabric.now self.old self.new }
+        ensures of { IsNodeOf fabric.now self.new }
+        ensures holds { KeepsAll self.old self.new }
+    {
+        if !self.is_at_rest(fabric) {
+            return false;
+        }
+        let part = self.core.part();
+        see_all_complete(fabric, &mut self.seats, &mut self.complete, part)
     }
 
     /// Returns true if it gave up keys that aren't all cut and sent. A driver may ask before it lets the node give up
@@ -93,29 +134,42 @@ impl Node {
         }
     }
 
-    // Returns true if no transaction waits here and each posted job is answered, or if the stage isn't the last: what
-    // is left continues in the next one.
-    fn has_answered(&self, fabric: &Fabric) -> bool
-        ensures { IsTrue result → stages fabric.now.recon ≤ fabric.now.stage + 1
-            → self.now.core.waiting ≡ [] }
-    {
-        !fabric.is_last_stage() || (fabric.is_answered() && !self.core.has_waiting())
-    }
-
-    // Returns true if nothing is pending or under way here.
-    fn is_at_rest(&self) -> bool
-        ensures quiet { IsTrue result → (other : ℕ) → IsQuiet self.now.core other }
-        ensures settled { IsTrue result → AllSettled self.now.core self.now.seats }
-    {
+    // Returns true if nothing is pending here and, in the last stage, each posted job is answered, by the counts. Before
+    // the last stage what is left continues in the next one.
+    fn has_sent(&self, fabric: &Fabric) -> bool {
         self.desk.is_sent()
             && self.puller.pending().is_empty()
-            && self.to_complete.is_empty()
-            && self.is_quiet()
+            && (!fabric.is_last_stage() || fabric.is_answered())
+    }
+
+    // Returns true if nothing is under way here and, in the last stage, no transaction waits.
+    fn is_at_rest(&self, fabric: &Fabric) -> bool
+        ensures quiet { IsTrue result → (other : ℕ) → IsQuiet self.now.core other }
+        ensures settled { IsTrue result → AllSettled self.now.core self.now.seats }
+        ensures waiting { IsTrue result → IsLastStage fabric.now → self.now.core.waiting ≡ [] }
+        ensures work { result ≡ false → IsAtWork fabric.now self.now.core }
+    {
+        if self.has_late_jobs(fabric) {
+            return false;
+        }
+        if !self.to_complete.is_empty() {
+            return false;
+        }
+        self.is_quiet()
+    }
+
+    // Returns true if a transaction waits in the last stage.
+    fn has_late_jobs(&self, fabric: &Fabric) -> bool
+        ensures { IsTrue result
+            ↔ (IsLastStage fabric.now × (0 < length self.now.core.waiting)) }
+    {
+        fabric.is_last_stage() && self.core.has_waiting()
     }
 
     // Returns true if nothing is under way between this partition and any other.
     fn is_quiet(&self) -> bool
-        ensures { IsTrue result → (other : ℕ) → IsQuiet self.now.core other }
+        ensures quiet { IsTrue result → (other : ℕ) → IsQuiet self.now.core other }
+        ensures work { result ≡ false → IsUnderWay self.now.core }
     {
         for number in 0..self.core.parts() {
             if !self.is_quiet_with(PartId::new(number)) {
@@ -127,7 +181,7 @@ impl Node {
 
     // Returns true if nothing is under way between this partition and `part`.
     fn is_quiet_with(&self, part: PartId) -> bool
-        ensures { IsTrue result → IsQuiet self.now.core part }
+        ensures { IsTrue result ↔ IsQuiet self.now.core part }
     {
         self.core.inbox(part).is_none()
             && self.core.outbox(part).is_none()
@@ -151,6 +205,8 @@ fn see_all_complete(
         → AreSeen seats.new.items complete.new.items }
     ensures complete { IsTrue result
         → AreFlagged fabric.now.recon fabric.now.stage part complete.new.items }
+    ensures undone { result ≡ false
+        → SomeUndone fabric.now part seats.old.items seats.new.items }
 {
     let trees = fabric.trees();
     let segments = fabric.recon().segments();
@@ -191,6 +247,7 @@ pub(super) fn see_complete_at(
     ensures set { IsTrue result → slice_get complete.new.items at ≡ Some true }
     ensures kept { (seg : ℕ) → slice_get complete.old.items seg ≡ Some true
         → slice_get complete.new.items seg ≡ Some true }
+    ensures undone { result ≡ false → StepsAt at FoundUndone seats.old.items seats.new.items }
 {
     let reads = read_complete_at(trees, seats, at);
     if reads {
@@ -206,6 +263,7 @@ fn read_complete_at(trees: &[StatusTree], seats: &mut Vec<TreeSeat>, at: usize) 
     ensures seats { AreSeatsOf trees.now seats.new.items }
     ensures looked { StepsAt at OnlyLooked seats.old.items seats.new.items }
     ensures complete { IsTrue result → SawSegmentComplete seats.new.items at }
+    ensures undone { result ≡ false → StepsAt at FoundUndone seats.old.items seats.new.items }
 {
     reads_complete(&trees[at], &mut seats[at], NodeId::WHOLE)
 }
@@ -216,6 +274,7 @@ fn reads_complete(tree: &StatusTree, seat: &mut TreeSeat, node: NodeId) -> bool
     ensures seat { IsSameSeat seat.old seat.new }
     ensures looked { OnlyLooked seat.old.view seat.new.view }
     ensures complete { IsTrue result → SawComplete seat.new.view node }
+    ensures undone { result ≡ false → FoundUndone seat.old.view seat.new.view }
 {
     match tree.look(seat, node) {
         Status::Complete(_) => true,

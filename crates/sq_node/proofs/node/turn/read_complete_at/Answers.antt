@@ -1,5 +1,6 @@
 use Rattle.std.proofs.Common.{refl}
 use Rattle.sq_node_model.proofs.Members.{set_new}
+use Rattle.sq_node.specs.Idle.{FoundUndone}
 use Rattle.sq_node.specs.Looks.{OnlyLooked}
 use Rattle.sq_node.proofs.Looked.{seats_kept}
 use Rattle.sq_pull.proofs.Stepped.{steps_at}
@@ -23,3 +24,8 @@ returns-clause-complete c = λ reads.
       there = set_new c.args.seats.now.items c.args.at c.reads_complete.new.seat step.before step.there;
       seen = c.reads_complete.ensures.complete reads;
     }
+
+pub returns-clause-undone : goal.returns-clause-undone
+returns-clause-undone c = λ reads.
+    steps_at c.args.trees.now c.args.seats.now.items c.args.at c.args.at FoundUndone c.index_mut.result.now c.reads_complete.new.seat
+    c.requires.seats c.requires.segment refl c.index_mut.ensures.value c.reads_complete.ensures.seat (c.reads_complete.ensures.undone reads)

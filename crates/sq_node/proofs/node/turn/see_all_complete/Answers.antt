@@ -1,10 +1,11 @@
-use Rattle.std.proofs.Common.{◌≡◌, ◌<◌, ◌≤◌, length, ap, ◌∙◌, ⊎_elim, arith}
+use Rattle.std.proofs.Common.{◌≡◌, ◌<◌, ◌≤◌, List, length, refl, sym, ap, ◌∙◌, ⊎_elim, arith}
 use Rattle.std.specs.Prelude.{slice_get}
 use Rattle.std.proofs.lemmas.Bool.{cases_lt}
-use Rattle.std.proofs.lemmas.Option.{slice_get_within}
+use Rattle.std.proofs.lemmas.Option.{slice_get_read, slice_get_within}
+use Rattle.sq_ranges.specs.declared.recon.Range.{Range}
 use Rattle.sq_ranges.specs.ReconValue.{ReconValue}
 use Rattle.sq_node.specs.Looks.{OnlyLooked}
-use Rattle.sq_node.proofs.Looked.{seats_looked_at}
+use Rattle.sq_node.proofs.Looked.{seats_looked_at, segment_undone}
 use Rattle.sq_node.proofs.node.turn.see_all_complete.Goals as goal
 
 pub returns-then-not-see_complete_at-clause-looked : goal.returns-then-not-see_complete_at-clause-looked
@@ -33,3 +34,17 @@ returns-clause-complete c = λ _ seg segment there part.
     let within = slice_get_within c.args.fabric.now.recon.segments seg segment there in
     let segments = ap length (c.segments-segments.ensures.segments ∙ ap (λ (recon : ReconValue). recon.segments) c.recon.ensures) in
     c.loop-at.invariant.all seg segment (omega (arith, within, segments, c.loop-at-test.false)) there part
+
+pub returns-then-not-see_complete_at-clause-undone : goal.returns-then-not-see_complete_at-clause-undone
+returns-then-not-see_complete_at-clause-undone c = λ _.
+    let at = c.loop-at.at in
+    let segments = c.segments-segments.result.now in
+    let same : segments ≡ c.args.fabric.now.recon.segments = c.segments-segments.ensures.segments ∙ ap (λ (recon : ReconValue). recon.segments) c.recon.ensures in
+    record {
+      seg = at;
+      segment = c.index-segments-at.result;
+      there = ap (λ (xs : List Range). slice_get xs at) (sym same)
+          ∙ slice_get_read segments (length segments) at c.index-segments-at.result refl c.loop-at-test.true c.index-segments-at.is;
+      takes = sym c.is_of.ensures ∙ c.if-not-is_of.false;
+      undone = segment_undone at c.args.seats.now.items c.loop-at.seats.items c.see_complete_at.new.seats.items c.loop-at.invariant.looked (c.see_complete_at.ensures.undone c.if-not-see_complete_at.true);
+    }

@@ -1,15 +1,15 @@
-use Rattle.std.proofs.Common.{rules, ◌≡◌, ◌+◌, ◌≤◌, ℕ, sym, ap, ◌∙◌, subst}
+use Rattle.std.proofs.Common.{rules, ◌≡◌, ◌+◌, ◌≤◌, ℕ, sym, ap, ◌∙◌, subst, inr}
 use Rattle.std.specs.Prelude.{slice_get}
 use Rattle.sq_ranges.specs.ReconValue.{ReconValue, stages}
 use Rattle.sq_node.specs.declared.stepped.Stepped.TheVariants.{Nothing}
 use Rattle.sq_node.specs.NodeState.{NodeState}
 use Rattle.sq_node.specs.Settled.{AreSeen}
-use Rattle.sq_node.specs.Idle.{IsIdle, takes_part}
+use Rattle.sq_node.specs.Idle.{IsIdle, SomeUndone, takes_part}
 use Rattle.sq_node.proofs.Stays.{request_stays}
 use Rattle.sq_node.proofs.Keeps.{looks_keep}
 use Rattle.sq_node.proofs.Settles.{other_flags}
 use Rattle.sq_node.proofs.Known.{AllKnowNoLess, known_looked, settled_seats}
-use Rattle.sq_node.proofs.node.Node.idle.Goals as goal
+use Rattle.sq_node.proofs.node.Node.is_done.Goals as goal
 
 pub invariant_of-self : goal.invariant_of-self
 invariant_of-self c =
@@ -30,8 +30,8 @@ returns-clause-holds c = looks_keep c.args.self.now _ (returns-clause-looks c)
 pub returns-clause-of : goal.returns-clause-of
 returns-clause-of c = request_stays c.args.fabric.now c.args.self.now Nothing _ (returns-clause-looks c) c.requires
 
-pub returns-clause-idle : goal.returns-clause-idle
-returns-clause-idle c = λ all.
+pub returns-clause-done : goal.returns-clause-done
+returns-clause-done c = λ reads.
     let new = c.see_all_complete.new.seats.items in
     let node = c.args.self.now in
     let fabric = c.args.fabric.now in
@@ -45,9 +45,15 @@ returns-clause-idle c = λ all.
       settled = λ seg n whole. settled_seats node.seats new known seg n (rest.settled c.if-not-is_at_rest.false seg n whole);
       complete = λ seg segment there part.
           seen seg
-          (c.see_all_complete.ensures.complete all seg segment (ap (λ (recon : ReconValue). slice_get recon.segments seg) (sym c.requires.recon) ∙ there)
+          (c.see_all_complete.ensures.complete reads seg segment (ap (λ (recon : ReconValue). slice_get recon.segments seg) (sym c.requires.recon) ∙ there)
           ((λ k. takes_part (sym c.requires.recon k) (sym c.requires.stage k) (own k) segment) ∙ part));
       waiting = λ last.
-          c.has_answered.ensures c.if-not-has_answered.false
+          rest.waiting c.if-not-is_at_rest.false
           (subst (λ (recon : ReconValue). stages recon ≤ fabric.stage + 1) c.requires.recon (subst (λ (stage : ℕ). stages node.core.recon ≤ stage + 1) c.requires.stage last));
     })
+
+pub returns-clause-busy : goal.returns-clause-busy
+returns-clause-busy c = λ no. inr (
+    subst (λ (node : NodeState). SomeUndone c.args.fabric.now node.core.part node.seats c.see_all_complete.new.seats.items) c.self.view_is
+    (subst (λ (part : ℕ). SomeUndone c.args.fabric.now part c.self.inside.seats.items c.see_all_complete.new.seats.items) c.part-part.ensures (c.see_all_complete.ensures.undone no))
+    )

@@ -1,0 +1,17 @@
+use Rattle.sq_node.specs.Steps.{RecvStep, LoadStep, CompleteStep, ResumeStep}
+use Rattle.sq_node.specs.Turn.{Then}
+use Rattle.sq_node.proofs.Turned.{does_then}
+use Rattle.sq_node.proofs.node.Node.take_in.Goals as goal
+
+pub returns : goal.returns
+returns g c =
+    let fabric = c.args.fabric.now in
+    let received = c.step_recv-recv.new.self in
+    let loaded = c.step_load-load.new.self in
+    let completed = c.step_complete-complete.new.self in
+    let new = c.step_resume-resume.new.self in
+    does_then fabric RecvStep (Then LoadStep (Then CompleteStep ResumeStep)) c.args.self.now received new c.step_recv-recv.result c.and-2.result c.and-3.result c.step_recv-recv.ensures
+    (does_then fabric LoadStep (Then CompleteStep ResumeStep) received loaded new c.step_load-load.result c.and.result c.and-2.result c.step_load-load.ensures.makes
+    (does_then fabric CompleteStep ResumeStep loaded completed new c.step_complete-complete.result c.step_resume-resume.result c.and.result c.step_complete-complete.ensures c.step_resume-resume.ensures c.and.ensures)
+    c.and-2.ensures)
+    c.and-3.ensures
