@@ -1,25 +1,42 @@
 // Folding the logs of what was gathered into the bases of its families.
-ghost use Rattle.std.specs.Prelude.{◌≡◌, ℕ, ◌≤◌, [], map, filter, not, IfOk, IfErr};
-ghost use Rattle.sq_gather.specs.Prelude.{ROOT_END, rows_in, IsSetUp, folded_store, IsStageDone, folded_opening, folded_gathered};
+ghost use Rattle.std.specs.Prelude.{◌≡◌, ℕ, ◌≤◌, List, [], map, filter, not, IfOk, IfErr};
+ghost use Rattle.sq_gather.specs.Prelude.{ROOT_END, rows_in, OpeningValue, IsSetUp, folded_store, IsStageDone, folded_opening, folded_gathered};
+ghost use Rattle.sq_audit.specs.declared.job.Job.{Job};
 ghost use Rattle.sq_audit.specs.Answers.{IdsDiffer};
-ghost use Rattle.sq_audit.specs.ById.{AreById, is_listed};
-ghost use Rattle.sq_audit.specs.Folding.{IsPrepared, IsFold, IsUnfolded};
+ghost use Rattle.sq_audit.specs.ById.{AreById, ListsIds, is_listed};
+ghost use Rattle.sq_audit.specs.Defects.{IsVerdict};
+ghost use Rattle.sq_audit.specs.Folding.{answered_jobs, IsPrepared, IsFold, IsUnfolded};
 
 use crate::answered::{copy_answered, leave_unanswered, list_ids};
 use crate::folded::{Folded, Unchanged, Unfolded};
 use crate::job::Job;
-use crate::passes::audit;
+use crate::passes::{audit, audit_in_threads};
 use crate::table::table_of;
 use crate::verdict::{Defect, Verdict};
 use sq_gather::{FamilyStore, Gathered, Opening, RunStore, Table};
 use std::alloc::{AllocError, Global};
 use std::thread::Threads;
 
-/// Folds what was gathered of a stage whose segments are complete: audits the jobs that have a receipt, whose ids
-/// differ as those of all jobs do, and where they are sound gives the families anew from their rows, the opening with
-/// these rows, no receipts, and the jobs without one. Else the answer is the first defect; and where there is no memory
-/// for it all comes back as it was.
-pub fn fold<R: Threads + Sync>(
+/// Folds `gathered`, of a stage whose segments are complete. It audits those of `jobs`, whose ids differ, that have a receipt. If
+/// they are sound, each family starts anew from its rows, the opening has these rows, there are no receipts, and the jobs without
+/// one are left. Else it returns the first defect. If memory runs out, all is returned as it was.
+pub fn fold(
+    alloc: Global,
+    opening: Opening,
+    gathered: Gathered,
+    jobs: Vec<Job>,
+) -> Result<Folded, Unfolded>
+    requires done { IsStageDone opening gathered }
+    requires ids { IdsDiffer jobs.items }
+    ensures folded { IfOk result (IsFold opening gathered jobs.items) }
+    ensures unfolded { IfErr result (IsUnfolded opening gathered jobs.items) }
+{
+    let prepared = prepare(alloc, &opening, &gathered, &jobs);
+    complete(alloc, opening, gathered, jobs, prepared)
+}
+
+/// Does what [`fold`] does. If there are many families, threads of their own look at parts of them.
+pub fn fold_in_threads<R: Threads + Sync>(
     rt: &R,
     alloc: Global,
     opening: Opening,
@@ -31,7 +48,25 @@ pub fn fold<R: Threads + Sync>(
     ensures folded { IfOk result (IsFold opening gathered jobs.items) }
     ensures unfolded { IfErr result (IsUnfolded opening gathered jobs.items) }
 {
-    match prepare(rt, alloc, &opening, &gathered, &jobs) {
+    let prepared = prepare_in_threads(rt, alloc, &opening, &gathered, &jobs);
+    complete(alloc, opening, gathered, jobs, prepared)
+}
+
+// Folds what was gathered, if the audit before it let it.
+fn complete(
+    alloc: Global,
+    opening: Opening,
+    gathered: Gathered,
+    jobs: Vec<Job>,
+    prepared: Result<Prepared, AllocError>,
+) -> Result<Folded, Unfolded>
+    requires done { IsStageDone opening gathered }
+    requires ids { IdsDiffer jobs.items }
+    requires prepared { IfOk prepared (IsPrepared opening gathered jobs.items) }
+    ensures folded { IfOk result (IsFold opening gathered jobs.items) }
+    ensures unfolded { IfErr result (IsUnfolded opening gathered jobs.items) }
+{
+    match prepared {
         Ok(Prepared::Ready(ready)) => Ok(finish(alloc, opening, gathered, jobs, ready)),
         Ok(Prepared::Unsound(defect)) => Err(Unfolded::Unsound(defect)),
         Err(_) => Err(Unfolded::Memory(Unchanged {
@@ -40,6 +75,13 @@ pub fn fold<R: Threads + Sync>(
             jobs,
         })),
     }
+}
+
+// The jobs that have a receipt, and the ids of the receipts with their root keys, by id.
+#[derive(Drop)]
+struct Answered {
+    jobs: Vec<Job>,
+    ids: Vec<(u64, u64)>,
 }
 
 // What a fold needs: the ids of the receipts with their root keys, by id, and the table of the rows of all families.
@@ -59,7 +101,22 @@ enum Prepared {
 }
 
 // Audits the jobs that have a receipt, and makes what a fold needs.
-fn prepare<R: Threads + Sync>(
+fn prepare(
+    alloc: Global,
+    opening: &Opening,
+    g: &Gathered,
+    jobs: &[Job],
+) -> Result<Prepared, AllocError>
+    requires { IdsDiffer jobs.now }
+    ensures { IfOk result (IsPrepared opening.now g.now jobs.now) }
+{
+    let answered = list_answered(alloc, g, jobs)?;
+    let verdict = audit(opening, g, &answered.jobs)?;
+    make_ready(alloc, g, answered.ids, verdict)
+}
+
+// As `prepare`, with an audit in threads.
+fn prepare_in_threads<R: Threads + Sync>(
     rt: &R,
     alloc: Global,
     opening: &Opening,
@@ -69,13 +126,46 @@ fn prepare<R: Threads + Sync>(
     requires { IdsDiffer jobs.now }
     ensures { IfOk result (IsPrepared opening.now g.now jobs.now) }
 {
+    let answered = list_answered(alloc, g, jobs)?;
+    let verdict = audit_in_threads(rt, opening, g, &answered.jobs)?;
+    make_ready(alloc, g, answered.ids, verdict)
+}
+
+// The jobs that have a receipt.
+fn list_answered(alloc: Global, g: &Gathered, jobs: &[Job]) -> Result<Answered, AllocError>
+    requires { IdsDiffer jobs.now }
+    ensures ids { IfOk result (λ answered. ListsIds g.now.receipts answered.ids.items) }
+    ensures jobs { IfOk result (λ answered. answered.jobs.items
+        ≡ answered_jobs g.now.receipts jobs.now) }
+    ensures differ { IfOk result (λ answered. IdsDiffer answered.jobs.items) }
+{
     let ids = list_ids(alloc, &g.receipts)?;
     let answered = copy_answered(alloc, &ids, jobs)?;
-    if let Verdict::Unsound(defect) = audit(rt, opening, g, &answered)? {
-        return Ok(Prepared::Unsound(defect));
+    Ok(Answered {
+        jobs: answered,
+        ids,
+    })
+}
+
+// What a fold needs, if the verdict on the jobs that have a receipt is that they are sound.
+fn make_ready(
+    alloc: Global,
+    g: &Gathered,
+    ids: Vec<(u64, u64)>,
+    verdict: Verdict,
+) -> Result<Prepared, AllocError>
+    requires { ListsIds g.now.receipts ids.items }
+    ensures { IfOk result (λ prepared. (o : OpeningValue) (jobs : List Job)
+        → IsVerdict o g.now (answered_jobs g.now.receipts jobs) verdict
+        → IsPrepared o g.now jobs prepared) }
+{
+    match verdict {
+        Verdict::Sound => {
+            let table = table_of(alloc, &g.stores)?;
+            Ok(Prepared::Ready(Ready { ids, table }))
+        }
+        Verdict::Unsound(defect) => Ok(Prepared::Unsound(defect)),
     }
-    let table = table_of(alloc, &g.stores)?;
-    Ok(Prepared::Ready(Ready { ids, table }))
 }
 
 // The opening with the table, what was gathered with its logs folded and without receipts, and the jobs left.

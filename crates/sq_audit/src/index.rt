@@ -66,7 +66,7 @@ fn agree(one: &Located, other: &Located) -> bool
     }
 }
 
-/// Whether each family starts from the rows that the table has of its root key: parts of the families in threads of their own.
+/// Returns what [`start_from`] does: threads of their own look at parts of the families.
 pub(crate) fn all_start_from<R: Threads + Sync>(
     rt: &R,
     alloc: Global,
@@ -90,8 +90,8 @@ pub(crate) fn all_start_from<R: Threads + Sync>(
     all_hold(&said)
 }
 
-// Whether each family starts from the rows that the table has of its root key.
-fn start_from(table: &Table, all: &[Located]) -> bool
+/// Whether each family starts from the rows that the table has of its root key.
+pub(crate) fn start_from(table: &Table, all: &[Located]) -> bool
     ensures { Decides result (StartFrom (rows_in table.now) (entries_in all.now)) }
 {
     for located in all {

@@ -25,7 +25,7 @@ mod verdict;
 
 pub use answered::{copy_answered, count_answered, leave_unanswered, list_ids};
 pub use folded::{Folded, Unchanged, Unfolded};
-pub use folding::fold;
+pub use folding::{fold, fold_in_threads};
 pub use job::Job;
-pub use passes::audit;
+pub use passes::{audit, audit_in_threads};
 pub use verdict::{Defect, Verdict};

@@ -1,24 +1,40 @@
 // The audit.
 ghost use Rattle.std.specs.Prelude.{IfOk};
 ghost use Rattle.std.specs.Bool.{Decides};
+ghost use Rattle.sq_gather.specs.Prelude.{rows_in};
 ghost use Rattle.sq_audit.specs.Answers.{IdsDiffer};
 ghost use Rattle.sq_audit.specs.Located.{entries_in, ListsAll, AreByRoot};
+ghost use Rattle.sq_audit.specs.Index.{StartFrom};
+ghost use Rattle.sq_audit.specs.Told.{KnowsAll};
 ghost use Rattle.sq_audit.specs.Defects.{defect_number, Clears, ClearBelow, IsVerdict};
 
 use crate::answered::are_answered;
 use crate::fits::fit;
-use crate::index::{all_start_from, have_families, stand_once};
+use crate::index::{all_start_from, have_families, stand_once, start_from};
 use crate::job::Job;
 use crate::located::{Located, locate};
-use crate::told::are_known;
+use crate::told::{are_known, are_known_in_threads};
 use crate::verdict::{ALL_DEFECTS, Defect, Verdict};
 use sq_gather::{Gathered, Opening};
 use std::alloc::{AllocError, Global};
 use std::thread::Threads;
 
-/// Whether what was gathered of a run of these jobs, whose ids differ, is sound, or else its first defect. Where there are
-/// many families, parts of them are looked at in threads of their own. It is refused only where there is no memory for it.
-pub fn audit<R: Threads + Sync>(
+/// Returns whether `g`, which was gathered of a run of `jobs`, whose ids differ, is sound, or else its first defect. It is
+/// refused only if memory runs out.
+pub fn audit(opening: &Opening, g: &Gathered, jobs: &[Job]) -> Result<Verdict, AllocError>
+    requires { IdsDiffer jobs.now }
+    ensures { IfOk result (IsVerdict opening.now g.now jobs.now) }
+{
+    let alloc = *g.receipts.allocator();
+    let located = locate(alloc, g)?;
+    let all = located.as_slice();
+    let start = start_from(opening.table(), all);
+    let known = are_known(alloc, all, jobs, &g.receipts)?;
+    first_defect(alloc, opening, g, all, jobs, Found { start, known })
+}
+
+/// Returns what [`audit`] does. If there are many families, threads of their own look at parts of them.
+pub fn audit_in_threads<R: Threads + Sync>(
     rt: &R,
     opening: &Opening,
     g: &Gathered,
@@ -28,38 +44,70 @@ pub fn audit<R: Threads + Sync>(
     ensures { IfOk result (IsVerdict opening.now g.now jobs.now) }
 {
     let alloc = *g.receipts.allocator();
-    let all = locate(alloc, g)?;
+    let located = locate(alloc, g)?;
+    let all = located.as_slice();
+    let start = all_start_from(rt, alloc, opening.table(), all)?;
+    let known = are_known_in_threads(rt, alloc, all, jobs, &g.receipts)?;
+    first_defect(alloc, opening, g, all, jobs, Found { start, known })
+}
+
+// What may be looked for in parts of the families.
+#[derive(Clone, Copy, Debug)]
+struct Found {
+    // Whether each family starts from its opening rows.
+    start: bool,
+    // Whether each receipt is the answer to a job, and the committed ones name each position of each log once.
+    known: bool,
+}
+
+// The first defect, if there is one. These are all families, by root key, and this was found of them.
+fn first_defect(
+    alloc: Global,
+    opening: &Opening,
+    g: &Gathered,
+    all: &[Located],
+    jobs: &[Job],
+    found: Found,
+) -> Result<Verdict, AllocError>
+    requires listed { ListsAll g.now (entries_in all.now) }
+    requires rise { AreByRoot (entries_in all.now) }
+    requires start { Decides found.start
+        (StartFrom (rows_in opening.now.table) (entries_in all.now)) }
+    requires known { Decides found.known (KnowsAll (entries_in all.now) jobs.now g.now.receipts) }
+    ensures { IfOk result (IsVerdict opening.now g.now jobs.now) }
+{
     for defect in ALL_DEFECTS {
-        if !clears(rt, alloc, opening, g, &all, jobs, defect)? {
+        if !clears(alloc, opening, g, all, jobs, found, defect)? {
             return Ok(Verdict::Unsound(defect));
         }
     }
     Ok(Verdict::Sound)
 }
 
-// Whether what was gathered hasn't this defect, where it has none with a lower number and these are all families, by root
-// key.
-fn clears<R: Threads + Sync>(
-    rt: &R,
+// Whether what was gathered hasn't this defect, if it has none with a lower number.
+fn clears(
     alloc: Global,
     opening: &Opening,
     g: &Gathered,
     all: &[Located],
     jobs: &[Job],
+    found: Found,
     defect: Defect,
 ) -> Result<bool, AllocError>
-    requires ids { IdsDiffer jobs.now }
     requires listed { ListsAll g.now (entries_in all.now) }
     requires rise { AreByRoot (entries_in all.now) }
+    requires start { Decides found.start
+        (StartFrom (rows_in opening.now.table) (entries_in all.now)) }
+    requires known { Decides found.known (KnowsAll (entries_in all.now) jobs.now g.now.receipts) }
     requires lower { ClearBelow opening.now g.now jobs.now (defect_number defect) }
     ensures { IfOk result (λ clear. Decides clear (Clears opening.now g.now jobs.now defect)) }
 {
     match defect {
         Defect::RootMissing => Ok(have_families(opening.table(), all)),
         Defect::RootDoubled => Ok(stand_once(all)),
-        Defect::BaseChanged => all_start_from(rt, alloc, opening.table(), all),
+        Defect::BaseChanged => Ok(found.start),
         Defect::WrongPlace => fit(alloc, opening, g, all),
-        Defect::ReceiptUnknown => are_known(rt, alloc, all, jobs, &g.receipts),
+        Defect::ReceiptUnknown => Ok(found.known),
         Defect::Unanswered => are_answered(alloc, jobs, &g.receipts),
     }
 }

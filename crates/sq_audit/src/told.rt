@@ -20,7 +20,27 @@ use std::thread::Threads;
 
 /// Whether each receipt is the answer to a job, and the committed ones name each position of each log once, where these are
 /// all families, by root key.
-pub(crate) fn are_known<R: Threads + Sync>(
+pub(crate) fn are_known(
+    alloc: Global,
+    all: &[Located],
+    jobs: &[Job],
+    receipts: &[Receipt],
+) -> Result<bool, AllocError>
+    requires ids { IdsDiffer jobs.now }
+    requires rise { AreByRoot (entries_in all.now) }
+    ensures { IfOk result (λ known. Decides known
+        (KnowsAll (entries_in all.now) jobs.now receipts.now)) }
+{
+    let places = by_id(alloc, jobs)?;
+    let ids = places.as_slice();
+    let in_order = sort(alloc, receipts)?;
+    let sorted = in_order.as_slice();
+    let told = tell_logs(alloc, all, jobs, ids, sorted)?;
+    know(alloc, all, jobs, ids, receipts, sorted, told)
+}
+
+/// Returns what [`are_known`] does: threads of their own look at parts of the families.
+pub(crate) fn are_known_in_threads<R: Threads + Sync>(
     rt: &R,
     alloc: Global,
     all: &[Located],
@@ -32,16 +52,40 @@ pub(crate) fn are_known<R: Threads + Sync>(
     ensures { IfOk result (λ known. Decides known
         (KnowsAll (entries_in all.now) jobs.now receipts.now)) }
 {
-    let ids = by_id(alloc, jobs)?;
-    let sorted = sort(alloc, receipts)?;
-    if !tell_all_logs(rt, alloc, all, jobs, &ids, &sorted)? {
-        return Ok(false);
-    }
-    tell_no_log(alloc, all, jobs, &ids, receipts)
+    let places = by_id(alloc, jobs)?;
+    let ids = places.as_slice();
+    let in_order = sort(alloc, receipts)?;
+    let sorted = in_order.as_slice();
+    let told = tell_all_logs(rt, alloc, all, jobs, ids, sorted)?;
+    know(alloc, all, jobs, ids, receipts, sorted, told)
 }
 
-// Whether receipts, in order, name the logs of families that are by root key: parts of the families in threads of their
-// own.
+// Whether the receipts name all logs, which `told` says of them in order, and those of root keys without a family are of aborts
+// on no rows.
+fn know(
+    alloc: Global,
+    all: &[Located],
+    jobs: &[Job],
+    ids: &[(u64, usize)],
+    receipts: &[Receipt],
+    sorted: &[&Receipt],
+    told: bool,
+) -> Result<bool, AllocError>
+    requires ids { IdsDiffer jobs.now }
+    requires index { IsIndexOf id_of jobs.now ids.now }
+    requires rise { AreByRoot (entries_in all.now) }
+    requires all { IsPermutation receipts.now (values_of sorted.now) }
+    requires told { Decides told (TellLogs (entries_in all.now) jobs.now (values_of sorted.now)) }
+    ensures { IfOk result (λ known. Decides known
+        (KnowsAll (entries_in all.now) jobs.now receipts.now)) }
+{
+    if !told {
+        return Ok(false);
+    }
+    tell_no_log(alloc, all, jobs, ids, receipts)
+}
+
+// As `tell_logs`: threads of their own look at parts of the families.
 fn tell_all_logs<R: Threads + Sync>(
     rt: &R,
     alloc: Global,

@@ -49,7 +49,7 @@ pub fn run_jobs<R: Threads + Wait + Sync>(
     run.drive(rt, TURNS, &OpenGate);
     match run.gather(rt, alloc) {
         Ok(gathered) => {
-            let verdict = audit(rt, opening, &gathered, jobs)?;
+            let verdict = audit(opening, &gathered, jobs)?;
             Ok(Ran { gathered, verdict })
         }
         Err(_) => Err(AllocError),

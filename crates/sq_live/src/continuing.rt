@@ -5,7 +5,7 @@ ghost use Rattle.sq_live.specs.Stages.{ContinuesIfSound};
 
 use crate::account::Account;
 use crate::judging::count_commits;
-use sq_audit::{Defect, Unfolded, fold};
+use sq_audit::{Defect, Unfolded, fold_in_threads};
 use sq_gather::Gathered;
 use std::alloc::{AllocError, Global};
 use std::ops::ControlFlow;
@@ -48,7 +48,7 @@ fn fold_logs<R: Threads + Sync>(
     } = account;
     let posted = jobs.len();
     let commits = count_commits(&gathered.receipts);
-    match fold(rt, alloc, opening, gathered, jobs) {
+    match fold_in_threads(rt, alloc, opening, gathered, jobs) {
         Ok(folded) => {
             let account = Account {
                 opening: folded.opening,

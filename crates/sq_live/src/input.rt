@@ -32,8 +32,8 @@ use std::thread::Threads;
 /// stage, and asks `watch` before each step. A stage whose segments aren't all complete then stops the run. Where
 /// `manner` folds, the jobs that are answered are audited between two stages, and the logs folded.
 ///
-/// Where memory runs out, or a thread lacks it for 5 seconds or some more, the line is that of its fault. So it is where a
-/// partition has no thread, some 5 seconds after the others have no more work.
+/// Where memory runs out, or a thread lacks it for 3 seconds or some more, the line is that of its fault. So it is where a
+/// partition has no thread, some 3 seconds after the others have no more work.
 ///
 /// An error is a write or a flush that failed.
 ///

@@ -12,7 +12,7 @@ ghost use Rattle.sq_live.specs.Judged.{MarksMoved, marked_count};
 
 use crate::account::Account;
 use crate::outcome::LiveOutcome;
-use sq_audit::{Verdict, audit, count_answered};
+use sq_audit::{Verdict, audit_in_threads, count_answered};
 use sq_gather::{Gathered, reads_complete};
 use sq_node::Receipt;
 use sq_ranges::{Recon, SEGMENT_LIMIT, SegId};
@@ -45,7 +45,7 @@ pub(crate) fn judge_end<R: Threads + Sync>(
     if answered < account.jobs.len() {
         return Ok(stopped(account, g, moved, answered));
     }
-    match audit(rt, &account.opening, g, &account.jobs)? {
+    match audit_in_threads(rt, &account.opening, g, &account.jobs)? {
         Verdict::Sound => Ok(LiveOutcome::Sound {
             families: count_families(&g.stores),
             committed: account.committed + count_commits(&g.receipts),

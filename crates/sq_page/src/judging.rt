@@ -8,7 +8,7 @@ use crate::bases::opening_of_bases;
 use crate::dividing::part_of;
 use crate::least::least_of;
 use crate::page::Page;
-use sq_audit::{Verdict, audit};
+use sq_audit::{Verdict, audit_in_threads};
 use sq_gather::{Config, OpeningFault, Plan, Schema};
 use std::alloc::Global;
 use std::thread;
@@ -78,7 +78,7 @@ fn judge<R: Threads + Sync>(
     ensures { IfOk result (IsAudited plan.now page.now) }
 {
     let rest = opening_of_bases(alloc, schema, plan, config, &page.run.stores)?;
-    match audit(rt, &rest, &page.run, &page.jobs) {
+    match audit_in_threads(rt, &rest, &page.run, &page.jobs) {
         Ok(verdict) => Ok(verdict),
         Err(_) => Err(OpeningFault::Memory),
     }

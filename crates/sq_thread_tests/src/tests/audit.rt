@@ -139,7 +139,7 @@ fn defect_of<R: Threads + Abort + Sync>(
     requires { IdsDiffer jobs.now }
 {
     let opening = read_opening(rt, alloc, PAIR);
-    let verdict = audit(rt, &opening, gathered, jobs);
+    let verdict = audit(&opening, gathered, jobs);
     defect_told(verdict.expect(rt, "no memory for an audit"))
 }
 

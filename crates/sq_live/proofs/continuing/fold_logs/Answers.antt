@@ -7,8 +7,8 @@ use Rattle.sq_live.specs.Stages.{HasFolded}
 use Rattle.sq_live.proofs.Accounts.{no_more_left, account_then, has_folded}
 use Rattle.sq_live.proofs.continuing.fold_logs.Goals as goal
 
-pub fold-requires-clause-done : goal.fold-requires-clause-done
-fold-requires-clause-done g c κs region = subst (λ (a : AccountValue). IsStageDone a.opening c.args.gathered) (sym c.account.view_is) c.requires
+pub fold_in_threads-requires-clause-done : goal.fold_in_threads-requires-clause-done
+fold_in_threads-requires-clause-done g c κs region = subst (λ (a : AccountValue). IsStageDone a.opening c.args.gathered) (sym c.account.view_is) c.requires
 
 pub overflow_sub-account : goal.overflow_sub-account
 overflow_sub-account g c =

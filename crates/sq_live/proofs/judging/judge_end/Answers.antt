@@ -12,10 +12,10 @@ use Rattle.sq_live.specs.Account.{AccountValue, IsAccount}
 use Rattle.sq_live.specs.Outcome.{IsDone, answered_count, commit_count}
 use Rattle.sq_live.proofs.Moved.{all_moved}
 use Rattle.sq_live.proofs.judging.judge_end.Goals as goal
-use Rattle.sq_live.proofs.judging.judge_end.Goals.{In_ok-audit}
+use Rattle.sq_live.proofs.judging.judge_end.Goals.{In_ok-audit_in_threads}
 use Rattle.sq_live.proofs.judging.judge_end.Given.{Over}
 
-is_done : (g : Over) (c : In_ok-audit g) → IsDone c.args.account.now c.args.g.now
+is_done : (g : Over) (c : In_ok-audit_in_threads g) → IsDone c.args.account.now c.args.g.now
 is_done g c =
     let account = c.args.account.now in
     let g = c.args.g.now in
@@ -49,9 +49,9 @@ returns-in-Sound g c = λ folds.
     let stores = c.deref-in-Sound.ensures.value ∙ ap (λ (g : GatheredValue). g.stores) c.g.view_is in
     let commits = c.count_commits.ensures.commits ∙ ap commit_count (c.deref-in-Sound-2.ensures.value ∙ ap (λ (g : GatheredValue). g.receipts) c.g.view_is) in
     record {
-      is_done = is_done g (goal.at.returns-in-Sound g c).In_ok-audit;
+      is_done = is_done g (goal.at.returns-in-Sound g c).In_ok-audit_in_threads;
       sound = subst (λ (p : OpeningValue × List Job). IsVerdict p.0 c.args.g.now p.1 Sound) (λ i. ((c.account.view_is i).opening, jobs i))
-          (subst (IsVerdict c.account.inside.opening c.args.g.now c.deref-3.result.now) c.in-Sound.is c.in_ok-audit.ensures);
+          (subst (IsVerdict c.account.inside.opening c.args.g.now c.deref-3.result.now) c.in-Sound.is c.in_ok-audit_in_threads.ensures);
       families_are =
           subst (λ (ss : List StoreValue). sum_by (λ store. len store) ss < 2 ^ 64 → c.count_families.result ≡ sum_by (λ store. len store) ss) stores c.count_families.ensures;
       committed_are = λ i. (c.account.view_is i).committed + commits i;
@@ -61,7 +61,7 @@ pub returns-in-Unsound : goal.returns-in-Unsound
 returns-in-Unsound g c = λ folds.
     let jobs = c.deref-3.ensures.value ∙ ap (λ (a : AccountValue). a.jobs) c.account.view_is in
     inr (
-      is_done g (goal.at.returns-in-Unsound g c).In_ok-audit,
+      is_done g (goal.at.returns-in-Unsound g c).In_ok-audit_in_threads,
       subst (λ (p : OpeningValue × List Job). IsVerdict p.0 c.args.g.now p.1 (Unsound c.in-Unsound.defect)) (λ i. ((c.account.view_is i).opening, jobs i))
-          (subst (IsVerdict c.account.inside.opening c.args.g.now c.deref-3.result.now) c.in-Unsound.is c.in_ok-audit.ensures),
+          (subst (IsVerdict c.account.inside.opening c.args.g.now c.deref-3.result.now) c.in-Unsound.is c.in_ok-audit_in_threads.ensures),
     )

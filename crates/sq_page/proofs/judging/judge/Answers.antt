@@ -7,8 +7,8 @@ use Rattle.sq_page.specs.declared.page.Page.{Page}
 use Rattle.sq_page.specs.Bases.{IsOpeningOfBases}
 use Rattle.sq_page.proofs.judging.judge.Goals as goal
 
-pub audit-requires-after_bounds : goal.audit-requires-after_bounds
-audit-requires-after_bounds g c κs within = subst IdsDiffer (sym (c.deref-2.ensures.value ∙ ap (λ (v : Page). v.jobs.items) c.page.view_is)) c.requires
+pub audit_in_threads-requires-after_bounds : goal.audit_in_threads-requires-after_bounds
+audit_in_threads-requires-after_bounds g c κs within = subst IdsDiffer (sym (c.deref-2.ensures.value ∙ ap (λ (v : Page). v.jobs.items) c.page.view_is)) c.requires
 
 pub returns-in-Ok : goal.returns-in-Ok
 returns-in-Ok g c =
