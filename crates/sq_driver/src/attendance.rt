@@ -6,9 +6,9 @@ use std::sync::atomic::{AtomicBool, AtomicU64, Ordering};
 pub enum WorkersEnd {
     /// Each of them took its turns, or ended before: it was done, or its gate ended it.
     Done,
-    /// One of them had no work for some 5 seconds while a node or all pumps had no thread. Then all gave up.
+    /// One of them had no work for some 3 seconds while a node or all pumps had no thread. Then all gave up.
     LacksThreads,
-    /// One of them lacked memory for some 5 seconds, and could do nothing meanwhile. Then all gave up.
+    /// One of them lacked memory for some 3 seconds, and could do nothing meanwhile. Then all gave up.
     LacksMemory,
 }
 

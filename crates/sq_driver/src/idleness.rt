@@ -5,8 +5,8 @@ use crate::attendance::Attendance;
 use crate::gate::{OwnGate, rest};
 use std::sync::Wait;
 
-/// A worker gives up after this many turns in a row that lack something: after some 5 seconds, most of which it sleeps.
-pub(crate) const TURNS_LACKING: u64 = 700;
+/// A worker gives up after this many turns in a row that lack something: after some 3 seconds, most of which it sleeps.
+pub(crate) const TURNS_LACKING: u64 = 500;
 
 // By how many microseconds longer a worker sleeps after each further one of them, and for how many at most.
 const SLEEP_GROWS: u64 = 25;

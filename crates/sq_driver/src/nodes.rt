@@ -96,7 +96,7 @@ impl<T: Teller> Worker for TellingNode<T> {
 /// a chunk, it continues with jobs until it has done three times as much for them as for chunks, or finds none.
 ///
 /// It ends before if it is idle, unless the gate says that it continues then. It also ends if the gate says so, which is
-/// asked before each step and after each receipt ([`NodeStep::Answered`]), and once it has lacked memory for some 5 seconds
+/// asked before each step and after each receipt ([`NodeStep::Answered`]), and once it has lacked memory for some 3 seconds
 /// and done nothing else. The gate hears of each step in which there was something to do, and each time that the node
 /// rests after a turn without work, when it may keep it for a while.
 pub fn drive<R: Wait, G: Gate>(rt: &R, fabric: &Fabric, node: &mut Node, turns: u64, gate: &G)

@@ -63,7 +63,7 @@ impl Worker for Pump {
 /// there is one: what isn't claimed is still served where it is, and a transaction that waits can claim it.
 ///
 /// It ends before if it is done: there was nothing to claim in any segment of the running stage, and nothing is pending.
-/// It also ends if the gate says so, which is asked before each turn, and once it has lacked memory for some 5 seconds.
+/// It also ends if the gate says so, which is asked before each turn, and once it has lacked memory for some 3 seconds.
 /// The gate hears of each claim, and each time that the pump rests, when it may keep it for a while.
 pub fn drive_pump<R: Wait, G: Gate>(rt: &R, fabric: &Fabric, pump: &mut Pump, turns: u64, gate: &G)
     requires { AreSeatsOf fabric.now.trees pump.old.seats }
