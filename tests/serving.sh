@@ -206,9 +206,40 @@ served_rows_in_a_move() {
     ask "rows $room/rows.out" 'rows 50000'
     seq -f 'row %.0f 0 0 1 -' 0 49999 > "$room/wanted"
     why="$why$(difference "$room/wanted" "$room/rows.out")"
-    said_so_far "squall: line 50005: refused 217: rows move, and it is to be asked again once they don't"
+    said_so_far "squall: line 50005: $rows_move" 'squall: line 50005: a line before it asks for a move'
     refused=1
     end_engine 'serve: rows while rows move' 'sound 50000 families 1 committed'
+}
+
+# A line that is refused while rows move says which move is under way, and one that asks for too many segments how many they are.
+served_refused_moves() {
+    local answer side=1 tries plan='{"version":1,"partitions":2,"ranges":[[0,50000,OWNER],[50000,4294967296,0]]}'
+    begin_engine
+    printf '%s\n' "plan ${plan/OWNER/0}" 'config 1 64 1' >&8
+    ask "move ${plan/OWNER/1}" 'refused 113'
+    said_so_far "squall: line 3: refused 113: $(sed -n 's/^113 //p' "$tests/texts")" \
+        'squall: line 3: there would be 1563 segments, and 256 is the most: the width of a leaf is to be 7 at least'
+    refused=1
+    end_engine 'serve: a move of too many segments' 'sound 0 families 0 committed'
+    begin_engine
+    {
+        printf '%s\n' "plan ${plan/OWNER/0}" 'config 64 64 1'
+        seq -f 'row %.0f 0 0 1 -' 0 49999
+    } >&8
+    for tries in 1 2 3 4 5 6 7 8; do
+        ask "move ${plan/OWNER/$side}" 'moving 25'
+        echo fold >&8
+        answer=
+        read -r -t 30 answer <&7 || true
+        if [ "$answer" = 'refused 217' ]; then break; fi
+        read -r -t 30 answer <&7 || true
+        side=$((1 - side))
+    done
+    read -r -t 30 answer <&7 || true
+    if [ "$answer" != 'moved 25' ]; then why="$why$answer, and not moved 25; "; fi
+    said_so_far "squall: line $((50002 + 2 * tries)): $rows_move" "squall: line $((50002 + 2 * tries)): a move of 25 segments is under way"
+    refused=1
+    end_engine 'serve: a line while rows move' 'sound 50000 families 0 committed'
 }
 
 # Lines that ask nothing are reported with their numbers and the ids of their jobs, and the engine runs on: one that is none, one that
@@ -239,6 +270,7 @@ served_faults() {
         "squall: line 12: word 2, 'x', isn't a number up to 18446744073709551615, in decimal digits without a leading zero" \
         "squall: line 13: refused 101: a plan isn't JSON" 'squall: line 13: its JSON ends too soon, at its line 1, column 1' \
         'squall: line 14: refused 111: the old and the new plan have different numbers of partitions' \
+        'squall: line 14: its plan has 3 partitions, and the plan in force 2' \
         "squall: line 15: fault 126: $no_line"
     refused=10
     printf 'status' >&8 || true
@@ -273,24 +305,37 @@ served_places() {
     printf 'squall: %s\n' "$room/begin: line 3: fault 126: $no_line" "line 1: fault 126: $no_line" \
         'line 2: fault 219: there is no such partition (id 4)' "line 2: word 2 is '9'" '3 lines were refused' > "$room/said"
     judge 'serve: lines of two files and standard input' 0 "$room/wanted" "$room/said"
-    place_of_row rows.txt 2 "it is to be $(form 4)" 'row 5 0 0 10 -' '' 'row 9 0 0 20 -'
-    place_of_row rows.csv 3 "it is to be $table_form" root,table,sub,number,note 5,0,0,10, 9,0,0,
-    place_of_row rows.csv 2 "it is to be $table_form
-squall: $room/rows.csv: line 2: column 5 begins with a quote that isn't closed before the file ends" 5,0,0,10, '9,0,0,20,"ab'
+    place_of_row rows.txt 2 "it is to be $(form 4)" '' 'row 5 0 0 10 -' '' 'row 9 0 0 20 -'
+    place_of_row rows.txt 2 "it is to be $(form 4)" "$no_note" 'row 5 0 0 10 -' 'row 9 0 0 20'
+    place_of_row rows.csv 3 "it is to be $table_form" 'column 4 is empty' root,table,sub,number,note 5,0,0,10, 9,0,0,
+    place_of_row rows.csv 2 "it is to be $table_form" "column 5 begins with a quote that isn't closed before the file ends" \
+        5,0,0,10, '9,0,0,20,"ab'
     { opening; echo; } > "$room/begin"
     give /dev/null serve "$room/begin"
     echo 'fault 121 5' > "$room/wanted"
-    echo "squall: $room/begin: line 5: fault 121: it is to be $(form 4)" > "$room/said"
+    printf "squall: $room/begin: line 5: %s\n" "fault 121: it is to be $(form 4)" "$empty_word" > "$room/said"
     judge 'serve: a line of the file that is no row' 2 "$room/wanted" "$room/said"
+    place_of_fault rows.txt 2 132 "word 2 is '4294967296'" 'row 5 0 0 10 -' 'row 4294967296 0 0 20 -'
+    place_of_fault rows.csv 2 132 "column 1 is '4294967296'" 5,0,0,10, 4294967296,0,0,20,
 }
 
-# place_of_row FILE LINE SAID LINES..: in this file of rows, which has these lines, this one is no row, and standard error says that.
+# place_of_row FILE LINE FORM MISFIT LINES..: in this file of rows, which has these lines, this one is no row, and standard error says so,
+# and what doesn't fit in it if that is known.
 place_of_row() {
-    printf '%s\n' "${@:4}" > "$room/$1"
+    printf '%s\n' "${@:5}" > "$room/$1"
     give <(echo 'config 64 64 1'; echo status) serve --plan "$room/plan.json" --rows "$room/$1"
     echo "fault 121 $2" > "$room/wanted"
-    echo "squall: $room/$1: line $2: fault 121: $3" > "$room/said"
-    judge "serve: line $2 of $1 is no row" 2 "$room/wanted" "$room/said"
+    printf "squall: $room/$1: line $2: %s\n" "fault 121: $3" ${4:+"$4"} > "$room/said"
+    judge "serve: line $2 of $1 is no row, $4" 2 "$room/wanted" "$room/said"
+}
+
+# place_of_fault FILE LINE FAULT MISFIT LINES..: the same of a row with this fault.
+place_of_fault() {
+    printf '%s\n' "${@:5}" > "$room/$1"
+    give <(echo 'config 64 64 1'; echo status) serve --plan "$room/plan.json" --rows "$room/$1"
+    echo "fault $3 $2" > "$room/wanted"
+    printf "squall: $room/$1: line $2: %s\n" "fault $3: $(sed -n "s/^$3 //p" "$tests/texts")" "$4" > "$room/said"
+    judge "serve: line $2 of $1 has fault $3" 2 "$room/wanted" "$room/said"
 }
 
 # A header has as many rows as there are, also more than a portion of the input has lines: none is lost. A line among them that is no row
@@ -385,28 +430,78 @@ served_rest() {
     judge 'serve: a last row without an end' 0 "$room/wanted" /dev/null
 }
 
-# Headers that have a fault.
+# said_of_header FAULT LINE MISFIT: what standard error says of a header with this fault in this line of the input.
+said_of_header() {
+    local form text
+    case $2 in
+        1) form="'plan PLAN', as in 'plan {\"version\":1,\"partitions\":2,\"ranges\":[[0,4294967296,0]]}'" ;;
+        2) form=$(form 3) ;;
+        *) form=$(form 4) ;;
+    esac
+    text=$(sed -n "s/^$1 plan/a plan/p; s/^$1 //p" "$tests/texts")
+    if [ "$1" = 121 ]; then text="it is to be $form"; fi
+    printf "squall: line $2: %s\n" "fault $1: $text" "$3"
+}
+
+# Headers that have a fault: standard error says what `squall run` does of it, and which word or which place of the plan it is.
 served_headers() {
-    local fault line text said
-    while IFS='|' read -r fault line text; do
+    local fault line misfit text mark=$'\xef\xbb\xbf' carriage=$'\r'
+    local number='a number up to 18446744073709551615, in decimal digits without a leading zero'
+    while IFS='|' read -r fault line misfit text; do
         tr ';' '\n' <<< "$text" > "$room/header"
         give "$room/header" serve
         echo "fault $fault $line" > "$room/wanted"
-        said=$(cat "$room/err")
-        case $said in "squall: line $line: fault $fault: "?*) said= ;; esac
-        if [ "$ended" != 2 ]; then said="$said status $ended"; fi
-        count "serve: a header with fault $fault in line $line" "$said$(difference "$room/wanted" "$room/out")"
+        said_of_header "$fault" "$line" "$misfit" > "$room/said"
+        judge "serve: a header with fault $fault in line $line, $misfit" 2 "$room/wanted" "$room/said"
     done <<END
-121|1|
-121|1|config 1 64 1
-121|3|plan $all_at_0;config 1 64 1;;row 5 0 0 1 -
-121|4|plan $all_at_0;config 1 64 1;row 5 0 0 1 -;;row 9 0 0 1 -;status
-121|4|plan $all_at_0;config 1 64 1;row 5 0 0 1 -;moved;status
-101|1|plan {
-112|2|plan $all_at_0;config 0 64 1
-132|3|plan $all_at_0;config 1 64 1;row 4294967296 0 0 1 -
-136|4|plan $all_at_0;config 1 64 1;row 5 0 0 1 -;row 5 0 0 1 -
+121|1|$empty_word|
+121|1|word 1 is 'config'|config 1 64 1
+121|1|word 2 is missing: a plan|plan
+121|1|it begins with a byte order mark (the bytes EF BB BF)|${mark}plan $all_at_0
+121|2|word 4 is missing: $number|plan $all_at_0;config 1 64
+121|2|word 1, 'row', isn't 'config'|plan $all_at_0;row 5 0 0 1 -
+121|2|word 3, '064', isn't $number|plan $all_at_0;config 1 064 1
+121|3|$empty_word|plan $all_at_0;config 1 64 1;;row 5 0 0 1 -
+121|4|$empty_word|plan $all_at_0;config 1 64 1;row 5 0 0 1 -;;row 9 0 0 1 -;status
+121|4|word 1, 'moved', isn't 'row'|plan $all_at_0;config 1 64 1;row 5 0 0 1 -;moved;status
+121|3|$no_note|plan $all_at_0;config 1 64 1;row 5 0 0 1
+121|3|a carriage return (the byte 0D) stands before its end|plan $all_at_0;config 1 64 1;row 5 0 0 1 -$carriage
+101|1|its JSON ends too soon, at its line 1, column 1|plan {
+102|1|it has no field 'version'|plan {}
+105|1|its range 2 begins at 9 instead of 8|plan {"version":1,"partitions":2,"ranges":[[0,8,0],[9,4294967296,0]]}
+106|1|its range 1 belongs to partition 2 of 2, which are numbered from 0|plan {"version":1,"partitions":2,"ranges":[[0,4294967296,2]]}
+112|2|word 2 is '0'|plan $all_at_0;config 0 64 1
+114|2|word 3 is '63'|plan $all_at_0;config 1 63 1
+115|2|word 4 is '0'|plan $all_at_0;config 1 64 0
+132|3|word 2 is '4294967296'|plan $all_at_0;config 1 64 1;row 4294967296 0 0 1 -
+133|3|word 3 is '8'|plan $all_at_0;config 1 64 1;row 5 8 0 1 -
+136|4|word 2 is '5'|plan $all_at_0;config 1 64 1;row 5 0 0 1 -;row 5 0 0 1 -
 END
+    give <(echo "plan $all_at_0") serve
+    echo 'fault 121 2' > "$room/wanted"
+    said_of_header 121 2 'the input ends before it' > "$room/said"
+    judge 'serve: a header without sizes' 2 "$room/wanted" "$room/said"
+    give /dev/null serve
+    echo 'fault 121 1' > "$room/wanted"
+    said_of_header 121 1 'the input ends before it' > "$room/said"
+    judge 'serve: an empty input' 2 "$room/wanted" "$room/said"
+    served_plan_files
+}
+
+# A fault of a plan in a file of its own is told by its line and column there; one of the line of the sizes, by that line of its own file.
+served_plan_files() {
+    printf '%s\n' '{"version":1,' '"partitions":2,,' > "$room/plan.json"
+    echo 'config 64 64 1' > "$room/begin"
+    give /dev/null serve --plan "$room/plan.json" "$room/begin"
+    echo 'fault 101 1' > "$room/wanted"
+    printf "squall: $room/plan.json: %s\n" "fault 101: a plan isn't JSON" "it isn't JSON at its line 2, column 16" > "$room/said"
+    judge 'serve: a plan in a file that is not JSON' 2 "$room/wanted" "$room/said"
+    echo "$all_at_0" > "$room/plan.json"
+    echo 'config 0 64 1' > "$room/begin"
+    give /dev/null serve --plan "$room/plan.json" "$room/begin"
+    echo 'fault 112 1' > "$room/wanted"
+    printf "squall: $room/begin: line 1: %s\n" "fault 112: the width of a leaf isn't from 1 to 65536" "word 2 is '0'" > "$room/said"
+    judge 'serve: sizes behind a plan in a file' 2 "$room/wanted" "$room/said"
 }
 
 # An input that breaks off: a line without an end, and one that can't be read further. What was read before is done.
@@ -612,7 +707,10 @@ served_closed_output() {
 }
 
 try_serve() {
-    local engine why rows refused no_line='the line is no job, and none of move, fold, status, plan and rows'
+    local engine why rows refused rows_move="refused 217: rows move, and it is to be asked again once they don't"
+    local empty_word='word 1 is empty, where one space stands between two words and none at an end'
+    local no_note="word 6 is missing: a note, '-' or two digits from 0-9 and a-f for each byte"
+    local no_line='the line is no job, and none of move, fold, status, plan and rows'
     trap '' PIPE
     served_session
     served_before_a_stop
@@ -620,6 +718,7 @@ try_serve() {
     served_rows
     served_rows_in_a_move
     served_faults
+    served_refused_moves
     served_short_moves
     served_closed_output
     trap - PIPE

@@ -3,6 +3,8 @@ use Rattle.std.specs.Prelude.{◌≡◌, ◌⊎◌, ℕ, ◌≤◌, if◌then◌
 use Rattle.sq_text.specs.declared.step.TheConstants.{MAX_LINE}
 use Rattle.sq_text.specs.Words.{Word, words_of, ◌>>=◌}
 use Rattle.sq_text.specs.Fields.{number_field}
+use Rattle.sq_serve.specs.declared.faulty_header.HeaderLine.{HeaderLine}
+use Rattle.sq_serve.specs.declared.faulty_header.HeaderLine.TheVariants.{Line, Missing, Lost}
 
 -- the second of two numbers, a partition and an id
 unfoldable pub id_in : List Word → Option ℕ
@@ -23,3 +25,9 @@ job_id_of line = job_id_in (words_of line)
 -- the text is the line, which is no longer than a line may be, or there is none
 abbrev pub IsTextOf : List ℕ → List ℕ → Type 0
 IsTextOf line text = ((text ≡ line) × (length line ≤ MAX_LINE)) ⊎ (text ≡ [])
+
+-- a line of a header that is there, unless it is too long or memory ran out
+abbrev pub IsLineOf : List ℕ → HeaderLine → Type 0
+IsLineOf line (Line text) = (text.items ≡ line) × (length line ≤ MAX_LINE)
+IsLineOf line Missing = ⊥
+IsLineOf line Lost = Unit {0}

@@ -71,7 +71,7 @@ impl<R: Read> Read for Portions<R> {
 }
 
 /// How many line ends there are among bytes.
-pub(crate) fn line_ends(bytes: &[u8]) -> usize
+pub fn line_ends(bytes: &[u8]) -> usize
     ensures { result ≡ count_by (λ byte. byte == 10) bytes.now }
 {
     bytes.iter().filter(|byte| **byte == LINE_END).count()

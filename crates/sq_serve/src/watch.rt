@@ -1,7 +1,9 @@
 // Who watches an engine that is served.
 ghost use Rattle.std.specs.Prelude.{ℕ, Bool, List, is_ok};
 
+use crate::faulty_header::FaultyHeader;
 use crate::faulty_line::LineRefusal;
+use crate::refused_move::RefusedMove;
 use sq_plan::PartId;
 use std::io;
 
@@ -49,6 +51,12 @@ pub trait ServeWatch {
 
     /// Takes note of a line that is answered with a fault or a refusal.
     fn refuses(&self, refusal: LineRefusal<'_>);
+
+    /// Takes note of why a move is refused; `refuses` has noted its line before.
+    fn refuses_move(&self, _refused: RefusedMove<'_>) {}
+
+    /// Takes note of a header with a fault.
+    fn refuses_header(&self, _header: FaultyHeader) {}
 
     /// Saves a text under a name.
     fn save(&self, name: &str, text: &[u8]) -> io::Result<()>

@@ -20,7 +20,7 @@ ghost use Rattle.sq_server.specs.Closing.{expects_nothing, is_done, wish_of, is_
 use crate::bell::Bell;
 use crate::ending::{InputOutcome, ServeEnding};
 use crate::feed::{Fed, InputEnd};
-use crate::outlet::{Outlet, lines_in};
+use crate::outlet::Outlet;
 use crate::sides::SideQueues;
 use crate::txn_words::txn_words;
 use rtrb::Consumer;
@@ -720,15 +720,6 @@ impl<W: Write + Drop> ServeDesk<W> {
             (desk_value W.contents self.new) }
     {
         self.outlet.say_rows(lines);
-    }
-
-    /// Writes how many rows have these lines.
-    pub fn say_row_count(&mut self, lines: &[u8])
-        ensures { Speaks (desk_value W.contents self.old) (desk_value W.contents self.new) }
-    {
-        self.say(ServeAnswer::Rows {
-            count: lines_in(lines),
-        });
     }
 
     // Writes the plan in force.

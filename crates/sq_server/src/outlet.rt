@@ -149,8 +149,8 @@ impl<W: Write + Drop> Outlet<W> {
 // The byte that ends a line.
 const LINE_END: u8 = 10;
 
-/// How many lines a text has.
-pub(crate) fn lines_in(text: &[u8]) -> u64
+// How many lines a text has.
+fn lines_in(text: &[u8]) -> u64
     ensures { result ≡ lines_in text.now }
 {
     text.iter().filter(|byte| **byte == LINE_END).count() as u64

@@ -4,3 +4,4 @@ pub mod Written
 pub mod Opened
 pub mod WroteLines
 mod GivenRows
+mod Answered

@@ -7,3 +7,4 @@ pub mod Service
 pub mod Planned
 pub mod Telling
 pub mod Reading
+pub mod Wishes

@@ -1,22 +1,35 @@
 -- The rows of an engine that is served.
-use Rattle.std.specs.Prelude.{◌≡◌, ◌⊎◌, ℕ, Bool, List, [], Option, None, Some}
+use Rattle.std.specs.Prelude.{◌≡◌, ◌⊎◌, ℕ, Bool, true, false, List, [], Option, None, Some}
 use Rattle.std.specs.List.{flat_map}
 use Rattle.sq_store.specs.StoreValue.{StoreValue}
 use Rattle.sq_store.specs.InOrder.{families_in}
 use Rattle.sq_results.specs.Standing.{WritesRows}
+use Rattle.sq_schema.specs.Fault.{memory_number}
+use Rattle.sq_text.specs.Texts.{refused_line}
 use Rattle.sq_engine.specs.declared.standing.Standing.{Standing}
-use Rattle.sq_engine.specs.Engine.{KeepsHistoryAndJobs, stores_in}
-use Rattle.sq_server.specs.Saying.{rows_told}
+use Rattle.sq_engine.specs.declared.pause.NotTaken.{NotTaken}
+use Rattle.sq_engine.specs.declared.pause.NotTaken.TheVariants as untaken
+use Rattle.sq_engine.specs.Engine.{EngineRests, KeepsHistoryAndJobs, stores_in}
+use Rattle.sq_serve.specs.declared.line_place.LinePlace.{LinePlace}
+use Rattle.sq_serve.specs.declared.serve_answer.ServeAnswer.TheVariants.{Fault, Rows}
+use Rattle.sq_serve.specs.ServeAnswers.{serve_answer_line}
+use Rattle.sq_server.specs.declared.desk.AskedRows.{AskedRows}
+use Rattle.sq_server.specs.Saying.{lines_in, rows_told}
 use Rattle.sq_server.specs.Becoming.{ServeDeskValue, Speaks, WritesBytes}
 
 -- a text has a line for each row in stores, by rising root key and then by key
 abbrev pub IsRowsText : List StoreValue → List ℕ → Type 0
 IsRowsText stores text = WritesRows (flat_map families_in stores) (Some []) (Some text)
 
--- rows with these lines were written; or they were to be saved under a name, and a line said how that went
+-- the line of rows that were to be saved
+abbrev pub saved_line : Bool → List ℕ → List ℕ
+saved_line true lines = serve_answer_line (Rows (lines_in lines))
+saved_line false lines = refused_line 124
+
+-- rows with these lines were written; or they were to be saved under a name, and one line says how that went
 abbrev pub GivesRows : (List ℕ → List ℕ → Bool → Type 0) → Option (List ℕ) → List ℕ → ServeDeskValue → ServeDeskValue → Type 0
 GivesRows saves None lines before after = WritesBytes (rows_told lines) before after
-GivesRows saves (Some name) lines before after = Speaks before after × (saved : Bool) × saves name lines saved
+GivesRows saves (Some name) lines before after = (saved : Bool) × saves name lines saved × WritesBytes (saved_line saved lines) before after
 
 -- and they are the rows of an engine
 pub record RowsAreGiven (saves : List ℕ → List ℕ → Bool → Type 0) (engine : Standing) (file : Option (List ℕ))
@@ -26,6 +39,22 @@ pub record RowsAreGiven (saves : List ℕ → List ℕ → Bool → Type 0) (eng
   pub lines : List ℕ
   pub is : IsRowsText stores lines
   pub gives : GivesRows saves file lines before after
+
+-- the one line of rows that can't be had
+abbrev pub not_taken_line : NotTaken → LinePlace → List ℕ
+not_taken_line untaken.Moving place = refused_line 217
+not_taken_line untaken.Memory place = serve_answer_line (Fault memory_number place.line None)
+
+-- why the rows of an engine can't be had: rows move, or there is no memory
+abbrev pub WithholdsRows : Standing → NotTaken → Type 0
+WithholdsRows engine untaken.Moving = EngineRests engine → ⊥
+WithholdsRows engine untaken.Memory = Unit {0}
+
+-- a line that asks for rows is answered by them, or by the one line of why not
+abbrev pub AnswersRows : (List ℕ → List ℕ → Bool → Type 0) → AskedRows → Standing → ServeDeskValue → Standing → ServeDeskValue → Type 0
+AnswersRows saves asked old before new after =
+    RowsAreGiven saves new asked.file before after
+    ⊎ ((why : NotTaken) × WithholdsRows old why × WritesBytes (not_taken_line why asked.place) before after)
 
 -- the rows of an engine were written
 pub record TellsRows (engine : Standing) (before after : ServeDeskValue) : Type 0 where

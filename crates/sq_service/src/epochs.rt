@@ -3,6 +3,7 @@ ghost use Rattle.std.specs.Prelude.{◌≡◌, None, Some, Ok};
 ghost use Rattle.std.specs.Thread.{IsSync};
 ghost use Rattle.sq_server.specs.Becoming.{desk_value, Speaks};
 ghost use Rattle.sq_service.specs.Judging.{JudgesPage};
+ghost use Rattle.sq_service.specs.Wishes.{AnswersFold, AnswersJudged};
 ghost use Rattle.sq_service.specs.Steps.{IsWholeEngine, EpochGives, EntersPage, StepGives, first_ending};
 
 use crate::beside::Beside;
@@ -188,6 +189,8 @@ fn enter_page<W: Write + Drop>(
     desk: &mut ServeDesk<W>,
 ) -> Result<(), ServeEnding>
     ensures speaks { Speaks (desk_value W.contents desk.old) (desk_value W.contents desk.new) }
+    ensures answers { AnswersJudged is_asked judged (desk_value W.contents desk.old)
+        (desk_value W.contents desk.new) }
     ensures due { book.new.due ≡ book.old.due }
     ensures entered { EntersPage book.old.committed judged book.new.committed result }
 {
@@ -203,7 +206,9 @@ fn enter_page<W: Write + Drop>(
 
 // Writes what a sound page has, where a line asked for it.
 fn tell_folded<W: Write + Drop>(desk: &mut ServeDesk<W>, is_asked: bool, counts: PageCounts)
-    ensures { Speaks (desk_value W.contents desk.old) (desk_value W.contents desk.new) }
+    ensures speaks { Speaks (desk_value W.contents desk.old) (desk_value W.contents desk.new) }
+    ensures answers { AnswersFold is_asked counts (desk_value W.contents desk.old)
+        (desk_value W.contents desk.new) }
 {
     if is_asked {
         desk.say(ServeAnswer::Folded {

@@ -1,14 +1,31 @@
 // What the reader of an engine's input hands on, and over which rings.
 use rtrb::Producer;
 use sq_ranges::Opening;
-use sq_serve::{HeaderFault, LinePlace, LinePlaces};
+use sq_serve::{FaultyHeader, HeaderFault, HeaderLine, LinePlace, LinePlaces};
 use sq_server::{Bell, Fed, give};
-use sq_text::LocatedFault;
+use sq_text::{InputFault, LocatedFault};
 use std::alloc::Global;
 use std::sync::{Arc, Wait};
 
 /// What the header of an input spells, or its first fault.
-pub(crate) type Header = Result<Opening, HeaderFault>;
+pub(crate) type Header = Result<Opening, FaultyHeader>;
+
+/// A fault of a header, and its line.
+#[derive(Debug, Drop)]
+pub(crate) struct Refused {
+    pub(crate) located: LocatedFault,
+    pub(crate) line: HeaderLine,
+}
+
+impl Refused {
+    /// Memory ran out.
+    pub(crate) fn for_memory() -> Refused {
+        Refused {
+            located: InputFault::Memory.at_no_line(),
+            line: HeaderLine::Lost,
+        }
+    }
+}
 
 /// Where a reader hands on what it reads: the header, and what the lines after it ask. It knows where these stand.
 #[derive(Drop)]
@@ -27,10 +44,12 @@ impl<P: LinePlaces + Drop> Feeds<P> {
     }
 
     /// Hands on the fault of a header.
-    pub(crate) fn refuse<R: Wait>(&mut self, rt: &R, located: LocatedFault) {
+    pub(crate) fn refuse<R: Wait>(&mut self, rt: &R, refused: Refused) {
+        let Refused { located, line } = refused;
         let place = located.line.map(|line| self.place(line.number()));
         let fault = HeaderFault { located, place };
-        give(rt, &mut self.header, &self.bell, Err(fault));
+        let faulty = FaultyHeader { fault, line };
+        give(rt, &mut self.header, &self.bell, Err(faulty));
     }
 
     /// Hands on what a line asks, or how the input ends. Gives whether anybody takes it.

@@ -1,12 +1,15 @@
 // Moves of an engine that is served.
-ghost use Rattle.std.specs.Prelude.{◌≡◌, IfErr};
+ghost use Rattle.std.specs.Prelude.{◌≡◌, None, Some, IfOk, IfErr};
+ghost use Rattle.sq_serve.specs.declared.serve_answer.ServeAnswer.TheVariants.{Moved};
+ghost use Rattle.sq_serve.specs.ServeAnswers.{serve_answer_line};
 ghost use Rattle.sq_server.specs.Becoming.{desk_value, Speaks};
 ghost use Rattle.sq_server.specs.declared.ending.ServeEnding.TheVariants.{Memory};
 ghost use Rattle.sq_service.specs.Steps.{GoesOrLacksMemory};
+ghost use Rattle.sq_service.specs.Wishes.{WritesText, EndsMove, TellsMove, RefusesMove, AnswersMove};
 
 use crate::telling::{tell_moved, tell_moving, unread_refusal};
 use sq_engine::{Engine, NotMoved};
-use sq_serve::{LinePlace, ServeMark, ServeWatch};
+use sq_serve::{LinePlace, RefusedMove, ServeMark, ServeWatch};
 use sq_server::{AskedMove, MoveProgress, ServeDesk, ServeEnding};
 use std::alloc::{AllocError, Global};
 use std::io::Write;
@@ -22,31 +25,38 @@ pub(crate) fn begin_move<T: Threads + Wait + Sync, W: Write + Drop, V: ServeWatc
     desk: &mut ServeDesk<W>,
     watch: &V,
 ) -> Result<Engine, ServeEnding>
-    ensures { GoesOrLacksMemory engine (desk_value W.contents desk.old)
+    ensures gives { GoesOrLacksMemory engine (desk_value W.contents desk.old)
         result (desk_value W.contents desk.new) }
+    ensures answers { IfOk result (λ next. AnswersMove asked.plan engine
+        (desk_value W.contents desk.old) next (desk_value W.contents desk.new)) }
 {
     let AskedMove { place, plan } = asked;
+    let text = plan.write().ok();
     match engine.move_to(rt, alloc, plan) {
         Ok(engine) => tell_begun(engine, desk, watch),
-        Err((why, engine)) => refuse_move(engine, why, desk, watch, place),
+        Err((why, engine)) => refuse_move(engine, why, desk, watch, place, text),
     }
 }
 
-// Refuses a move of an engine that a line asks for, or ends the engine if there is no memory.
+// Refuses a move to the plan with this text that a line asks for, or ends the engine if there is no memory.
 fn refuse_move<W: Write + Drop, V: ServeWatch>(
     engine: Engine,
     why: NotMoved,
     desk: &mut ServeDesk<W>,
     watch: &V,
     place: LinePlace,
+    text: Option<String>,
 ) -> Result<Engine, ServeEnding>
-    ensures { GoesOrLacksMemory engine (desk_value W.contents desk.old)
+    ensures gives { GoesOrLacksMemory engine (desk_value W.contents desk.old)
         result (desk_value W.contents desk.new) }
+    ensures refuses { IfOk result (λ next. RefusesMove why
+        (desk_value W.contents desk.old) (desk_value W.contents desk.new)) }
 {
     match why {
         NotMoved::Plans(fault) => {
             let number = fault.number();
             desk.say_refused(watch, unread_refusal(number, place));
+            explain_move(&engine, watch, number, place, desk.plan.as_str(), text);
             Ok(engine)
         }
         NotMoved::Moving | NotMoved::Memory => {
@@ -56,14 +66,37 @@ fn refuse_move<W: Write + Drop, V: ServeWatch>(
     }
 }
 
+// Lets `watch` know why a move from `old` to the plan with this text is refused, if the text is there.
+fn explain_move<V: ServeWatch>(
+    engine: &Engine,
+    watch: &V,
+    number: u16,
+    place: LinePlace,
+    old: &str,
+    text: Option<String>,
+) {
+    if let Some(text) = &text {
+        watch.refuses_move(RefusedMove {
+            number,
+            place,
+            old,
+            new: text.as_str(),
+            width: engine.opening().config().width,
+        });
+    }
+}
+
 // Writes that the move of an engine begins, and where nothing moves that it is done.
 fn tell_begun<W: Write + Drop, V: ServeWatch>(
     engine: Engine,
     desk: &mut ServeDesk<W>,
     watch: &V,
 ) -> Result<Engine, ServeEnding>
-    ensures { GoesOrLacksMemory engine (desk_value W.contents desk.old)
+    ensures gives { GoesOrLacksMemory engine (desk_value W.contents desk.old)
         result (desk_value W.contents desk.new) }
+    ensures same { IfOk result (λ next. next ≡ engine) }
+    ensures tells { IfOk result (λ next. TellsMove next
+        (desk_value W.contents desk.old) (desk_value W.contents desk.new)) }
 {
     let progress = MoveProgress {
         segments: engine.opening().recon().segments().len() as u64,
@@ -82,21 +115,41 @@ fn tell_begun<W: Write + Drop, V: ServeWatch>(
     }
 }
 
-/// Tells where a move is done.
+/// Writes that a move is done, if one was under way and nothing moves any more.
 pub(crate) fn note_rest<W: Write + Drop, V: ServeWatch>(
     engine: &Engine,
     desk: &mut ServeDesk<W>,
     watch: &V,
 ) -> Result<(), ServeEnding>
     ensures speaks { Speaks (desk_value W.contents desk.old) (desk_value W.contents desk.new) }
+    ensures ends { IfOk result (λ done. EndsMove engine.now
+        (desk_value W.contents desk.old) (desk_value W.contents desk.new)) }
     ensures memory { IfErr result (λ ending. ending ≡ Memory) }
 {
     match desk.moving {
-        Some(progress) if engine.is_at_rest() => {
-            watch.mark(ServeMark::MoveEnds);
-            end_move(engine, desk, progress.segments)
-        }
-        _ => Ok(()),
+        Some(progress) => note_end(engine, desk, watch, progress),
+        None => Ok(()),
+    }
+}
+
+// Writes that the move that is so far is done, if nothing moves any more.
+fn note_end<W: Write + Drop, V: ServeWatch>(
+    engine: &Engine,
+    desk: &mut ServeDesk<W>,
+    watch: &V,
+    progress: MoveProgress,
+) -> Result<(), ServeEnding>
+    requires { desk.old.moving ≡ Some progress }
+    ensures speaks { Speaks (desk_value W.contents desk.old) (desk_value W.contents desk.new) }
+    ensures ends { IfOk result (λ done. EndsMove engine.now
+        (desk_value W.contents desk.old) (desk_value W.contents desk.new)) }
+    ensures memory { IfErr result (λ ending. ending ≡ Memory) }
+{
+    if engine.is_at_rest() {
+        watch.mark(ServeMark::MoveEnds);
+        end_move(engine, desk, progress.segments)
+    } else {
+        Ok(())
     }
 }
 
@@ -107,6 +160,9 @@ fn end_move<W: Write + Drop>(
     segments: u64,
 ) -> Result<(), ServeEnding>
     ensures speaks { Speaks (desk_value W.contents desk.old) (desk_value W.contents desk.new) }
+    ensures line { IfOk result (λ done. WritesText (serve_answer_line (Moved segments))
+        (desk_value W.contents desk.old) (desk_value W.contents desk.new)) }
+    ensures moving { IfOk result (λ done. desk.new.moving ≡ None) }
     ensures memory { IfErr result (λ ending. ending ≡ Memory) }
 {
     match engine.opening().new_plan().write() {

@@ -1,5 +1,7 @@
 // The first line of an engine's input, which spells the plan.
+use crate::feeds::Refused;
 use sq_inputs::plan_lines;
+use sq_serve::HeaderLine;
 use sq_text::{InputFault, InputLine, LocatedFault, MAX_LINE};
 use std::alloc::{AllocError, Global};
 use std::io::Read;
@@ -14,23 +16,38 @@ const FIRST_ROW: u64 = 4;
 const LINE_END: u8 = 10;
 
 /// The first two lines of a header, made of the first line of an input, `plan JSON`: both of them have this plan.
-pub(crate) fn header_start<I: Read>(alloc: Global, input: &mut I) -> Result<Vec<u8>, LocatedFault> {
+pub(crate) fn header_start<I: Read>(alloc: Global, input: &mut I) -> Result<Vec<u8>, Refused> {
     match first_line(alloc, input) {
         Ok(line) => plan_twice(alloc, line.as_slice()),
-        Err(InputFault::Memory) => Err(InputFault::Memory.at_no_line()),
-        Err(fault) => Err(fault.at(InputLine::Old)),
+        Err(InputFault::Memory) => Err(Refused::for_memory()),
+        Err(fault) => Err(Refused {
+            located: fault.at(InputLine::Old),
+            line: unread_line(fault),
+        }),
+    }
+}
+
+/// The line that has this fault and wasn't read: where it isn't of its form the input ends before it.
+pub(crate) fn unread_line(fault: InputFault) -> HeaderLine {
+    if fault == InputFault::BadHeader {
+        HeaderLine::Missing
+    } else {
+        HeaderLine::Lost
     }
 }
 
 // The two lines of the plan that a line spells.
-fn plan_twice(alloc: Global, line: &[u8]) -> Result<Vec<u8>, LocatedFault> {
+fn plan_twice(alloc: Global, line: &[u8]) -> Result<Vec<u8>, Refused> {
     if !line.starts_with(PLAN) {
-        return Err(InputFault::BadHeader.at(InputLine::Old));
+        return Err(Refused {
+            located: InputFault::BadHeader.at(InputLine::Old),
+            line: HeaderLine::of(alloc, line),
+        });
     }
     let text = &line[PLAN.len()..];
     match plan_lines(alloc, text, text) {
         Ok(lines) => Ok(lines),
-        Err(AllocError) => Err(InputFault::Memory.at_no_line()),
+        Err(AllocError) => Err(Refused::for_memory()),
     }
 }
 

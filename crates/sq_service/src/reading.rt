@@ -1,12 +1,12 @@
 // The reader of an engine's input.
 use crate::asking::{fed_of, largest_schema};
-use crate::feeds::Feeds;
-use crate::plan_line::{header_start, line_at, on_later_line, on_one_line};
+use crate::feeds::{Feeds, Refused};
+use crate::plan_line::{header_start, line_at, on_later_line, on_one_line, unread_line};
 use sq_lines::{LineReader, MAX_LINES, MAX_UNENDED, Next};
 use sq_ranges::Opening;
-use sq_serve::{Following, LinePlaces, Portions, begins_serve_line};
+use sq_serve::{Following, HeaderLine, LinePlaces, Portions, begins_serve_line};
 use sq_server::{Fed, InputEnd};
-use sq_text::{InputFault, MAX_LINE, read_header, take_rows};
+use sq_text::{InputFault, LocatedFault, MAX_LINE, read_header, take_rows};
 use std::alloc::Global;
 use std::io;
 use std::io::Read;
@@ -51,8 +51,8 @@ fn read_input<R: Wait, I: Read + Drop, P: LinePlaces + Drop>(
     let mut input = input;
     let head = match header_start(alloc, &mut input) {
         Ok(head) => head,
-        Err(fault) => {
-            feeds.refuse(rt, fault);
+        Err(refused) => {
+            feeds.refuse(rt, refused);
             return None;
         }
     };
@@ -114,15 +114,31 @@ fn read_first<R: Wait, I: Read + Drop, P: LinePlaces + Drop>(
     input: I,
 ) -> Option<PortionEnd> {
     let Ok(mut lines) = LineReader::new(alloc, input) else {
-        feeds.refuse(rt, InputFault::Memory.at_no_line());
+        feeds.refuse(rt, Refused::for_memory());
         return None;
     };
     match read_header(alloc, largest_schema(), &mut lines) {
         Ok(opening) => read_after_rows(rt, alloc, feeds, 0, opening, &mut lines),
-        Err(fault) => {
-            feeds.refuse(rt, on_one_line(fault));
+        Err(located) => {
+            let line = faulty_line(alloc, &lines, &located);
+            let located = on_one_line(located);
+            feeds.refuse(rt, Refused { located, line });
             None
         }
+    }
+}
+
+// The line of a header that has this fault; it is numbered as in its portion.
+fn faulty_line<I: Read>(
+    alloc: Global,
+    lines: &LineReader<I>,
+    located: &LocatedFault,
+) -> HeaderLine {
+    match located.line {
+        Some(line) if u64::from(lines.next_line_number()) > line.number() => {
+            HeaderLine::of(alloc, lines.piece())
+        }
+        _ => unread_line(located.fault),
     }
 }
 
@@ -152,13 +168,15 @@ fn read_rows<R: Wait, I: Read + Drop, P: LinePlaces + Drop>(
 ) -> Option<PortionEnd> {
     let mut opening = opening;
     let Ok(mut lines) = LineReader::new(alloc, portion) else {
-        feeds.refuse(rt, InputFault::Memory.at_no_line());
+        feeds.refuse(rt, Refused::for_memory());
         return None;
     };
     match take_rows(alloc, &mut lines, &mut opening) {
         Ok(()) => read_after_rows(rt, alloc, feeds, number, opening, &mut lines),
-        Err(fault) => {
-            feeds.refuse(rt, on_later_line(fault, number));
+        Err(located) => {
+            let line = HeaderLine::of(alloc, lines.piece());
+            let located = on_later_line(located, number);
+            feeds.refuse(rt, Refused { located, line });
             None
         }
     }
@@ -180,7 +198,9 @@ fn read_after_rows<R: Wait, I: Read + Drop, P: LinePlaces + Drop>(
         return Some(PortionEnd::Header(opening));
     }
     if let Some(fault) = fault_after_rows(next, lines.piece()) {
-        feeds.refuse(rt, fault.at(line_at(line)));
+        let located = fault.at(line_at(line));
+        let line = HeaderLine::of(alloc, lines.piece());
+        feeds.refuse(rt, Refused { located, line });
         return None;
     }
     feeds.open(rt, opening);

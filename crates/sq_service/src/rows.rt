@@ -1,15 +1,16 @@
 // The rows of an engine that is served.
 ghost use Rattle.std.specs.Prelude.{◌⊎◌, IfOk, IsSome, Some};
+ghost use Rattle.sq_engine.specs.declared.pause.NotTaken.TheVariants as untaken;
 ghost use Rattle.sq_engine.specs.Engine.{stores_in};
-ghost use Rattle.sq_server.specs.Becoming.{desk_value, Speaks};
-ghost use Rattle.sq_service.specs.Rows.{IsRowsText, GivesRows, RowsAreGiven, TellsRowsOrSpeaks};
+ghost use Rattle.sq_server.specs.Becoming.{desk_value, WritesBytes};
+ghost use Rattle.sq_service.specs.Rows.{IsRowsText, GivesRows, RowsAreGiven, TellsRowsOrSpeaks, not_taken_line, AnswersRows};
 
 use crate::telling::unread_refusal;
 use sq_engine::{Engine, NotTaken};
 use sq_results::write_stored_rows;
 use sq_runs::RunStore;
 use sq_schema::OUT_OF_MEMORY;
-use sq_serve::{LinePlace, RowsFile, ServeWatch};
+use sq_serve::{LinePlace, RowsFile, ServeAnswer, ServeWatch, line_ends};
 use sq_server::{AskedRows, ServeDesk};
 use std::alloc::Global;
 use std::io;
@@ -32,8 +33,10 @@ pub(crate) fn tell_rows<R: Wait, W: Write + Drop, V: ServeWatch>(
     watch: &V,
     asked: AskedRows,
 ) -> Engine
-    ensures { TellsRowsOrSpeaks engine (desk_value W.contents desk.old)
+    ensures tells { TellsRowsOrSpeaks engine (desk_value W.contents desk.old)
         result (desk_value W.contents desk.new) }
+    ensures answers { AnswersRows (V.Saves watch.now) asked engine
+        (desk_value W.contents desk.old) result (desk_value W.contents desk.new) }
 {
     match engine.pause(rt, alloc) {
         Ok(engine) => {
@@ -54,7 +57,8 @@ fn say_not_paused<W: Write + Drop, V: ServeWatch>(
     why: NotTaken,
     place: LinePlace,
 )
-    ensures { Speaks (desk_value W.contents desk.old) (desk_value W.contents desk.new) }
+    ensures { WritesBytes (not_taken_line why place) (desk_value W.contents desk.old)
+        (desk_value W.contents desk.new) }
 {
     match why {
         NotTaken::Moving => desk.say_refused(watch, unread_refusal(MOVING, place)),
@@ -73,7 +77,8 @@ fn give_engine_rows<W: Write + Drop, V: ServeWatch>(
     requires { IsSome (stores_in engine.now) }
     ensures { RowsAreGiven (V.Saves watch.now) engine.now asked.file
         (desk_value W.contents desk.old) (desk_value W.contents desk.new)
-        ⊎ Speaks (desk_value W.contents desk.old) (desk_value W.contents desk.new) }
+        ⊎ WritesBytes (not_taken_line untaken.Memory asked.place)
+        (desk_value W.contents desk.old) (desk_value W.contents desk.new) }
 {
     let Some(stores) = engine.stores() else {
         unreachable!()
@@ -122,7 +127,9 @@ fn save_rows<W: Write + Drop, V: ServeWatch>(
         (desk_value W.contents desk.old) (desk_value W.contents desk.new) }
 {
     match watch.save(file.name(), lines) {
-        Ok(()) => desk.say_row_count(lines),
+        Ok(()) => desk.say(ServeAnswer::Rows {
+            count: line_ends(lines) as u64,
+        }),
         Err(_) => desk.say_refused(watch, unread_refusal(UNWRITTEN, place)),
     }
 }

@@ -177,8 +177,10 @@ fn serve_header<T: Threads + Wait + Sync, W: Write + Drop, V: ServeWatch>(
 {
     match header {
         Ok(opening) => serve_opening(rt, alloc, opening, lines, outlet, config, watch),
-        Err(fault) => {
+        Err(faulty) => {
             drop(lines);
+            let fault = faulty.fault;
+            watch.refuses_header(faulty);
             (outlet, ServeEnding::NoHeader(fault))
         }
     }

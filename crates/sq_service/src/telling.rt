@@ -1,7 +1,10 @@
 // Lines about moves, and about how an engine that was served ends.
-ghost use Rattle.std.specs.Prelude.{◌≡◌};
+ghost use Rattle.std.specs.Prelude.{◌≡◌, None, Some};
+ghost use Rattle.sq_serve.specs.declared.serve_answer.ServeAnswer.TheVariants.{Moving, Moved};
+ghost use Rattle.sq_serve.specs.ServeAnswers.{serve_answer_line};
 ghost use Rattle.sq_server.specs.Becoming.{desk_value, Speaks};
 ghost use Rattle.sq_service.specs.Telling.{line_of_fault, IsLineOfEnding, SaysLine, TellsEnding};
+ghost use Rattle.sq_service.specs.Wishes.{WritesText};
 
 use sq_live::LiveOutcome;
 use sq_schema::OUT_OF_MEMORY;
@@ -11,7 +14,10 @@ use std::io::Write;
 
 /// Tells that a move of so many segments begins.
 pub(crate) fn tell_moving<W: Write + Drop>(desk: &mut ServeDesk<W>, progress: MoveProgress)
-    ensures { Speaks (desk_value W.contents desk.old) (desk_value W.contents desk.new) }
+    ensures speaks { Speaks (desk_value W.contents desk.old) (desk_value W.contents desk.new) }
+    ensures line { WritesText (serve_answer_line (Moving progress.segments))
+        (desk_value W.contents desk.old) (desk_value W.contents desk.new) }
+    ensures moving { desk.new.moving ≡ Some progress }
 {
     let segments = progress.segments;
     desk.say(ServeAnswer::Moving { segments });
@@ -20,7 +26,10 @@ pub(crate) fn tell_moving<W: Write + Drop>(desk: &mut ServeDesk<W>, progress: Mo
 
 /// Writes that a move of so many segments to the plan with this text is done.
 pub(crate) fn tell_moved<W: Write + Drop>(desk: &mut ServeDesk<W>, plan: String, segments: u64)
-    ensures { Speaks (desk_value W.contents desk.old) (desk_value W.contents desk.new) }
+    ensures speaks { Speaks (desk_value W.contents desk.old) (desk_value W.contents desk.new) }
+    ensures line { WritesText (serve_answer_line (Moved segments))
+        (desk_value W.contents desk.old) (desk_value W.contents desk.new) }
+    ensures moving { desk.new.moving ≡ None }
 {
     desk.plan = plan;
     desk.moving = None;
@@ -28,7 +37,11 @@ pub(crate) fn tell_moved<W: Write + Drop>(desk: &mut ServeDesk<W>, plan: String,
 }
 
 /// The refusal with this number of a line that stands there. Its text isn't kept.
-pub(crate) fn unread_refusal(number: u16, place: LinePlace) -> LineRefusal<'static> {
+pub(crate) fn unread_refusal(number: u16, place: LinePlace) -> LineRefusal<'static>
+    ensures number { result.number ≡ number }
+    ensures place { result.place ≡ place }
+    ensures no_id { result.id ≡ None }
+{
     LineRefusal {
         number,
         place,

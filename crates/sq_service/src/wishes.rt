@@ -1,7 +1,9 @@
 // What an epoch of an engine that is served ended for.
-ghost use Rattle.std.specs.Prelude.{◌≡◌, false, None, IsOk};
+ghost use Rattle.std.specs.Prelude.{◌≡◌, false, None, IfOk, IsOk};
 ghost use Rattle.sq_server.specs.Becoming.{desk_value};
+ghost use Rattle.sq_server.specs.Closing.{wish_of};
 ghost use Rattle.sq_service.specs.Steps.{StepGives};
+ghost use Rattle.sq_service.specs.Wishes.{IsPromised, AnswersWish, AnswersTaken};
 
 use crate::closing::close_unless_jobs_wait;
 use crate::moving::{begin_move, note_rest};
@@ -77,8 +79,10 @@ fn fulfil<T: Threads + Wait + Sync, W: Write + Drop, V: ServeWatch>(
     book: &mut PageBook,
 ) -> Result<Engine, ServeEnding>
     requires { book.old.due ≡ None }
-    ensures { StepGives book.old engine (desk_value W.contents desk.old)
+    ensures gives { StepGives book.old engine (desk_value W.contents desk.old)
         book.new result (desk_value W.contents desk.new) }
+    ensures answers { AnswersTaken (V.Saves watch.now) (wish_of desk.old) engine
+        (desk_value W.contents desk.old) book.new.due result (desk_value W.contents desk.new) }
 {
     match desk.take_wish() {
         None => Ok(engine),
@@ -97,8 +101,10 @@ fn grant<T: Threads + Wait + Sync, W: Write + Drop, V: ServeWatch>(
     wish: Wish,
 ) -> Result<Engine, ServeEnding>
     requires { book.old.due ≡ None }
-    ensures { StepGives book.old engine (desk_value W.contents desk.old)
+    ensures gives { StepGives book.old engine (desk_value W.contents desk.old)
         book.new result (desk_value W.contents desk.new) }
+    ensures answers { IfOk result (λ next. AnswersWish (V.Saves watch.now) wish engine
+        (desk_value W.contents desk.old) book.new.due next (desk_value W.contents desk.new)) }
 {
     match wish {
         Wish::Page => take_page(rt, alloc, engine, desk, book, false),
@@ -119,8 +125,10 @@ fn take_page<T: Threads + Wait + Sync, W: Write + Drop>(
     is_asked: bool,
 ) -> Result<Engine, ServeEnding>
     requires { book.old.due ≡ None }
-    ensures { StepGives book.old engine (desk_value W.contents desk.old)
+    ensures gives { StepGives book.old engine (desk_value W.contents desk.old)
         book.new result (desk_value W.contents desk.new) }
+    ensures due { IfOk result (λ next. IsPromised is_asked book.new.due) }
+    ensures silent { desk_value W.contents desk.new ≡ desk_value W.contents desk.old }
 {
     match engine.take_page(rt, alloc) {
         Ok((page, engine)) => {

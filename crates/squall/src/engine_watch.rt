@@ -10,7 +10,7 @@ use crate::serving::EngineInput;
 use crate::session::{REFUSED, refuse_for_memory};
 use sq_outputs::{Output, conflict_among, place_of, place_of_standard_input};
 use sq_report::{FiguresForm, Stopwatch, TimelineForm};
-use sq_serve::{LineRefusal, ServeMark, ServeWatch};
+use sq_serve::{FaultyHeader, LineRefusal, RefusedMove, ServeMark, ServeWatch};
 use sq_serve_report::ServeRecord;
 use std::io;
 use std::rt::Files;
@@ -26,6 +26,8 @@ pub struct EngineWatch<'a, T> {
     record: Option<Mutex<ServeRecord>>,
     // The files in which no rows are saved.
     places: PlacesInUse,
+    // The header that has a fault, if it has one.
+    faulty: Mutex<Option<FaultyHeader>>,
     /// Says why lines are refused.
     pub reasons: Reasons<'a, T>,
 }
@@ -42,11 +44,17 @@ impl<'a, T: Clock + Wait + Print + Eprint + Files + AllocGlobal> EngineWatch<'a,
                 stopwatch: Stopwatch::start(rt),
                 record: record_of(rt, input),
                 places,
+                faulty: Mutex::new(None),
                 reasons: Reasons::new(rt, input),
             }),
             Ok(None) => Err(REFUSED),
             Err(_) => Err(refuse_for_memory(rt)),
         }
+    }
+
+    /// Takes the header that has a fault, if it has one.
+    pub fn take_faulty(&self) -> Option<FaultyHeader> {
+        self.faulty.lock(self.rt).take()
     }
 
     /// Writes the reports that are wanted. Gives whether none is missing; standard error says why one is.
@@ -105,6 +113,7 @@ impl<T: Clock + Wait + Print + Eprint + Files + AllocGlobal> ServeWatch for Engi
     ghost Saves = { λ _ _ _ _. Unit {0} };
 
     fn mark(&self, mark: ServeMark) {
+        self.reasons.note(mark);
         if let Some(record) = &self.record {
             record.lock(self.rt).note(mark, self.stopwatch.micros());
         }
@@ -112,6 +121,14 @@ impl<T: Clock + Wait + Print + Eprint + Files + AllocGlobal> ServeWatch for Engi
 
     fn refuses(&self, refusal: LineRefusal<'_>) {
         self.reasons.tell(refusal);
+    }
+
+    fn refuses_move(&self, refused: RefusedMove<'_>) {
+        self.reasons.tell_move(refused);
+    }
+
+    fn refuses_header(&self, header: FaultyHeader) {
+        *self.faulty.lock(self.rt) = Some(header);
     }
 
     fn save(&self, name: &str, text: &[u8]) -> io::Result<()> {

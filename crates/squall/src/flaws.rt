@@ -9,10 +9,11 @@ use sq_diagnosis::{
 };
 use sq_inputs::{Recalled, Recalling};
 use sq_live::{JobFault, JobLineFault};
-use sq_plan::PlanFault;
+use sq_plan::{Plan, PlanFault};
+use sq_ranges::{OpeningFault, ReconFault};
 use sq_row_lines::NO_ROW;
 use sq_schema::{MAX_TABLES, Schema};
-use sq_serve::{LineRefusal, ServeFault, read_serve_line};
+use sq_serve::{FaultyHeader, HeaderLine, LineRefusal, RefusedMove, ServeFault, read_serve_line};
 use sq_text::{InputFault, InputLine, LocatedFault};
 use std::alloc::Global;
 use std::fmt;
@@ -29,6 +30,9 @@ const ID: usize = 3;
 const NO_PARTITION: u16 = 219;
 
 const REPEATED_ID: u16 = 127;
+
+// The word that the first line of an engine's header begins with.
+const PLAN: &[u8] = b"plan";
 
 // What a line begins with that asks for a move.
 const MOVE: &[u8] = b"move ";
@@ -50,6 +54,8 @@ enum Misfit<'a> {
     Plan(PlanFlaw),
     /// Its sizes cut the move into too many segments.
     Segments(SegmentFlaw),
+    /// Its plan has other partitions than the plan in force.
+    Partitions { asked: u8, in_force: u8 },
 }
 
 impl<'a> Misfit<'a> {
@@ -73,6 +79,10 @@ impl Display for Misfit<'_> {
             Misfit::Column(column) => write!(f, "{column}"),
             Misfit::Plan(flaw) => write!(f, "{flaw}"),
             Misfit::Segments(flaw) => write!(f, "{flaw}"),
+            Misfit::Partitions { asked, in_force } => write!(
+                f,
+                "its plan has {asked} partitions, and the plan in force {in_force}"
+            ),
         }
     }
 }
@@ -168,6 +178,39 @@ pub fn tell_misfit_of_refused<T: Eprint + AllocGlobal>(
     refusal: &LineRefusal<'_>,
 ) {
     if let Some(misfit) = misfit_of_refused(rt.alloc(), refusal.number, refusal.text) {
+        let _ = eprintln!(rt; "squall: {place}: {misfit}");
+    }
+}
+
+/// Says on standard error why an engine refuses a move, if that can be found.
+pub fn tell_misfit_of_move<T: Eprint + AllocGlobal>(
+    rt: &T,
+    place: FaultPlace<'_>,
+    refused: &RefusedMove<'_>,
+) {
+    if let Some(misfit) = misfit_of_move(rt.alloc(), refused) {
+        let _ = eprintln!(rt; "squall: {place}: {misfit}");
+    }
+}
+
+/// Says on standard error what doesn't fit in the line of an engine's header that has a fault, where that can be found.
+pub fn tell_misfit_of_header<T: Eprint + Files + AllocGlobal>(
+    rt: &T,
+    place: FaultPlace<'_>,
+    header: &FaultyHeader,
+    is_record: bool,
+) {
+    if let (FaultPlace::File(name), InputFault::Plan(fault)) = (place, header.fault.located.fault) {
+        tell_plan_of_file(rt, name, fault);
+        return;
+    }
+    let misfit = misfit_of_header(rt.alloc(), header);
+    let told = if is_record {
+        misfit.map(Misfit::in_columns)
+    } else {
+        misfit
+    };
+    if let Some(misfit) = told {
         let _ = eprintln!(rt; "squall: {place}: {misfit}");
     }
 }
@@ -295,5 +338,72 @@ fn misfit_of_asked(alloc: Global, line: &[u8]) -> Option<Misfit<'_>> {
             Some(Misfit::Plan(plan_flaw(alloc, fault, text)?))
         }
         _ => None,
+    }
+}
+
+// Why an engine refuses a move.
+fn misfit_of_move<'a>(alloc: Global, refused: &RefusedMove<'_>) -> Option<Misfit<'a>> {
+    let number = refused.number;
+    if number == ReconFault::PartitionsDiffer.number() {
+        let asked = Plan::read(alloc, refused.new.as_bytes()).ok()?.parts();
+        let in_force = Plan::read(alloc, refused.old.as_bytes()).ok()?.parts();
+        Some(Misfit::Partitions { asked, in_force })
+    } else if number == ReconFault::TooManySegments.number() {
+        Some(Misfit::Segments(segments_of_move(alloc, refused)?))
+    } else {
+        None
+    }
+}
+
+// Why a move that an engine refuses would have too many segments.
+fn segments_of_move(alloc: Global, refused: &RefusedMove<'_>) -> Option<SegmentFlaw> {
+    let old = format!(in alloc; "old {}", refused.old).ok()?;
+    let new = format!(in alloc; "new {}", refused.new).ok()?;
+    let sizes = format!(in alloc; "config {}", refused.width).ok()?;
+    let lines = MoveLines {
+        old: old.as_bytes(),
+        new: new.as_bytes(),
+        sizes: sizes.as_bytes(),
+    };
+    segment_flaw(
+        alloc,
+        OpeningFault::Recon(ReconFault::TooManySegments),
+        lines,
+    )
+}
+
+// What doesn't fit in the line of an engine's header that has a fault.
+fn misfit_of_header(alloc: Global, header: &FaultyHeader) -> Option<Misfit<'_>> {
+    let located = header.fault.located;
+    let recalled = match &header.line {
+        HeaderLine::Line(line) => Recalled::Line(line),
+        HeaderLine::Missing => Recalled::Missing,
+        HeaderLine::Lost => Recalled::Lost,
+    };
+    match (located.line?.number(), located.fault, recalled) {
+        (1, InputFault::BadHeader, Recalled::Line(line)) => Some(misfit_of_first(line)),
+        (1, fault, recalled) => misfit_of(alloc, InputLine::Old, fault, recalled),
+        (2, fault, recalled) => misfit_of(alloc, InputLine::Config, fault, recalled),
+        (_, fault, recalled) => misfit_of(alloc, InputLine::Row(0), fault, recalled),
+    }
+}
+
+// What doesn't fit in a first line of an engine's header that isn't `plan PLAN`.
+fn misfit_of_first(line: &[u8]) -> Misfit<'_> {
+    match plan_line_flaw(Wanted::Old, line) {
+        Some(LineFlaw::Wrong { .. } | LineFlaw::Missing { .. }) if line == PLAN => {
+            Misfit::Flaw(ToldFlaw {
+                line,
+                flaw: LineFlaw::Missing {
+                    at: 2,
+                    wanted: Wanted::Plan,
+                },
+            })
+        }
+        Some(flaw @ (LineFlaw::Mark | LineFlaw::Empty { .. })) => Misfit::Flaw(ToldFlaw {
+            line,
+            flaw,
+        }),
+        _ => Misfit::Word(ToldWord { line, at: 1 }),
     }
 }

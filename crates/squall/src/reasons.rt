@@ -1,8 +1,9 @@
 // Why lines of an engine's input are refused, as standard error says it.
-use crate::flaws::tell_misfit_of_refused;
+use crate::flaws::{tell_misfit_of_move, tell_misfit_of_refused};
 use crate::serving::EngineInput;
+use crate::source::FaultPlace;
 use sq_explain::meaning;
-use sq_serve::LineRefusal;
+use sq_serve::{LineRefusal, RefusedMove, ServeMark};
 use std::fmt;
 use std::fmt::{Display, Formatter, Write};
 use std::sync::atomic::{AtomicU64, Ordering};
@@ -16,12 +17,17 @@ const MOVING: u16 = 217;
 // The number of the refusal after a file wasn't written.
 const UNWRITTEN: u16 = 124;
 
+// No move has as many segments.
+const NO_MOVE: u64 = u64::MAX;
+
 /// Says on standard error why lines of an engine's input are refused, and counts them.
 #[derive(Drop)]
 pub struct Reasons<'a, T> {
     rt: &'a T,
     input: EngineInput<'a>,
     count: AtomicU64,
+    // The segments of the move that is under way, or `NO_MOVE`.
+    moving: AtomicU64,
 }
 
 impl<'a, T: Eprint + AllocGlobal> Reasons<'a, T> {
@@ -31,15 +37,49 @@ impl<'a, T: Eprint + AllocGlobal> Reasons<'a, T> {
             rt,
             input,
             count: AtomicU64::new(0),
+            moving: AtomicU64::new(NO_MOVE),
         }
     }
 
-    /// Says where a line stands that is refused, what the number means, and what doesn't fit in the line, if that can be found.
+    /// Takes note of whether a move is under way.
+    pub fn note(&self, mark: ServeMark) {
+        match mark {
+            ServeMark::MoveBegins { segments } => self.moving.store(segments, Ordering::SeqCst),
+            ServeMark::MoveEnds => self.moving.store(NO_MOVE, Ordering::SeqCst),
+            _ => {}
+        }
+    }
+
+    /// Says where a line stands that is refused, what the number means, and what doesn't fit in the line, if that can be found; or
+    /// which move is under way, if it is refused for that.
     pub fn tell(&self, refusal: LineRefusal<'_>) {
         self.count.fetch_add(1, Ordering::SeqCst);
         let place = self.input.place(refusal.place);
         let _ = eprintln!(self.rt; "squall: {place}: {}", Reason(&refusal));
-        tell_misfit_of_refused(self.rt, place, &refusal);
+        if refusal.number == MOVING {
+            self.tell_moving(place);
+        } else {
+            tell_misfit_of_refused(self.rt, place, &refusal);
+        }
+    }
+
+    // Says which move is under way as a line is refused.
+    fn tell_moving(&self, place: FaultPlace<'_>) {
+        match self.moving.load(Ordering::SeqCst) {
+            NO_MOVE => {
+                let _ = eprintln!(self.rt; "squall: {place}: a line before it asks for a move");
+            }
+            segments => {
+                let _ = eprintln!(self.rt;
+                    "squall: {place}: a move of {segments} segments is under way"
+                );
+            }
+        }
+    }
+
+    /// Says why a move is refused, if its number doesn't say all.
+    pub fn tell_move(&self, refused: RefusedMove<'_>) {
+        tell_misfit_of_move(self.rt, self.input.place(refused.place), &refused);
     }
 
     /// Says how many lines were refused, if any was.

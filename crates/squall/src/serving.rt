@@ -5,15 +5,14 @@ ghost use Rattle.squall.specs.Session.{EndsEngine};
 
 use crate::engine_front::{EngineFront, FlawedRecord, front_of, told};
 use crate::engine_watch::EngineWatch;
+use crate::flaws::tell_misfit_of_header;
 use crate::session::{REFUSED, TABLE_FORM, explain_write, open_input};
 use crate::source::{FaultPlace, is_table};
 use crate::streams::Streams;
 use crate::text_places::TextPlaces;
 use crate::unread_stages::PlansWatched;
 use sq_command::{EngineFiles, EngineReports};
-use sq_serve::{
-    CountedLines, FileLines, Following, HeaderFault, LinePlace, LineSource, ServeWatch,
-};
+use sq_serve::{CountedLines, FaultyHeader, FileLines, Following, LinePlace, LineSource};
 use sq_server::ServeEnding;
 use sq_service::{ServeConfig, serve};
 use sq_text::{InputFault, WriteFault};
@@ -118,9 +117,25 @@ where
 }
 
 // Serves an engine with who watches it.
-fn serve_watched<T, W, V: ServeWatch>(rt: &T, writer: W, serving: Serving<'_>, watch: &V) -> (W, u8)
+fn serve_watched<T, W>(
+    rt: &T,
+    writer: W,
+    serving: Serving<'_>,
+    watch: &EngineWatch<'_, T>,
+) -> (W, u8)
 where
-    T: Threads + Wait + Sync + Print + Eprint + Files + AllocGlobal + Input + Copy + Send + 'static,
+    T: Threads
+        + Wait
+        + Sync
+        + Clock
+        + Print
+        + Eprint
+        + Files
+        + AllocGlobal
+        + Input
+        + Copy
+        + Send
+        + 'static,
     T::File: Send + 'static,
     T::Reader: Send + 'static,
     W: Write + Drop,
@@ -175,19 +190,18 @@ fn say_wait(rt: &impl Eprint, input: EngineInput<'_>, streams: Streams<'_>) {
 
 // Serves an engine with this main input, which begins with the lines of a file, if one is named. Its plan and its rows may have
 // files of their own.
-fn serve_main<T, I, W, V>(
+fn serve_main<T, I, W>(
     rt: &T,
     writer: W,
     main: I,
     file: Option<Arc<FileLines, Global>>,
     serving: Serving<'_>,
-    watch: &V,
+    watch: &EngineWatch<'_, T>,
 ) -> (W, u8)
 where
-    T: Threads + Wait + Sync + Print + Eprint + Files + AllocGlobal + Copy + Send + 'static,
+    T: Threads + Wait + Sync + Clock + Print + Eprint + Files + AllocGlobal + Copy + Send + 'static,
     I: Read + Send + Drop + 'static,
     W: Write + Drop,
-    V: ServeWatch,
     requires { serving.config.pumps ≤ MAX_PUMPS }
     ensures { EndsEngine (W.contents writer) (W.contents result.0) result.1 }
 {
@@ -216,32 +230,43 @@ where
 }
 
 // Serves an engine with a text, whose lines stand in these places.
-fn serve_text<T, I, W, V>(
+fn serve_text<T, I, W>(
     rt: &T,
     writer: W,
     text: I,
     places: TextPlaces,
     serving: Serving<'_>,
-    watch: &V,
+    watch: &EngineWatch<'_, T>,
 ) -> (W, u8)
 where
-    T: Threads + Wait + Sync + Eprint + AllocGlobal + Copy + Send + 'static,
+    T: Threads + Wait + Sync + Clock + Print + Eprint + Files + AllocGlobal + Copy + Send + 'static,
     I: Read + Send + Drop + 'static,
     W: Write + Drop,
-    V: ServeWatch,
     requires { serving.config.pumps ≤ MAX_PUMPS }
     ensures { EndsEngine (W.contents writer) (W.contents result.0) result.1 }
 {
     let (writer, ending) = serve(rt, rt.alloc(), text, places, writer, serving.config, watch);
-    explain_engine(rt, ending, serving);
+    explain_engine(rt, ending, serving, watch.take_faulty());
     (writer, ending.status())
 }
 
 // Says on standard error what the ending of an engine means, unless it is sound.
-fn explain_engine(rt: &impl Eprint, ending: ServeEnding, serving: Serving<'_>) {
+fn explain_engine<T>(
+    rt: &T,
+    ending: ServeEnding,
+    serving: Serving<'_>,
+    faulty: Option<FaultyHeader>,
+)
+where
+    T: Eprint + Files + AllocGlobal,
+{
     match ending {
         ServeEnding::Sound { .. } => {}
-        ServeEnding::NoHeader(header) => explain_header(rt, header, serving),
+        ServeEnding::NoHeader(_) => {
+            if let Some(header) = &faulty {
+                explain_header(rt, header, serving);
+            }
+        }
         ServeEnding::Memory => {
             let _ = eprintln!(rt; "squall: {}", InputFault::Memory.at_no_line());
         }
@@ -259,18 +284,24 @@ fn explain_engine(rt: &impl Eprint, ending: ServeEnding, serving: Serving<'_>) {
     }
 }
 
-// Says on standard error what the fault of a header means, in which line it is, and what that is to be if it isn't of its form.
-fn explain_header(rt: &impl Eprint, header: HeaderFault, serving: Serving<'_>) {
-    let located = header.located;
+// Says on standard error what the fault of a header means, in which line it is, what that is to be if it isn't of its form, and what
+// doesn't fit in it.
+fn explain_header<T: Eprint + Files + AllocGlobal>(
+    rt: &T,
+    header: &FaultyHeader,
+    serving: Serving<'_>,
+) {
+    let located = header.fault.located;
     let fault = located.fault.at_no_line();
-    let (Some(line), Some(place)) = (located.line, header.place) else {
+    let (Some(line), Some(place)) = (located.line, header.fault.place) else {
         let _ = eprintln!(rt; "squall: {fault}");
         return;
     };
     let told = serving.input.place(place);
+    let is_record = serving.input.is_record(place);
     if located.fault == InputFault::BadHeader {
         let number = located.fault.number();
-        let form = if serving.input.is_record(place) {
+        let form = if is_record {
             TABLE_FORM
         } else {
             form_of(line.number())
@@ -283,7 +314,7 @@ fn explain_header(rt: &impl Eprint, header: HeaderFault, serving: Serving<'_>) {
         Some(record) if place.source == LineSource::Rows && place.line == record.line => {
             let _ = eprintln!(rt; "squall: {told}: {}", record.flaw);
         }
-        _ => {}
+        _ => tell_misfit_of_header(rt, told, header, is_record),
     }
 }
 

@@ -1,9 +1,13 @@
-use Rattle.std.proofs.Common.{refl}
+use Rattle.std.proofs.Common.{inr, refl}
 use Rattle.sq_server.specs.Becoming.{desk_value}
 use Rattle.sq_server.proofs.Desks.{silent}
+use Rattle.sq_service.proofs.Answered.{no_move_over}
 use Rattle.sq_service.proofs.moving.note_rest.Goals as goal
 
-pub returns-in_default-clause-speaks : goal.returns-in_default-clause-speaks
-returns-in_default-clause-speaks g c =
+pub returns-in-None-clause-speaks : goal.returns-in-None-clause-speaks
+returns-in-None-clause-speaks g c =
     let desk = desk_value g.W.Write.contents c.args.desk.now in
     silent desk desk refl
+
+pub returns-in-None-clause-ends : goal.returns-in-None-clause-ends
+returns-in-None-clause-ends g c = no_move_over c.args.engine.now (desk_value g.W.Write.contents c.args.desk.now) c.in-None.is

@@ -1,5 +1,8 @@
-use Rattle.std.proofs.Common.{ℕ, List, inl, sym, subst}
+use Rattle.std.proofs.Common.{ℕ, List, inl, inr, sym, subst}
+use Rattle.sq_schema.specs.Fault.{memory_number}
+use Rattle.sq_server.specs.Becoming.{desk_value}
 use Rattle.sq_service.specs.Rows.{IsRowsText}
+use Rattle.sq_service.proofs.Answered.{fault_told}
 use Rattle.sq_service.proofs.rows.give_engine_rows.Goals as goal
 
 pub returns-in-Ok : goal.returns-in-Ok
@@ -12,3 +15,10 @@ returns-in-Ok g c =
       is = subst (λ (text : List ℕ). IsRowsText stores text) (sym c.deref.ensures.value) c.in-Ok.ensures;
       gives = c.give_rows.ensures;
     })
+
+pub returns-in-Err : goal.returns-in-Err
+returns-in-Err g c =
+    let dv = desk_value g.W.Write.contents in
+    let made = c.unread_refusal.ensures in
+    inr (fault_told _ memory_number _ c.args.asked.place _ (dv c.args.desk.now) (dv c.say_fault.new.self) made.number made.place made.no_id
+    c.say_fault.ensures.line)

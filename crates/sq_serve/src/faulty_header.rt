@@ -1,0 +1,39 @@
+// Headers with a fault.
+ghost use Rattle.sq_serve.specs.FaultyLines.{IsLineOf};
+
+use crate::line_place::HeaderFault;
+use sq_text::MAX_LINE;
+use std::alloc::Global;
+
+/// The line of a header that has a fault.
+#[derive(Debug, Drop)]
+pub enum HeaderLine {
+    /// Its bytes, without its end.
+    Line(Vec<u8>),
+    /// The input ends before it.
+    Missing,
+    /// It has more bytes than a line may have, a read of it failed, or memory ran out.
+    Lost,
+}
+
+/// A header with a fault: nothing is served.
+#[derive(Debug, Drop)]
+pub struct FaultyHeader {
+    pub fault: HeaderFault,
+    pub line: HeaderLine,
+}
+
+impl HeaderLine {
+    /// The line with these bytes.
+    pub fn of(alloc: Global, line: &[u8]) -> HeaderLine
+        ensures { IsLineOf line.now result }
+    {
+        if line.len() > MAX_LINE {
+            return HeaderLine::Lost;
+        }
+        match line.to_vec(alloc) {
+            Ok(text) => HeaderLine::Line(text),
+            Err(_) => HeaderLine::Lost,
+        }
+    }
+}

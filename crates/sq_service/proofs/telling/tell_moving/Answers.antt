@@ -1,0 +1,6 @@
+use Rattle.sq_service.proofs.telling.tell_moving.Goals as goal
+
+pub returns-clause-line : goal.returns-clause-line
+returns-clause-line g c =
+    let says = c.say.ensures.line in
+    record { goes_on = says.goes_on; written = says.written; wishes = says.wishes }
