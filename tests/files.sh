@@ -205,19 +205,22 @@ try_served_forms() {
         grep -q '^jobs: committed 20, aborted 1, longest wait [0-9]* us$' "$(stored "$1/account.txt")" || echo 'no jobs')"
 }
 
-# try_synced_files FOLDER: each text is on the disk before the first file is replaced, and then its folder is. Needs strace.
+# try_synced_files FOLDER: one thread has each text on the disk before it replaces the first file, and then its folder. Needs strace,
+# which writes a call on two lines if another thread makes one meanwhile: only the first line counts.
 try_synced_files() {
     if ! strace -o /dev/null true 2> /dev/null; then return; fi
     timeout 60 strace -f --seccomp-bpf -o "$1/calls" -e trace=fsync,rename,renameat,renameat2 "$squall" live --rows-out "$1/rows" --replies "$1/replies" \
         --timeline "$1/moments.csv" < "$1/jobs" > /dev/null 2>&1 || true
-    grep -oE '(fsync|rename)' "$1/calls" | uniq -c | awk '{ print $1, $2 }' > "$room/got"
+    sed -nE 's/^([0-9]+) +(fsync|rename)[a-z0-9]*\(.*/\1 \2/p' "$1/calls" > "$room/begun"
+    cut -d ' ' -f 2 "$room/begun" | uniq -c | awk '{ print $1, $2 }' > "$room/got"
     printf '%s\n' '3 fsync' '1 rename' '1 fsync' '1 rename' '1 fsync' '1 rename' '1 fsync' > "$room/wanted"
-    count 'files are on the disk before they take their places' "$(difference "$room/wanted" "$room/got")"
+    count 'files are on the disk before they take their places' "$(difference "$room/wanted" "$room/got"
+        cut -d ' ' -f 1 "$room/begun" | sort -u | sed 1d | sed 's/^/and by thread /')"
 }
 
 # try_killed_runs FOLDER: after a run that is killed at some moment a file is as it was, or it is whole.
 try_killed_runs() {
-    local times=0 torn=0 new=0 micros whole after
+    local times=0 torn=0 new=0 micros whole after running
     {
         head -n 5 "$1/jobs"
         seq -f 'txn 0 %.0f 5 get 0 0' 1 4000
@@ -229,7 +232,11 @@ try_killed_runs() {
     while [ "$times" -lt 50 ]; do
         echo before > "$1/killed.svg"
         after=$(awk -v most="$micros" -v at="$times" 'BEGIN { printf "%.6f", most * (at + 1) / 40000000 }')
-        { timeout -s KILL "$after" "$squall" live --timeline "$1/killed.svg" < "$1/busy" > /dev/null; } 2> /dev/null || true
+        "$squall" live --timeline "$1/killed.svg" < "$1/busy" > /dev/null 2>&1 &
+        running=$!
+        sleep "$after"
+        kill -KILL "$running" 2> /dev/null || true
+        wait "$running" 2> /dev/null || true
         if [ "$(head -c 7 "$1/killed.svg")" != "before" ]; then
             new=$((new + 1))
             if [ "$(tail -c 7 "$1/killed.svg")" != "$whole" ]; then torn=$((torn + 1)); fi

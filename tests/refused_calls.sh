@@ -1,7 +1,8 @@
 #!/usr/bin/env bash
-# Refused allocations of calls of the library: runs in each of which one allocation fails.
+# Refused allocations of calls of the library: runs in each of which one allocation fails, each one of a call in turn.
 #
-#   tests/refused_calls.sh
+#   tests/refused_calls.sh          some of the allocations of each call
+#   tests/refused_calls.sh --all    all of them
 #
 # The program stands in tests/programs/refused_calls. `rt try` builds it once, without a proof, and gives it one input after
 # another: a letter that says which call is tried, and for a call on a stored run its header and the lines of its script. In
@@ -10,11 +11,13 @@
 #
 #   steps        each step by `World::step`; one that answers 222 is made once more
 #   list         all steps by `run_world`; an opening that comes back is used once more
+#   input        the whole text by `run`
 #   vec          `apply`, `take` and `give` of a `VecStore`, with all families after each; one that is refused is called once more
 #   block        the same of a `SlabStore`
 #   runs         the same of a `RunStore`
 #   nodes        a tree and a link without nodes, and two pulls of a leaf, the second of which is under way at the end
 #   two_stages   a move in two stages with a fold between them
+#   folds        the same, with a fold in threads
 #   page         a page of a run at rest, which is taken and audited
 #   engine       an engine: a client of three jobs at rest, a pause, a page, a move with a client, a move back without one, and the
 #                end, with the verdict; where a teller has no memory for an answer the epoch ends, and the jobs are answered
@@ -24,16 +27,17 @@
 # All print first that they start, so that an output that is empty is a run that died.
 #
 # A step that answered 222 changed nothing: made once more it answers as it was to, and so do all later ones, with the same
-# dump. Of a list at most one step is refused, and the rest is what the rules say of the script without it.
+# dump. Of a list at most one step is refused, and the rest is what the rules say of the script without it. Of an input the same, or
+# the fault 222 is all that is written.
 #
-# The runs of `nodes` and `two_stages` are made by hand. Where an allocation of a tree, of a link, or of what a
+# The runs of `nodes`, `two_stages` and `folds` are made by hand. Where an allocation of a tree, of a link, or of what a
 # run opens with (its trees, links, queues, nodes and pumps) is refused, it is opened once more. A step whose allocation is refused
 # answers so, and its work is done at a later turn. A gathering, a fold and a next stage whose allocation is refused hand all back,
 # and are called once more with what came back; and so do the taking and the audit of a page, and the calls of an engine. So what
 # is gathered in the end is always the same.
 #
-# The workers of `engine` and `chain` run in threads, so that an allocation of the same number isn't always of the same call: of each
-# call several numbers are tried, and all in between where none of them refused an allocation of each.
+# The workers of `engine` and `chain` run in threads, so that an allocation of the same number isn't always of the same call. If the
+# numbers that are tried of a call miss what is to be refused in it, all are tried, unless it is `steps`, `list` or `input`.
 set -eu
 . "$(dirname "$0")/lib.sh"
 room=$(mktemp -d)
@@ -42,37 +46,40 @@ trap 'rm -r "$room"' EXIT
 # The allocation that fails.
 failing=900
 
-# The calls that are tried, each with the stored run that it is called on, with how many spaces its inputs begin with, and with
-# what takes memory in it. With the fewest none of its allocations is refused, and with the most one is that comes before the call
-# or isn't tried. In between are those that refuse an allocation which no other input refuses: one that is asked for by another chain
-# of calls. Allocations of `run` are refused by tests/refused.sh.
+# The calls that are tried, each with the stored run that it is called on, with how many spaces its inputs begin with (the fewest and the
+# most, and which of those between are tried without --all), and with what takes memory in it. With the fewest none of its allocations
+# is refused, and with the most one is that comes before the call. Allocations of the program are refused by tests/refused.sh.
 tries() {
     cat "$tests/programs/refused_calls/tries"
 }
 
-# spaces_of RANGES: the numbers of spaces.
+# spaces_of RANGE SOME: the numbers of spaces; of those between the fewest and the most these, or `all`.
 spaces_of() {
     local range
-    for range in ${1//,/ }; do seq "${range%-*}" "${range#*-}"; done
+    {
+        echo "${1/-/$'\n'}"
+        for range in $(tr ',' ' ' <<< "${2/all/$1}"); do seq "${range%-*}" "${range#*-}"; done
+    } | sort -nu
 }
 
-# A repository of the same crates and the program.
+# A repository of the same crates and the program, which uses those that it names.
 make_program() {
-    local uses file
+    local source=$room/crates/refused_calls/src file
     tar -C "$top" --exclude=out -cf - HANDLES crates | tar -C "$room" -xf -
-    uses=$(sed -nE 's/^(sq_tests|sq_thread_tests|sq_engine_tests) [^:]*: //p' "$top/crates.txt" | tr ' ' '\n' | sort -u | tr '\n' ' ')
-    { cat "$top/crates.txt"; echo "refused_calls: $uses"; } > "$room/crates.txt"
-    mkdir -p "$room/crates/refused_calls/src" "$room/inputs" "$room/outputs"
-    for file in "$tests"/programs/refused_calls/*.rt.txt; do
-        cp "$file" "$room/crates/refused_calls/src/$(basename "$file" .txt)"
-    done
-    cp "$top/crates/sq_thread_tests/src/tests/text.rt" "$room/crates/refused_calls/src/"
+    mkdir -p "$source" "$room/inputs" "$room/outputs"
+    for file in "$tests"/programs/refused_calls/*.rt.txt; do cp "$file" "$source/$(basename "$file" .txt)"; done
+    cp "$top/crates/sq_thread_tests/src/tests/text.rt" "$source"
+    {
+        cat "$top/crates.txt"
+        echo "refused_calls: $(sed -nE 's/^use (sq_[a-z_]+)::.*/\1/p' "$source"/* | sort -u | tr '\n' ' ')"
+    } > "$room/crates.txt"
 }
 
-# make_inputs CALL RUN RANGES: makes the inputs of a call on a stored run, or on none.
+# make_inputs CALL RUN RANGE SOME: makes the inputs of a call on a stored run, or on none, but for those that were tried.
 make_inputs() {
     local spaces
-    for spaces in $(spaces_of "$3"); do
+    for spaces in $(spaces_of "$3" "$4"); do
+        if [ -e "$room/outputs/$1.$2.$spaces" ]; then continue; fi
         { printf '%*s%s' "$spaces" '' "${1:0:1}"; cat "$(stored "$tests/cases/run/$2/in")"; } > "$room/inputs/$1.$2.$spaces"
     done
 }
@@ -87,20 +94,23 @@ lacks_one() {
     return 1
 }
 
-# What is tried: of a call that runs in threads all numbers between the least and the most where one of its allocations isn't refused
-# in an input of `tries`. Those are made.
+# What is tried: all numbers of a call of which no allocation of some word was refused (but of those whose outputs don't name it).
+# Their inputs are made.
 widened_tries() {
-    local call run ranges words
-    while read -r call run ranges words; do
-        # shellcheck disable=SC2086
-        case $call in engine | chain)
-            if lacks_one "$call" "$run" $words; then
-                ranges=${ranges%%-*}-${ranges##*-}
-                make_inputs "$call" "$run" "$ranges"
-            fi ;;
+    local call run range some words
+    while read -r call run range some words; do
+        case $call,$some in
+            steps,* | list,* | input,* | *,all) ;;
+            *)
+                # shellcheck disable=SC2086
+                if lacks_one "$call" "$run" $words; then
+                    some=all
+                    make_inputs "$call" "$run" "$range" all
+                fi
+                ;;
         esac
-        echo "$call $run $ranges $words"
-    done < <(tries)
+        echo "$call $run $range $some $words"
+    done < "$room/tries"
 }
 
 # Gives the program the inputs, and leaves what it wrote for each in a file, which is empty where it wrote nothing. Those that
@@ -165,7 +175,7 @@ wanted() {
             printf '%s\n' starts opened
             if [ "$3" = 0 ]; then cat "$out"; else awk -v step="$3" 'NR == step { print "refused 222" } { print }' "$out"; fi
             ;;
-        list) printf '%s\n' starts opened; if [ "$3" = 0 ]; then cat "$out"; else list_without "$3"; fi ;;
+        list | input) printf '%s\n' starts opened; if [ "$3" = 0 ]; then cat "$out"; else list_without "$3"; fi ;;
         vec | block | runs) of_store "$3" ;;
     esac
 }
@@ -174,7 +184,7 @@ wanted() {
 
 # of_nodes CALL: what a call writes where nothing is refused.
 of_nodes() {
-    cat "$tests/programs/refused_calls/$1.out"
+    cat "$tests/programs/refused_calls/${1/folds/two_stages}.out"
 }
 
 # --- judging ---
@@ -201,7 +211,8 @@ judge_steps() {
     got=$(cat "$room/outputs/$1.$2.$3")
     case $1,$got in
         # Refused was an allocation of what reads the input, which is no part of the call.
-        steps,starts | list,starts | vec,starts | block,starts | runs,starts) met[before]=1; return ;;
+        steps,starts | list,starts | input,starts | vec,starts | block,starts | runs,starts) met[before]=1; return ;;
+        input,$'starts\nopened\nfault 222') is_refused header; return ;;
     esac
     if [ "$1" = list ] && [ "$(grep -n -x back <<< "$got")" = 3:back ]; then
         is_refused back
@@ -212,7 +223,7 @@ judge_steps() {
         vec | block | runs) step=$(refused_call <<< "$got") ;;
         *) step=$(grep -n -m 1 -x 'refused 222' <<< "$got" | cut -d : -f 1 || true) ;;
     esac
-    case $1 in steps | list) if [ -n "$step" ]; then step=$((step - 2)); fi ;; esac
+    case $1 in steps | list | input) if [ -n "$step" ]; then step=$((step - 2)); fi ;; esac
     if [ "$got" != "$(wanted "$1" "$2" "${step:-0}")" ]; then wrong "$1" "$2" "$3" "$(wanted "$1" "$2" "${step:-0}")"; return; fi
     case $1,$step in
         *,) ;;
@@ -244,17 +255,17 @@ judge_nodes() {
 # judge_input CALL RUN SPACES: judges what was written for an input, and notes what was refused.
 judge_input() {
     case $1 in
-        nodes | two_stages | page | engine | chain) judge_nodes "$@" ;;
+        nodes | two_stages | folds | page | engine | chain) judge_nodes "$@" ;;
         *) judge_steps "$@" ;;
     esac
 }
 
-# check CALL RUN RANGES WORDS..: judges all inputs of a call on a stored run; an allocation of each of these was refused in some
+# check CALL RUN RANGE SOME WORDS..: judges all inputs of a call on a stored run; an allocation of each of these was refused in some
 # input, and of nothing else; in the first none was, and in the last none, or one before the call.
 check() {
     local call=$1 run=$2 numbers what at
-    mapfile -t numbers < <(spaces_of "$3")
-    shift 3
+    mapfile -t numbers < <(spaces_of "$3" "$4")
+    shift 4
     declare -A met=()
     judge_input "$call" "$run" "${numbers[0]}"
     if [ "${!met[*]}" != none ]; then count "$call of $run" "with the fewest spaces an allocation was refused"; fi
@@ -269,13 +280,15 @@ check() {
 }
 
 make_program
-while read -r call run ranges _; do make_inputs "$call" "$run" "$ranges"; done < <(tries)
+if [ "${1:-}" = --all ]; then every=all; else every=; fi
+while read -r call run range some words; do echo "$call $run $range ${every:-$some} $words"; done < <(tries) > "$room/tries"
+while read -r call run range some _; do make_inputs "$call" "$run" "$range" "$some"; done < "$room/tries"
 run_inputs
-widened_tries > "$room/tries"
+widened_tries > "$room/widened"
 if [ -n "$(ls "$room/inputs")" ]; then run_inputs; fi
-while read -r call run ranges words; do
+while read -r call run range some words; do
     # shellcheck disable=SC2086
-    check "$call" "$run" "$ranges" $words
-done < "$room/tries"
+    check "$call" "$run" "$range" "$some" $words
+done < "$room/widened"
 echo "$passed refused allocations of calls passed, $failed failed"
 [ "$failed" = 0 ]

@@ -39,6 +39,11 @@ run_case() {
     judge_case "$1" "$2"
 }
 
+# still_running: the processes that run the program.
+still_running() {
+    find /proc -mindepth 2 -maxdepth 2 -name exe -lname "$squall" 2> /dev/null || true
+}
+
 # compare NAME INPUT STATUS LINE [WORD]: gives an input to a subcommand, `run` if none is named; what it is to write lies in
 # $room/wanted, and ends with a fault that belongs to this line.
 compare() {
@@ -270,7 +275,7 @@ try_threads() {
 # One who types at the program sees each answer before the next line.
 try_session() {
     local answer why=
-    coproc session { timeout 120 "$squall" run 2> /dev/null; }
+    coproc session { exec timeout 120 "$squall" run 2> /dev/null; }
     head -n 4 "$tests/cases/run/moves_four_keys/in" >&"${session[1]}"
     for line in 'prepare 0=ok' 'x=refused 230' 'prepare 1=ok' 'start=ok' 'status 0 1=is free not-started'; do
         echo "${line%%=*}" >&"${session[1]}"
@@ -343,7 +348,8 @@ try_terminal() {
 # typed_input NAME FIRST WORD..: at a terminal a subcommand without a file says that it reads standard input, and with which
 # line that begins.
 typed_input() {
-    timeout 60 script -qefc "exec '$squall' ${*:3}" /dev/null < /dev/null | tr -d '\r' | head -n 1 > "$room/got" || true
+    timeout 60 script -qefc "exec '$squall' ${*:3}" /dev/null < /dev/null > "$room/terminal" || true
+    head -n 1 "$room/terminal" | tr -d '\r' > "$room/got"
     echo "squall: reading standard input up to its end (Ctrl-D); it begins with the line '$2'" > "$room/wanted"
     count "$1" "$(difference "$room/wanted" "$room/got")"
 }
@@ -793,7 +799,7 @@ try_demo_in_a_quoted_folder() {
     give /dev/null demo --roots 16 --jobs 100 "$files"
     cp "$room/out" "$room/commands"
     ended=0
-    (PATH=$room:$PATH sh "$room/commands") > "$room/out" 2> "$room/err" || ended=$?
+    (PATH=${squall%/*}:$PATH sh "$room/commands") > "$room/out" 2> "$room/err" || ended=$?
     count 'commands of a demo in a quoted folder' "$(if [ "$ended" != 0 ]; then echo "status $ended"; fi; head -n 1 "$room/err"
         tail -n 1 "$room/out" | grep -vx 'sound 16 families 100 committed'; grep -q '^range ' "$room/out" || echo 'no range')"
 }
@@ -841,8 +847,6 @@ try_rounds() {
 
 programs=("${SQUALL:-$built}")
 if [ -z "${SQUALL:-}" ] && [ -x "$built.by-rattle" ]; then programs+=("$built.by-rattle"); fi
-# Each runs under one name, which it gives in its help texts.
-squall=$room/squall
 make_cases
 if has_pattern pages; then try_pages; fi
 for program in "${programs[@]}"; do
@@ -851,10 +855,15 @@ for program in "${programs[@]}"; do
         exit 1
     fi
     echo "$program"
+    # Each runs under one name, which it gives in its help texts.
+    squall=$(mktemp -d "$room/program.XXXX")/squall
     cp "$program" "$squall"
     for_cases run_case
     for kind in $kinds; do
-        if has_pattern "$kind"; then "try_$kind"; fi
+        if has_pattern "$kind"; then
+            "try_$kind"
+            count "runs that go on after $kind" "$(still_running)"
+        fi
     done
 done
 echo "$passed stored runs passed, $failed failed"
