@@ -113,7 +113,11 @@ impl<T: Clock + Wait + Print + Eprint + Files + AllocGlobal> ServeWatch for Engi
     ghost Saves = { λ _ _ _ _. Unit {0} };
 
     fn mark(&self, mark: ServeMark) {
-        self.reasons.note(mark);
+        match mark {
+            ServeMark::MoveBegins { segments } => self.reasons.begin_move(segments),
+            ServeMark::MoveEnds => self.reasons.end_move(),
+            _ => {}
+        }
         if let Some(record) = &self.record {
             record.lock(self.rt).note(mark, self.stopwatch.micros());
         }

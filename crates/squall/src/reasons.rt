@@ -3,7 +3,7 @@ use crate::flaws::{tell_misfit_of_move, tell_misfit_of_refused};
 use crate::serving::EngineInput;
 use crate::source::FaultPlace;
 use sq_explain::meaning;
-use sq_serve::{LineRefusal, RefusedMove, ServeMark};
+use sq_serve::{LineRefusal, RefusedMove};
 use std::fmt;
 use std::fmt::{Display, Formatter, Write};
 use std::sync::atomic::{AtomicU64, Ordering};
@@ -41,13 +41,14 @@ impl<'a, T: Eprint + AllocGlobal> Reasons<'a, T> {
         }
     }
 
-    /// Takes note of whether a move is under way.
-    pub fn note(&self, mark: ServeMark) {
-        match mark {
-            ServeMark::MoveBegins { segments } => self.moving.store(segments, Ordering::SeqCst),
-            ServeMark::MoveEnds => self.moving.store(NO_MOVE, Ordering::SeqCst),
-            _ => {}
-        }
+    /// Takes note of a move of so many segments.
+    pub fn begin_move(&self, segments: u64) {
+        self.moving.store(segments, Ordering::SeqCst);
+    }
+
+    /// Takes note of the end of a move.
+    pub fn end_move(&self) {
+        self.moving.store(NO_MOVE, Ordering::SeqCst);
     }
 
     /// Says where a line stands that is refused, what the number means, and what doesn't fit in the line, if that can be found; or
