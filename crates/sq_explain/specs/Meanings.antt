@@ -1,10 +1,10 @@
--- What the numbers that a user sees mean, and the texts about them.
+-- The meanings of the numbers that a user sees, and their texts.
 use Rattle.std.specs.Prelude.{◌≡◌, ◌==◌, ℕ, Bool, true, false, List, ◌∷◌, ◌++◌, [], Option, Some, None, find, map, option_map, decimal, codes}
 use Rattle.std.specs.List.{flat_map}
 use Rattle.std.specs.Io.KnownBytes.{Appends}
 use Rattle.sq_explain.specs.declared.table.Entry.{Entry}
 
--- each number, with what it means
+-- each number, with its meaning
 abbrev pub meanings : List (ℕ × List ℕ)
 meanings =
     (101, codes "a plan isn't JSON")
@@ -71,11 +71,11 @@ meanings =
     ∷ (306, codes "a job has no receipt, or more than one")
     ∷ []
 
--- what this number means
+-- the meaning of this number
 abbrev pub meaning_of : ℕ → Option (List ℕ)
 meaning_of number = option_map (λ row. row.1) (find (λ row. row.0 == number) meanings)
 
--- three lines: the number and what it means, what it is given to, and what to do
+-- three lines: the number and its meaning, what it is returned for, and what to do
 unfoldable pub entry_lines : Entry → List ℕ
 entry_lines entry =
     decimal entry.number ++ 32 ∷ entry.meaning.now ++ codes "\n    " ++ entry.given.now ++ codes "\n    " ++ entry.advice.now ++ 10 ∷ []
@@ -93,12 +93,13 @@ pub record TellsOne (number : ℕ) (before now : Option (List ℕ)) : Type 0 whe
   pub means : meaning_of number ≡ Some entry.meaning.now
   pub written : Appends before now (entry_lines entry)
 
--- nothing is written of this number, which has no entry
+-- nothing is written for this number, which has no entry
 pub record TellsNothing (number : ℕ) (before now : Option (List ℕ)) : Type 0 where
   pub unknown : meaning_of number ≡ None
   pub written : Appends before now []
 
--- what is written of this number, or of all; `told` says whether there is something to write
+-- the entry of this number is written, or without a number all entries; `told` is false if there is
+-- no entry
 abbrev pub Explains : Option ℕ → Option (List ℕ) → Option (List ℕ) → Bool → Type 0
 Explains None before now told = TellsAll before now × (told ≡ true)
 Explains (Some number) before now true = TellsOne number before now

@@ -1,12 +1,12 @@
 // The table of numbers.
 
-/// The texts of a number.
+/// A number's entry in the table.
 #[derive(Clone, Copy, Debug, PartialEq, Eq)]
 pub struct Entry {
     pub number: u16,
-    /// What it means.
+    /// What the number means.
     pub meaning: &'static str,
-    /// What it is given to, and how.
+    /// What the number is returned for, and how.
     pub given: &'static str,
     /// What to do about it.
     pub advice: &'static str,

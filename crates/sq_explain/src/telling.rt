@@ -1,4 +1,4 @@
-// Writes the texts of numbers.
+// Writes the entries of numbers.
 ghost use Rattle.std.specs.Prelude.{◌≡◌, [], IfOk, OnOk, IfSome, map, option_map, unwrap_or};
 ghost use Rattle.std.specs.List.{flat_map};
 ghost use Rattle.std.specs.Io.KnownBytes.{Appends};
@@ -8,14 +8,14 @@ use crate::table::{ENTRIES, Entry};
 use std::io;
 use std::io::Write;
 
-/// The entries, in the order of their numbers: each number with what it means.
+/// Returns all entries, in the order of their numbers.
 pub fn entries() -> &'static [Entry]
     ensures { map (λ entry. (entry.number, entry.meaning.now)) result.now ≡ meanings }
 {
     &ENTRIES
 }
 
-/// The entry of a number, which says what it means; `None` where no such number is given.
+/// Returns the entry of `number`; `None` if there is no such number.
 pub fn entry(number: u16) -> Option<Entry>
     ensures means { option_map (λ entry. entry.meaning.now) result ≡ meaning_of number }
     ensures is { IfSome result (λ entry. entry.number ≡ number) }
@@ -24,14 +24,14 @@ pub fn entry(number: u16) -> Option<Entry>
     found.copied()
 }
 
-/// What a number means; nothing where no such number is given.
+/// Returns the meaning of `number`; the empty text if there is no such number.
 pub fn meaning(number: u16) -> &'static str
     ensures { result.now ≡ unwrap_or (meaning_of number) [] }
 {
     entry(number).map_or("", |entry| entry.meaning)
 }
 
-/// Writes an entry. An error is the writer's.
+/// Writes `entry`. Fails if a write fails.
 #[tactic(auto, unfolding(crate::specs::Meanings::entry_lines))]
 pub fn write_entry<W: Write>(writer: &mut W, entry: &Entry) -> io::Result<()>
     ensures { OnOk result (Appends (W.contents writer.old) (W.contents writer.new)
@@ -46,7 +46,7 @@ pub fn write_entry<W: Write>(writer: &mut W, entry: &Entry) -> io::Result<()>
     writeln!(writer, "{number} {meaning}\n    {given}\n    {advice}")
 }
 
-/// Writes entries, one behind the other. An error is the writer's.
+/// Writes `entries` one after another. Fails if a write fails.
 pub fn write_entries<W: Write>(writer: &mut W, entries: &[Entry]) -> io::Result<()>
     ensures { OnOk result (Appends (W.contents writer.old) (W.contents writer.new)
         (flat_map entry_lines entries.now)) }
@@ -57,8 +57,8 @@ pub fn write_entries<W: Write>(writer: &mut W, entries: &[Entry]) -> io::Result<
     Ok(())
 }
 
-/// Writes the entry of this number, or all entries where there is none. Whether there is such an entry: else nothing is
-/// written. An error is a write or a flush that failed.
+/// Writes the entry of `number`, or without a number all entries. Returns false, and writes
+/// nothing, if there is no such entry. Fails if a write or the flush fails.
 pub fn explain<W: Write>(writer: &mut W, number: Option<u16>) -> io::Result<bool>
     ensures { IfOk result (Explains number (W.contents writer.old) (W.contents writer.new)) }
 {
@@ -67,7 +67,7 @@ pub fn explain<W: Write>(writer: &mut W, number: Option<u16>) -> io::Result<bool
     Ok(is_told)
 }
 
-// Writes the entry of this number, or all entries where there is none, and leaves what is written to be flushed.
+// Writes the entry of `number`, or without a number all entries, and leaves them to be flushed.
 fn write_told<W: Write>(writer: &mut W, number: Option<u16>) -> io::Result<bool>
     ensures { IfOk result (Explains number (W.contents writer.old) (W.contents writer.new)) }
 {

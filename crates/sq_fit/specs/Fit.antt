@@ -1,4 +1,4 @@
--- Rows that fit a schema, and what is done to them.
+-- Rows that fit a schema, and the transactions that keep them so.
 use Rattle.std.specs.Prelude.{◌≡◌, ◌<◌, ◌≤◌, ◌^◌, ℕ, true, [], ◌∷◌, None, All}
 use Rattle.std.specs.FinMap.Entries.{is_sorted}
 use Rattle.sq_rows.specs.declared.row.RowKey.{RowKey}
@@ -17,14 +17,14 @@ use Rattle.sq_model.specs.declared.step.Step.{Step}
 use Rattle.sq_model.specs.declared.step.Step.TheVariants.{Submit}
 use Rattle.sq_model.specs.Trace.{Trace}
 
--- a row in memory that a schema of this many tables takes
+-- a row in memory that fits a schema of this many tables
 pub record IsFitRow (tables : ℕ) (entry : RowKey × RowValue) : Type 0 where
   pub in_range : is_entry entry ≡ true
   pub schema : row_fault tables entry.0 entry.1 ≡ None
   pub number : is_i64 entry.1.number ≡ true
   pub note : All (λ byte. byte < 2 ^ 8) entry.1.note
 
--- such rows of one root key: their keys rise, and there are some of other tables only under the root row
+-- such rows of one root key: their keys rise, and rows of other tables exist only with the root row
 pub record AreFitRows (tables : ℕ) (rows : RowList) : Type 0 where
   pub rising : is_sorted key_cmp rows ≡ true
   pub rooted : is_rooted rows ≡ true
@@ -35,12 +35,12 @@ pub record IsFitFamily (tables : ℕ) (family : FamilyValue) : Type 0 where
   pub root : family.root < ROOT_END
   pub rows : AreFitRows tables (rows_of family)
 
--- a table of such rows, which has none beyond the root keys
+-- a table of such rows, with no rows beyond the root keys
 pub record IsFitTable (tables : ℕ) (table : RowTable) : Type 0 where
   pub rows : (root : ℕ) → AreFitRows tables (table root)
   pub beyond : (root : ℕ) → ROOT_END ≤ root → table root ≡ []
 
--- an operation that puts no other row than such a one
+-- an operation that puts only such rows
 abbrev pub IsFitOp : ℕ → Op → Type 0
 IsFitOp tables (Get key) = Unit {0}
 IsFitOp tables (Put key row) = IsFitRow tables (key, row)
@@ -53,7 +53,7 @@ pub record IsFitTxn (tables : ℕ) (txn : TxnValue) : Type 0 where
   pub root : txn.root < ROOT_END
   pub ops : All (IsFitOp tables) txn.ops
 
--- a step that submits no other transaction than such a one, and a history of such steps
+-- a step that submits only such a transaction, and a history of such steps
 abbrev pub IsFitStep : ℕ → Step → Type 0
 IsFitStep tables (Submit part txn) = IsFitTxn tables txn
 IsFitStep tables _ = Unit {0}

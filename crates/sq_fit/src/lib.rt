@@ -1,5 +1,5 @@
-//! Rows that fit a schema stay so: those that a header opens with, and those that any history of lines leaves.
-//! The functions do nothing: each states a law, which the checker proves.
+//! Rows that fit a schema continue to fit it: those that a header opens with, and those that any
+//! history of lines leaves. The functions do nothing: each states a law, which the checker proves.
 #![tactic(auto)]
 
 ghost use Rattle.std.specs.Prelude.{◌≡◌, true, ℕ, List, Ok, All};
@@ -15,14 +15,15 @@ ghost use Rattle.sq_model.specs.Tables.{opening_rows, stands, family_of};
 ghost use Rattle.sq_model.specs.declared.step.Step.{Step};
 ghost use Rattle.sq_fit.specs.Fit.{AreFitRows, IsFitFamily, IsFitTable, IsFitTxn, IsFitStep, AreFitSteps};
 
-/// Rows that fit a schema fit it after transactions that fit it too, whether these commit or abort.
+/// Rows that fit a schema still fit it after transactions that fit it, whether these commit or
+/// abort.
 pub fn transactions_keep_rows_fit()
     ensures { (tables : ℕ) (rows : RowList) (txns : List TxnValue)
         → AreFitRows tables rows → All (IsFitTxn tables) txns
         → AreFitRows tables (replay_rows rows txns) }
 {}
 
-/// The rows of a header fit the schema that it is read for.
+/// The rows of a header fit the schema that the header is read for.
 pub fn a_header_has_fit_rows()
     ensures { (tables : ℕ) (given left : List PieceValue) (header : HeaderValue)
         → header_of tables given ≡ Ok (header, left) → IsFitTable tables header.rows }
@@ -34,7 +35,8 @@ pub fn a_line_spells_a_fit_step()
         → IsFitStep tables step }
 {}
 
-/// So each family that a legal history leaves fits, where the opening rows fit and the submitted transactions do.
+/// Each family that a legal history leaves fits a schema, if the opening rows and the submitted
+/// transactions do.
 pub fn a_history_leaves_fit_families()
     ensures { (tables : ℕ) (o : OpeningValue) (t : Trace) → IsLegal o t
         → IsFitTable tables (opening_rows o) → AreFitSteps tables t

@@ -13,22 +13,22 @@ pub record HeldUnended (xs : List ℕ) (start end : ℕ) : Type 0 where
   pub unended : cut_at_ends (slice_range xs start end) ≡ slice_range xs start end ∷ []
   pub count : length (slice_range xs start end) ≡ end - start
 
-pub none_held : {xs : List ℕ} {ps pe start searched end : ℕ} {status : ReadState} {known : Option (List ℕ)} → IsBuffered xs ps pe start searched end status known → position (λ b. b == 10) (slice_range xs searched end) ≡ None
+pub none_held : {xs : List ℕ} {capacity ps pe start searched end : ℕ} {status : ReadState} {known : Option (List ℕ)} → IsBuffered xs capacity ps pe start searched end status known → position (λ b. b == 10) (slice_range xs searched end) ≡ None
     → HeldUnended xs start end
-none_held {xs} {ps} {pe} {start} {searched} {end} is none = record {
+none_held {xs} {capacity} {ps} {pe} {start} {searched} {end} is none = record {
   unended = found_none xs start searched end is.searched_after is.searched_before is.unended none;
-  count = length_range xs start end (omega (arith, is.within, is.room));
+  count = length_range xs start end is.within;
 }
 
 -- a line of it that ends
-pub line_held : {xs : List ℕ} {ps pe start searched end : ℕ} {status : ReadState} {known : Option (List ℕ)} → IsBuffered xs ps pe start searched end status known → (at : ℕ) → position (λ b. b == 10) (slice_range xs searched end) ≡ Some at
+pub line_held : {xs : List ℕ} {capacity ps pe start searched end : ℕ} {status : ReadState} {known : Option (List ℕ)} → IsBuffered xs capacity ps pe start searched end status known → (at : ℕ) → position (λ b. b == 10) (slice_range xs searched end) ≡ Some at
     → FoundLine xs start (searched + at) end
-line_held {xs} {ps} {pe} {start} {searched} {end} is at some = found_line xs start searched end at is.searched_after is.searched_before (omega (arith, is.within, is.room)) is.unended some
+line_held {xs} {capacity} {ps} {pe} {start} {searched} {end} is at some = found_line xs start searched end at is.searched_after is.searched_before is.within is.unended some
 
 -- all that is held was searched
-pub all_searched : (xs : List ℕ) (ps pe start searched end : ℕ) (status : ReadState) (known : Option (List ℕ)) → IsBuffered xs ps pe start searched end status known
-    → position (λ b. b == 10) (slice_range xs searched end) ≡ None → IsBuffered xs ps pe start end end status known
-all_searched xs ps pe start searched end status known is none = record {
+pub all_searched : (xs : List ℕ) (capacity ps pe start searched end : ℕ) (status : ReadState) (known : Option (List ℕ)) → IsBuffered xs capacity ps pe start searched end status known
+    → position (λ b. b == 10) (slice_range xs searched end) ≡ None → IsBuffered xs capacity ps pe start end end status known
+all_searched xs capacity ps pe start searched end status known is none = record {
   room = is.room;
   piece = is.piece;
   piece_within = is.piece_within;
@@ -62,19 +62,19 @@ read_behind old mid new start end now order after moved before = record {
     same : slice_range new 0 (end - start) ≡ slice_range old start end
     same = from_zero new (end - start) ∙ before ∙ sym (from_zero mid (end - start)) ∙ moved
 
-pub read_on : (old mid new : List ℕ) (ps pe start searched end now : ℕ) (before_it status : ReadState) (was known : Option (List ℕ)) → IsBuffered old ps pe start searched end before_it was
-    → slice_range mid 0 (end - start) ≡ slice_range old start end → take (end - start) new ≡ take (end - start) mid → length new ≡ length old → end - start ≤ now → now ≤ length new
-    → (status ≡ Ended → IsAtEnd known) → IsBuffered new 0 0 0 (searched - start) now status known
-read_on old mid new ps pe start searched end now before_it status was known is moved before long after within ended =
+pub read_on : (old mid new : List ℕ) (capacity capacity_now ps pe start searched end now : ℕ) (before_it status : ReadState) (was known : Option (List ℕ)) → IsBuffered old capacity ps pe start searched end before_it was
+    → slice_range mid 0 (end - start) ≡ slice_range old start end → take (end - start) new ≡ take (end - start) mid → capacity ≤ capacity_now → end - start ≤ now → now ≤ length new
+    → (status ≡ Ended → IsAtEnd known) → IsBuffered new capacity_now 0 0 0 (searched - start) now status known
+read_on old mid new capacity capacity_now ps pe start searched end now before_it status was known is moved before more after within ended =
     let read = read_behind old mid new start end now (omega (arith, is.searched_after, is.searched_before)) after moved before in
     let front : slice_range new 0 (searched - start) ≡ slice_range old start searched = read.front searched is.searched_after is.searched_before in
     record {
-      room = long ∙ is.room;
+      room = omega (arith, is.room, more);
       piece = omega arith;
       piece_within = omega arith;
       searched_after = omega arith;
       searched_before = omega (arith, is.searched_before, after);
-      within = omega (arith, within, long, is.room);
+      within = within;
       unended = rw front is.unended;
       at_end = ended;
     }

@@ -6,14 +6,15 @@ use Rattle.sq_lines.specs.declared.reader.ReadState.{ReadState}
 use Rattle.sq_lines.specs.declared.reader.ReadState.TheVariants.{Ended}
 use Rattle.sq_lines.specs.Pieces.{cut_at_ends}
 
--- the places of a buffer: of the piece given last, and of what wasn't given, which has no line end in its searched part
-pub record IsBuffered (buffer : List ℕ) (piece_start piece_end start searched end : ℕ)
+-- the room of a buffer and its places: of the last piece, and of the bytes not yet returned, which
+-- have no line end in their searched part
+pub record IsBuffered (buffer : List ℕ) (capacity : ℕ) (piece_start piece_end start searched end : ℕ)
     (reading : ReadState) (known : Option (List ℕ)) : Type 0 where
-  pub room : length buffer ≡ ROOM
+  pub room : ROOM ≤ capacity
   pub piece : piece_start ≤ piece_end
-  pub piece_within : piece_end ≤ ROOM
+  pub piece_within : piece_end ≤ length buffer
   pub searched_after : start ≤ searched
   pub searched_before : searched ≤ end
-  pub within : end ≤ ROOM
+  pub within : end ≤ length buffer
   pub unended : cut_at_ends (slice_range buffer start searched) ≡ slice_range buffer start searched ∷ []
   pub at_end : reading ≡ Ended → IsAtEnd known

@@ -1,4 +1,4 @@
--- What a reader of lines gives, and what it can still give.
+-- What a reader of lines returns, and what it can still return.
 use Rattle.std.specs.Prelude.{◌≡◌, ◌<◌, ◌≤◌, ◌⊎◌, ℕ, ◌+◌, ◌-◌, List, [], ◌∷◌, ◌++◌, length, Option, Some}
 use Rattle.std.specs.Io.KnownBytes.{Consumes}
 use Rattle.sq_lines.specs.declared.buffer.TheConstants.{MAX_UNENDED}
@@ -8,8 +8,8 @@ use Rattle.sq_lines.specs.declared.reader.Next.{Next as NextPiece}
 use Rattle.sq_lines.specs.declared.reader.Next.TheVariants as next
 use Rattle.sq_lines.specs.Pieces.{cut_at_ends, PieceValue, Line, Rest, Failed, TooMany, InputEnd, Whole, Cut, pieces_in, next_line_number, bytes_of}
 
--- a reader of lines: the bytes of the piece that it gave last, what was read and not given, how far the reading is, how
--- many lines may still come, and what its reader has left, where that is known
+-- a reader of lines: the bytes of its last piece, the bytes read and not yet returned, the state of
+-- the reading, how many more lines may come, and what its reader has left, if that is known
 pub record LinesValue : Type 0 where
   pub piece : List ℕ
   pub held : List ℕ
@@ -17,28 +17,30 @@ pub record LinesValue : Type 0 where
   pub lines_left : ℕ
   pub known : Option (List ℕ)
 
--- what a reader has left where its bytes end so
+-- what a reader has left if its bytes end so
 abbrev pub left_behind : InputEnd → Option (List ℕ)
 left_behind Whole = Some []
 left_behind (Cut left) = left
 
--- a reader that has this left, where that is known, may give these bytes, and then the reading ends so
+-- a reader that has this left, if that is known, may return these bytes, and then the reading ends
+-- so
 abbrev pub Comes : ReadState → Option (List ℕ) → InputEnd → List ℕ → Type 0
 Comes reading.Ended known end bytes = (end ≡ Whole) × (bytes ≡ [])
 Comes reading.Failed known end bytes = (end ≡ Cut known) × (bytes ≡ [])
 Comes reading.Open known end bytes = Consumes known (left_behind end) bytes
 
--- a reader of lines may give these pieces, and then the reading ends so
+-- a reader of lines may return these pieces, and then the reading ends so
 pub record CanEnd (v : LinesValue) (end : InputEnd) (ps : List PieceValue) : Type 0 where
   pub more : List ℕ
   pub comes : Comes v.reading v.known end more
   pub are : ps ≡ pieces_in end v.lines_left (v.held ++ more)
 
--- a reader of lines may give these pieces
+-- a reader of lines may return these pieces
 abbrev pub CanCome : LinesValue → List PieceValue → Type 0
 CanCome v ps = (end : InputEnd) × CanEnd v end ps
 
--- what can come after can come here with this before it, and then the reading ends as it does there
+-- what can come afterwards can come here after this piece, and then the reading ends in the same
+-- way
 abbrev pub CameBefore : LinesValue → PieceValue → LinesValue → Type 0
 CameBefore old piece new = (end : InputEnd) (ps : List PieceValue) → CanEnd new end ps → CanEnd old end (piece ∷ ps)
 
@@ -46,7 +48,7 @@ CameBefore old piece new = (end : InputEnd) (ps : List PieceValue) → CanEnd ne
 abbrev pub EndsIn : LinesValue → List PieceValue → LinesValue → Type 0
 EndsIn old pieces new = (end : InputEnd) (left : List PieceValue) → CanEnd new end left → CanEnd old end pieces
 
--- what is held has no line end, and what comes next can't be known without a read
+-- the bytes held have no line end, and what comes next is unknown without a read
 pub record IsUndecided (most : ℕ) (v : LinesValue) : Type 0 where
   pub unended : cut_at_ends v.held ≡ v.held ∷ []
   pub short : length v.held ≤ most
@@ -62,14 +64,14 @@ BeginLong most (piece ∷ others) = most < length (bytes_of piece)
 abbrev pub IsLong : ℕ → LinesValue → Type 0
 IsLong most v = (ps : List PieceValue) → CanCome v ps → BeginLong most ps
 
--- the next line is given
+-- the next line is returned
 abbrev pub GivesLine : LinesValue → LinesValue → Type 0
 GivesLine old new =
     CameBefore old (Line (next_line_number old.lines_left) new.piece) new
     × (old.lines_left ≡ new.lines_left + 1)
     × (length new.piece ≤ MAX_UNENDED)
 
--- what a reader of lines gives next, where it looks for the end of a line in this many bytes
+-- what a reader of lines returns next, if it looks for the end of a line in this many bytes
 abbrev pub Gives : ℕ → LinesValue → NextPiece → LinesValue → Type 0
 Gives most old next.Line new = GivesLine old new
 Gives most old next.Rest new =
@@ -83,13 +85,13 @@ Gives most old next.TooMany new = EndsIn old (TooMany ∷ []) new × (new ≡ ol
 Gives most old next.End new = EndsIn old [] new × (new ≡ old)
 Gives most old next.Unread new = IsUndecided most old × (new ≡ old)
 
--- how many reads there are at most, where this much is held
+-- the most reads that are left, with this many bytes held
 abbrev pub reads_for : ReadState → ℕ → ℕ
 reads_for reading.Open held = MAX_UNENDED + 1 - held
 reads_for reading.Ended held = 0
 reads_for reading.Failed held = 0
 
--- a bound of the reads before it is known what comes next
+-- a bound of the reads before what comes next is known
 abbrev pub reads_left : LinesValue → ℕ
 reads_left v = reads_for v.reading (length v.held)
 
@@ -99,7 +101,7 @@ ReadsOn old new =
     ((end : InputEnd) (ps : List PieceValue) → CanEnd new end ps → CanEnd old end ps)
     × (new.lines_left ≡ old.lines_left)
 
--- what a reader of lines gives next, where it reads as much as it needs to know
+-- what a reader of lines returns next, if it reads as much as it needs to know
 abbrev pub Finds : ℕ → LinesValue → NextPiece → LinesValue → Type 0
 Finds most old next.Line new = GivesLine old new
 Finds most old next.Rest new =
@@ -112,7 +114,8 @@ Finds most old next.TooMany new = EndsIn old (TooMany ∷ []) new
 Finds most old next.End new = EndsIn old [] new
 Finds most old next.Unread new = ⊥
 
--- whatever can come after, something with this property can come before, and the reading ends as it does there
+-- whatever can come afterwards, something with this property can come before, and the reading ends
+-- in the same way
 abbrev pub Leaves : LinesValue → LinesValue → (List PieceValue → List PieceValue → Type 0) → Type 0
 Leaves old new holds =
     (end : InputEnd) (left : List PieceValue) → CanEnd new end left

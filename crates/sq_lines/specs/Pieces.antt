@@ -8,7 +8,7 @@ use Rattle.sq_lines.specs.declared.reader.TheConstants.{MAX_LINES}
 abbrev pub cut_at_ends : List ℕ → List (List ℕ)
 cut_at_ends bytes = slice_split (λ byte. byte == 10) bytes
 
--- the number of the next line, from 1, where this many may still come
+-- the number of the next line, from 1, if this many may still come
 abbrev pub next_line_number : ℕ → ℕ
 next_line_number left = MAX_LINES - left + 1
 
@@ -18,27 +18,27 @@ pub data PieceValue : Type 0 where
   Line : (number : ℕ) (bytes : List ℕ) → PieceValue
   -- the bytes after the last line end
   Rest : (number : ℕ) (bytes : List ℕ) → PieceValue
-  -- the bytes after the last line end, behind which a read failed
+  -- the bytes after the last line end and before a read that failed
   Failed : (number : ℕ) (bytes : List ℕ) → PieceValue
   -- more bytes than may come without a line end
   Endless : (number : ℕ) (bytes : List ℕ) → PieceValue
   -- a byte after the last line that may come
   TooMany : PieceValue
 
--- how the bytes of an input end: they are all that there is, or a read failed behind them, and its reader then had this left,
--- where that is known
+-- how the bytes of an input end: there are no more, or a read failed after them, and its reader
+-- then had this left, if that is known
 pub data InputEnd : Type 0 where
   Whole : InputEnd
   Cut : (left : Option (List ℕ)) → InputEnd
 
--- what is after the last line end, where it isn't too long: a rest, unless it is empty, or what came before a read
--- failed
+-- what is after the last line end, if it isn't too long: a rest, unless it is empty, or what came
+-- before a read failed
 abbrev pub ending_piece : InputEnd → ℕ → List ℕ → List PieceValue
 ending_piece (Cut known) left bytes = Failed (next_line_number left) bytes ∷ []
 ending_piece Whole left [] = []
 ending_piece Whole left (byte ∷ bytes) = Rest (next_line_number left) (byte ∷ bytes) ∷ []
 
--- what is after the last line end, where at most this many lines may come
+-- what is after the last line end, if at most this many lines may come
 abbrev pub last_piece : InputEnd → ℕ → List ℕ → List PieceValue
 last_piece end left [] = ending_piece end left []
 last_piece end left (byte ∷ bytes) =
@@ -53,13 +53,14 @@ line_then left line others =
     else if nat_lt MAX_UNENDED (length line) then Endless (next_line_number left) line ∷ []
     else Line (next_line_number left) line ∷ others
 
--- the pieces of an input, given what is between its line ends, where at most this many lines may come
+-- the pieces of an input, made of what is between its line ends, if at most this many lines may
+-- come
 abbrev pub pieces_of : InputEnd → ℕ → List (List ℕ) → List PieceValue
 pieces_of end left [] = []
 pieces_of end left (rest ∷ []) = last_piece end left rest
 pieces_of end left (line ∷ next ∷ others) = line_then left line (pieces_of end (left - 1) (next ∷ others))
 
--- the pieces of bytes, where at most this many lines may come
+-- the pieces of bytes, if at most this many lines may come
 abbrev pub pieces_in : InputEnd → ℕ → List ℕ → List PieceValue
 pieces_in end left bytes = pieces_of end left (cut_at_ends bytes)
 

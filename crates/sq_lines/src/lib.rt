@@ -1,4 +1,4 @@
-//! The lines of an input, read from any reader as they come.
+//! The lines of an input, read from any reader as they arrive.
 #![tactic(auto)]
 
 mod buffer;

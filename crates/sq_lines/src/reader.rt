@@ -4,53 +4,55 @@ ghost use Rattle.sq_lines.specs.Pieces.{next_begins, next_line_number, PieceValu
 ghost use Rattle.sq_lines.specs.Coming.{CanCome, CanEnd, IsUndecided, Gives, Finds, ReadsOn, reads_left};
 ghost use Rattle.std.specs.List.{list_all};
 
-use crate::buffer::{MAX_UNENDED, buffer_of, move_to_front, place_of, read_behind};
+use crate::buffer::{MAX_UNENDED, ROOM, move_to_front, place_of, read_behind};
 use std::alloc::{AllocFailed, Global};
 use std::io::Read;
 use std::marker::Model;
 
-/// The most lines that an input has.
+/// The most lines of an input.
 pub const MAX_LINES: u32 = 1_000_000;
 
-/// The next thing of an input. The bytes of a piece are those of [`LineReader::piece`].
+/// What comes next in an input. [`LineReader::piece`] returns the bytes of a piece.
 #[derive(Clone, Copy, Debug, PartialEq, Eq)]
 pub enum Next {
     /// A line, without the byte 0A that ends it.
     Line,
     /// The bytes after the last line end.
     Rest,
-    /// More bytes than were to be looked at without a line end, or more than [`MAX_UNENDED`]. It isn't given.
+    /// More bytes without a line end than were to be searched, or than [`MAX_UNENDED`]. It isn't
+    /// returned as a piece.
     Long,
-    /// A byte after the [`MAX_LINES`]th line. It isn't given.
+    /// A byte after line number [`MAX_LINES`]. It isn't returned as a piece.
     TooMany,
-    /// A read failed behind some bytes, which aren't a piece.
+    /// A read failed. The bytes before it, if any, aren't a piece.
     Failed,
-    /// Nothing.
+    /// The end of the input.
     End,
-    /// It can't be known before more is read.
+    /// Unknown until more is read.
     Unread,
 }
 
-/// How far the reading of an input is.
+/// The state of the reading of an input.
 #[derive(Clone, Copy, Debug, PartialEq, Eq)]
 pub enum ReadState {
-    /// More may come.
+    /// More bytes may arrive.
     Open,
-    /// All was read.
+    /// All bytes were read.
     Ended,
-    /// A read failed, and no other one is made.
+    /// A read failed, and no other is attempted.
     Failed,
 }
 
-/// The lines of what a reader gives, as they come. Its buffer has room for the longest line, and is taken once.
+/// Reads the lines of a reader as they arrive. Its buffer has room for the longest line; it is
+/// allocated once and filled as needed.
 #[derive(Drop)]
 pub struct LineReader<R: Read> {
     reader: R,
     buffer: Vec<u8>,
-    // The piece that was given last.
+    // The piece that was returned last.
     piece_start: usize,
     piece_end: usize,
-    // What was read and not given, up to `end`; there is no line end before `searched`.
+    // The bytes that were read and not yet returned, up to `end`; no line ends before `searched`.
     start: usize,
     searched: usize,
     end: usize,
@@ -64,6 +66,7 @@ impl<R: Read> Model for LineReader<R> {
 
     ghost Value = { LinesValue };
 
+    ghost use Rattle.std.specs.Prelude.{vec_capacity};
     ghost use Rattle.sq_lines.specs.Buffered.{IsBuffered};
 
     ghost view = { λ r. record {
@@ -75,12 +78,13 @@ impl<R: Read> Model for LineReader<R> {
     } };
 
     ghost invariant = { λ r.
-        IsBuffered r.buffer.items r.piece_start r.piece_end r.start r.searched r.end r.reading
-        (R.remaining r.reader) };
+        IsBuffered r.buffer.items (vec_capacity r.buffer) r.piece_start r.piece_end
+        r.start r.searched r.end r.reading (R.remaining r.reader) };
 }
 
 impl<R: Read> LineReader<R> {
-    /// The lines of what a reader gives. Where there is no memory for the buffer, the reader comes back as it was.
+    /// Creates a reader of the lines of `reader`. If there is no memory for the buffer, `reader` is
+    /// returned as it was.
     pub fn new(alloc: Global, reader: R) -> Result<LineReader<R>, AllocFailed<R>>
         ensures held { IfOk result (λ lines. lines.held ≡ []) }
         ensures open { IfOk result (λ lines. lines.reading ≡ ReadState.Open) }
@@ -88,7 +92,7 @@ impl<R: Read> LineReader<R> {
         ensures known { IfOk result (λ lines. lines.known ≡ R.remaining reader) }
         ensures returned { IfErr result (λ refused. refused.value ≡ reader) }
     {
-        match buffer_of(alloc) {
+        match Vec::with_capacity(alloc, ROOM) {
             Ok(buffer) => Ok(LineReader {
                 reader,
                 buffer,
@@ -104,35 +108,36 @@ impl<R: Read> LineReader<R> {
         }
     }
 
-    /// The number of the line that comes next, or in which the input ends, from 1.
+    /// Returns the number, from 1, of the line that comes next or in which the input ends.
     pub fn next_line_number(&self) -> u32
         ensures { result ≡ next_line_number self.now.lines_left }
     {
         MAX_LINES.saturating_sub(self.lines_left) + 1
     }
 
-    /// How many lines may still come.
+    /// Returns how many more lines the input may have.
     pub fn lines_left(&self) -> u32
         ensures { result ≡ self.now.lines_left }
     {
         self.lines_left
     }
 
-    /// The bytes of the piece that was given last.
+    /// Returns the bytes of the last piece.
     pub fn piece(&self) -> &[u8]
         ensures { result.now ≡ self.now.piece }
     {
         &self.buffer[self.piece_start..self.piece_end]
     }
 
-    // What was read and not given.
+    // Returns the bytes that were read and not yet returned.
     fn held(&self) -> &[u8]
         ensures { result.now ≡ self.now.held }
     {
         &self.buffer[self.start..self.end]
     }
 
-    /// Whether the next piece begins so; `None` where that can't be known before more is read.
+    /// Returns true if the next piece begins with `front`; `None` if that is unknown until more is
+    /// read.
     pub fn begins(&self, front: &[u8]) -> Option<bool>
         requires unended { list_all (λ byte. not (byte == 10)) front.now ≡ true }
         requires some { 0 < length front.now }
@@ -155,7 +160,8 @@ impl<R: Read> LineReader<R> {
         }
     }
 
-    /// Gives the next piece, if it is known without a read. The end of a line is looked for in this many bytes.
+    /// Returns what comes next if no read is needed for it, otherwise [`Next::Unread`]. It is
+    /// [`Next::Long`] if over `most` bytes are held without a line end.
     pub fn next(&mut self, most: usize) -> Next
         requires { most ≤ MAX_UNENDED }
         ensures { Gives most self.old result self.new }
@@ -198,7 +204,7 @@ impl<R: Read> LineReader<R> {
         Next::Line
     }
 
-    /// Asks the reader for more bytes, where it isn't known what comes next.
+    /// Reads more bytes, if what comes next is unknown.
     pub fn read_more(&mut self)
         requires { IsUndecided MAX_UNENDED self.old }
         ensures comes { (end : InputEnd) (ps : List PieceValue) → CanEnd self.new end ps
@@ -219,7 +225,8 @@ impl<R: Read> LineReader<R> {
         }
     }
 
-    /// Gives the next piece, and reads as much as is needed for that. It takes one line at most.
+    /// Returns what comes next, and reads as much as is needed to know it. It takes at most one
+    /// line.
     pub fn next_read(&mut self, most: usize) -> Next
         requires { most ≤ MAX_UNENDED }
         ensures finds { Finds most self.old result self.new }
@@ -233,7 +240,8 @@ impl<R: Read> LineReader<R> {
         }
     }
 
-    /// Whether the next piece begins so. Reads as much as is needed to know it.
+    /// Returns true if the next piece begins with `front`, and reads as much as is needed to know
+    /// it.
     pub fn begins_read(&mut self, front: &[u8]) -> bool
         requires unended { list_all (λ byte. not (byte == 10)) front.now ≡ true }
         requires some { 0 < length front.now }

@@ -1,4 +1,4 @@
--- What the fields of a plan in JSON say, before the checks.
+-- The fields of a plan in JSON, before the checks.
 use Rattle.std.specs.Prelude.{◌≡◌, ℕ, nat_lt, List, Some, Option, option_map, Result, Ok, Err}
 use Rattle.std.specs.List.{list_all}
 use Rattle.serde_json.specs.Data.{Data}
@@ -15,20 +15,21 @@ use Rattle.sq_plan.specs.Reading.{ranges_in, checked, plan_of}
 abbrev pub layout : ℕ → List PlanRange → Layout
 layout parts ranges = record { tiling = is_tiling 0 ranges; owned = list_all (λ range. nat_lt range.owner parts) ranges }
 
--- the fields have these ranges, and say how they lie
+-- the fields have these ranges, with what was found about them
 pub record HasRanges (fields : PlanFields) (ranges : List PlanRange) : Type 0 where
   pub items : ranges_in (items_view fields.items.now) ≡ Some ranges
   pub layout : fields.layout ≡ layout fields.parts ranges
 
--- what the fields say of stages
+-- the text of the field `stages`
 abbrev pub stages_of : PlanFields → Option (List ℕ)
 stages_of fields = option_map (λ text. text.now) fields.stages
 
--- what the checks of fields with these ranges come to: the plan, or the fault of the first that fails
+-- the result of the checks of fields with these ranges: the plan, or the fault of the first check
+-- that fails
 abbrev pub checked_fields : PlanFields → List PlanRange → Result PlanValue PlanFault
 checked_fields fields ranges = checked (stages_of fields) fields.parts ranges
 
--- the checks of these fields decide what the JSON value is read as
+-- the checks of these fields decide how the JSON value is read
 abbrev pub AreFieldsOf : Data → PlanFields → Type 0
 AreFieldsOf value fields = (ranges : List PlanRange) × HasRanges fields ranges × (plan_of value ≡ checked_fields fields ranges)
 
@@ -36,7 +37,7 @@ AreFieldsOf value fields = (ranges : List PlanRange) × HasRanges fields ranges 
 abbrev pub plan_under : Heading → List PlanRange → PlanValue
 plan_under heading ranges = record { version = heading.version; parts = heading.parts; ranges = ranges }
 
--- the checks of fields with these ranges come to the plan with this heading, or to this fault
+-- the checks of fields with these ranges result in the plan with this heading, or in this fault
 abbrev pub ChecksTo : PlanFields → List PlanRange → Result Heading PlanFault → Type 0
 ChecksTo fields ranges (Ok heading) = checked_fields fields ranges ≡ Ok (plan_under heading ranges)
 ChecksTo fields ranges (Err fault) = checked_fields fields ranges ≡ Err fault

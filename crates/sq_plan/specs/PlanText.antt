@@ -1,5 +1,5 @@
--- The text of a plan: {"partitions":P,"ranges":[[lo,hi,owner],..],"version":1}, or with "stages":"..","version":2 at its end;
--- with no white space.
+-- The text of a plan: {"partitions":P,"ranges":[[lo,hi,owner],..],"version":1}, or with
+-- "stages":"..","version":2 at its end; without white space.
 use Rattle.std.specs.Prelude.{ℕ, List, ◌++◌, map, codes, decimal}
 use Rattle.std.specs.List.{join_with_byte}
 use Rattle.sq_plan.specs.declared.plan.PlanRange.{PlanRange}
@@ -16,7 +16,7 @@ range_text range = codes "[" ++ decimal range.lo ++ codes "," ++ decimal range.h
 abbrev pub ranges_text : List PlanRange → List ℕ
 ranges_text ranges = join_with_byte 44 (map range_text ranges)
 
--- the version, and before it what the second says of stages
+-- the version, and in the second before it the stages
 abbrev pub version_text : Version → List ℕ
 version_text First = codes "\"version\":1"
 version_text (Second stages) = codes "\"stages\":\"" ++ stages_name stages ++ codes "\",\"version\":2"

@@ -18,7 +18,8 @@ abbrev pub is_tiling : ℕ → List PlanRange → Bool
 is_tiling lo [] = lo == ROOT_END
 is_tiling lo (range ∷ ranges) = (range.lo == lo) && (nat_lt range.lo range.hi && is_tiling range.hi ranges)
 
--- there are partitions, not too many for the version; the ranges tile the root keys, and the partitions own them
+-- there are partitions, not too many for the version; the ranges tile the root keys, and the
+-- partitions own them
 pub record IsPlan (plan : PlanValue) : Type 0 where
   pub some_part : 1 ≤ plan.parts
   pub few_parts : plan.parts ≤ parts_limit plan.version
@@ -39,7 +40,7 @@ found_owner (Some range) = range.owner
 abbrev pub owner : PlanValue → ℕ → ℕ
 owner plan key = found_owner (find (λ range. holds range key) plan.ranges)
 
--- the range alone holds the key, and its owner is the key's: one of the plan's partitions
+-- only this range holds the key, and its owner is the key's: one of the plan's partitions
 pub record IsHolder (plan : PlanValue) (key : ℕ) (range : PlanRange) : Type 0 where
   pub alone : filter (λ range. holds range key) plan.ranges ≡ range ∷ []
   pub owns : owner plan key ≡ range.owner

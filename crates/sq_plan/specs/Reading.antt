@@ -16,7 +16,7 @@ use Rattle.sq_plan.specs.declared.fault.PlanFault.TheVariants.{NotJson, Shape, V
 use Rattle.sq_plan.specs.Version.{stages_named}
 use Rattle.sq_plan.specs.PlanValue.{PlanValue, is_tiling}
 
--- the number, where it is whole: not negative, below 2 ^ 64, and written without point and exponent
+-- the number, if it is whole: not negative, below 2 ^ 64, and written without point and exponent
 abbrev pub whole_in : Data → Option ℕ
 whole_in value = option_and_then as_u64 (as_number value)
 
@@ -32,11 +32,11 @@ range_of_items (item lo (item hi (item owner no_items))) =
     (whole_in lo)
 range_of_items _ = None
 
--- a range, where the value is an array of three whole numbers
+-- a range, if the value is an array of three whole numbers
 abbrev pub range_in : Data → Option PlanRange
 range_in value = option_and_then range_of_items (as_array value)
 
--- the ranges, where each item is one
+-- the ranges, if each item is one
 abbrev pub ranges_in : Items → Option (List PlanRange)
 ranges_in no_items = Some []
 ranges_in (item value values) =
@@ -50,11 +50,11 @@ ranges_at name value = option_and_then ranges_in (option_and_then as_array (get 
 abbrev pub text_at : List ℕ → Data → Option (List ℕ)
 text_at name value = option_and_then as_str (get name value)
 
--- what a plan says of stages, where it has to: not in the first version
+-- the text of the field `stages`, which only the second version requires
 abbrev pub stages_at : ℕ → Data → Option (Option (List ℕ))
 stages_at version value = if version == 1 then Some None else option_map Some (text_at (codes "stages") value)
 
--- the version, by what the plan says of stages
+-- the version of a plan with these stages
 abbrev pub version_by : Option (List ℕ) → Option PlanVersion
 version_by None = Some First
 version_by (Some text) = option_map Second (stages_named text)
@@ -67,7 +67,7 @@ parts_limit_by (Some text) = MAX_PARTS
 abbrev pub check : Bool → PlanFault → Result ⊤ PlanFault
 check test fault = if test then Ok tt else Err fault
 
--- the plan that says this of stages and has these partitions and ranges, or the fault of the first check that fails
+-- the plan with these stages, partitions and ranges, or the fault of the first check that fails
 abbrev pub checked : Option (List ℕ) → ℕ → List PlanRange → Result PlanValue PlanFault
 checked stages parts ranges = do
   are_some ← check (nat_le 1 parts && nat_le parts (parts_limit_by stages)) PartitionCount
@@ -87,7 +87,7 @@ plan_of value = do
   stages ← ok_or (stages_at version value) Shape
   checked stages parts ranges
 
--- the JSON value that the bytes are, where they are UTF-8 and a JSON text
+-- the JSON value that the bytes spell, if they are UTF-8 and JSON
 unfoldable pub json_of : List ℕ → Option Data
 json_of bytes = if is_utf8 bytes then read bytes else None
 

@@ -1,5 +1,5 @@
--- How a plan is written in JSON: {"version":1,"partitions":P,"ranges":[[lo,hi,owner],..]}, in version 2 with "stages":".."; the
--- fields in any order and among others.
+-- How a plan is written in JSON: {"version":1,"partitions":P,"ranges":[[lo,hi,owner],..]}, in
+-- version 2 with "stages":".."; the fields in any order, other fields among them.
 use Rattle.std.specs.Prelude.{◌≡◌, ℕ, List, [], ◌∷◌, Some, codes}
 use Rattle.serde_json.specs.Data.{Data, Items, Members, number, unsigned, string, array, no_items, item, object, member, no_members}
 use Rattle.serde_json.specs.Find.{get}
@@ -9,7 +9,7 @@ use Rattle.sq_plan.specs.declared.version.Version.TheVariants.{First, Second}
 use Rattle.sq_plan.specs.Version.{version_number, stages_name}
 use Rattle.sq_plan.specs.PlanValue.{PlanValue}
 
--- a whole number, as JSON has it
+-- a whole number in JSON
 abbrev pub number_data : ℕ → Data
 number_data n = number (unsigned n)
 
@@ -22,7 +22,7 @@ abbrev pub ranges_data : List PlanRange → Items
 ranges_data [] = no_items
 ranges_data (range ∷ ranges) = item (range_data range) (ranges_data ranges)
 
--- the JSON value says of stages what the version says of them
+-- the JSON value has the stages of the version
 abbrev pub SpellsStages : Data → Version → Type 0
 SpellsStages value First = Unit {0}
 SpellsStages value (Second stages) = get (codes "stages") value ≡ Some (string (stages_name stages))
@@ -39,7 +39,7 @@ abbrev pub version_data : Version → Members
 version_data First = member (codes "version") (number_data 1) no_members
 version_data (Second stages) = member (codes "stages") (string (stages_name stages)) (member (codes "version") (number_data 2) no_members)
 
--- the JSON value that has the fields of the plan alone
+-- the JSON value with only the fields of the plan
 abbrev pub plan_data : PlanValue → Data
 plan_data plan =
     object (

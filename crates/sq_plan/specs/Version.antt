@@ -1,4 +1,4 @@
--- Versions of the format of plans: their numbers, what they say of stages, and how many partitions they allow.
+-- Versions of the format of plans: their numbers, their stages, and how many partitions they allow.
 use Rattle.std.specs.Prelude.{ℕ, Bool, true, false, List, [], ◌∷◌, Option, bytes_eq, codes, find}
 use Rattle.sq_plan.specs.declared.plan.TheConstants.{MAX_PARTS, FIRST_MAX_PARTS}
 use Rattle.sq_plan.specs.declared.version.Stages.{Stages}
@@ -6,12 +6,12 @@ use Rattle.sq_plan.specs.declared.version.Stages.TheVariants.{One, Auto}
 use Rattle.sq_plan.specs.declared.version.Version.{Version}
 use Rattle.sq_plan.specs.declared.version.Version.TheVariants.{First, Second}
 
--- the number that a plan has for it
+-- the number of a version in a plan
 abbrev pub version_number : Version → ℕ
 version_number First = 1
 version_number (Second stages) = 2
 
--- how many partitions a plan of this version has at most
+-- the most partitions of a plan of this version
 abbrev pub parts_limit : Version → ℕ
 parts_limit First = FIRST_MAX_PARTS
 parts_limit (Second stages) = MAX_PARTS
@@ -22,11 +22,11 @@ is_auto First = false
 is_auto (Second One) = false
 is_auto (Second Auto) = true
 
--- the text that a plan has for it
+-- the text of stages in a plan
 abbrev pub stages_name : Stages → List ℕ
 stages_name One = codes "one"
 stages_name Auto = codes "auto"
 
--- what a text says of stages
+-- the stages that a text names
 unfoldable pub stages_named : List ℕ → Option Stages
 stages_named name = find (λ stages. bytes_eq (stages_name stages) name) (One ∷ Auto ∷ [])

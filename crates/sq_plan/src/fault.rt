@@ -6,9 +6,10 @@ use sq_explain::meaning;
 use sq_schema::OUT_OF_MEMORY;
 use thiserror::Error;
 
-/// Why bytes weren't read as a plan. The checks come in this order, and the first that fails is the fault: `NotJson`,
-/// `Shape` for the object and its version, `Version`, `Shape` for the other fields, `PartitionCount`, `TooManyRanges`,
-/// `RangeOrder`, `PartitionNumber`, `BadStages`. The table of `sq_explain` says what each means, by its number.
+/// Why bytes weren't read as a plan. The checks come in this order, and the first that fails is the
+/// fault: `NotJson`, `Shape` for the object and its version, `Version`, `Shape` for the other
+/// fields, `PartitionCount`, `TooManyRanges`, `RangeOrder`, `PartitionNumber`, `BadStages`. The
+/// table of `sq_explain` says what each number means.
 #[derive(Clone, Copy, Debug, PartialEq, Eq, Error)]
 #[error("{}", meaning(self.number()))]
 pub enum PlanFault {
@@ -24,7 +25,7 @@ pub enum PlanFault {
 }
 
 impl PlanFault {
-    /// The number that a user sees.
+    /// Returns the number that a user sees.
     pub fn number(self) -> u16
         ensures { result ≡ plan_fault_number self }
     {

@@ -1,4 +1,5 @@
-//! Partition plans: which partition owns which root keys (Elmore et al., Squall, SIGMOD 2015; H-Store).
+//! Partition plans: which partition owns which root keys (Elmore et al., Squall, SIGMOD 2015;
+//! H-Store).
 #![tactic(auto)]
 
 mod fault;

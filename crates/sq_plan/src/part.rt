@@ -18,14 +18,14 @@ impl Model for PartId {
 }
 
 impl PartId {
-    /// The partition of this number.
+    /// Returns the partition with this `number`.
     pub fn new(number: u8) -> PartId
         ensures { result ≡ number }
     {
         PartId(number)
     }
 
-    /// Its number, from 0.
+    /// Returns the number, from 0.
     pub fn number(self) -> u8
         ensures { result ≡ self }
     {

@@ -10,16 +10,16 @@ use sq_schema::Root;
 use std::alloc::{AllocError, Global};
 use std::marker::Model;
 
-/// The most partitions that a plan has.
+/// The most partitions of a plan.
 pub const MAX_PARTS: u64 = 64;
 
-/// The most partitions that a plan of the first version has.
+/// The most partitions of a plan of the first version.
 pub const FIRST_MAX_PARTS: u64 = 16;
 
-/// The most ranges that a plan has.
+/// The most ranges of a plan.
 pub const MAX_RANGES: usize = 256;
 
-/// The root keys from `lo` up to `hi`, and the partition that owns them.
+/// The root keys from `lo` up to, not including, `hi`, and the partition that owns them.
 #[derive(Clone, Copy, Debug, PartialEq, Eq)]
 pub struct PlanRange {
     pub lo: u64,
@@ -28,9 +28,10 @@ pub struct PlanRange {
     pub owner: PartId,
 }
 
-/// A partition plan: the version of the format that it is written in; 1 to [`MAX_PARTS`] partitions, in the first
-/// version at most [`FIRST_MAX_PARTS`]; and at most [`MAX_RANGES`] ranges, sorted, nonempty and without gap from 0 to
-/// [`sq_schema::ROOT_END`], each with an owner among the partitions. To a contract it is a `PlanValue`.
+/// A partition plan: the version of its format; 1 to [`MAX_PARTS`] partitions, at most
+/// [`FIRST_MAX_PARTS`] in the first version; and at most [`MAX_RANGES`] ranges, sorted, nonempty
+/// and without gaps from 0 to [`sq_schema::ROOT_END`], each owned by one of the partitions. To a
+/// contract it is a `PlanValue`.
 #[derive(Debug, Drop)]
 pub struct Plan {
     version: Version,
@@ -57,7 +58,7 @@ impl Plan {
     ghost use Rattle.sq_plan.specs.Reading.{ReadsPlan, json_of, plan_in};
     ghost use Rattle.sq_plan.specs.PlanText.{plan_text};
 
-    // A plan of this version and this many partitions with these ranges.
+    // Creates a plan of this `version` with `parts` partitions and these `ranges`.
     pub(crate) fn of(version: Version, parts: u8, ranges: Vec<PlanRange>) -> Plan
         requires { IsPlan (record { version = version; parts = parts; ranges = ranges.items }) }
         ensures { result ≡ record { version = version; parts = parts; ranges = ranges.items } }
@@ -69,20 +70,21 @@ impl Plan {
         }
     }
 
-    /// The plan that the bytes spell in JSON, as `{"version":1,"partitions":P,"ranges":[[lo,hi,owner],..]}`, or with
-    /// `"version":2` and `"stages":"one"` or `"stages":"auto"`: the fields in any order and among others. Otherwise the
-    /// fault of the first check that fails, in the order that [`PlanFault`] has. For bytes that aren't empty,
-    /// [`PlanFault::Memory`] may come in place of any answer.
+    /// Reads the plan that `bytes` spell in JSON, as
+    /// `{"version":1,"partitions":P,"ranges":[[lo,hi,owner],..]}`, or with `"version":2` and
+    /// `"stages":"one"` or `"stages":"auto"`: the fields in any order, other fields among them.
+    /// Otherwise refused with the fault of the first check that fails, in the order of
+    /// [`PlanFault`]. Unless `bytes` are empty, [`PlanFault::Memory`] may replace any answer.
     pub fn read(alloc: Global, bytes: &[u8]) -> Result<Plan, PlanFault>
-        // The plan, or the fault of the first check that fails.
+        // The result is the plan, or the fault of the first check that fails.
         ensures exact { ReadsPlan result (plan_in bytes.now) }
-        // What is read is a plan, and the bytes spell it.
+        // The result is a plan, and the bytes spell it.
         ensures found { IfOk result (λ plan. IsPlan plan
             × ((value : Data) × (json_of bytes.now ≡ Some value) × Spells value plan)) }
-        // Each plan that bytes spell is read from them, unless memory runs out.
+        // Every plan that bytes spell is read from them, unless memory runs out.
         ensures only { (value : Data) (plan : PlanValue) → json_of bytes.now ≡ Some value
             → Spells value plan → IsPlan plan → ReadsPlan result (Ok plan) }
-        // Only what is no JSON text is refused as none.
+        // `NotJson` is returned only for bytes that aren't JSON.
         ensures no_json { result ≡ Err PlanFault.NotJson → json_of bytes.now ≡ None }
         ensures memory { result ≡ Err PlanFault.Memory → 0 < length bytes.now }
     {
@@ -90,19 +92,20 @@ impl Plan {
         plan_of(alloc, &value)
     }
 
-    /// The plan in compact JSON, as `{"partitions":P,"ranges":[[lo,hi,owner],..],"version":1}`, in the second version
-    /// with `"stages"` before `"version"`, and with the ranges as they are: none is merged. The only fault is that
-    /// memory ran out.
+    /// Writes the plan in compact JSON, as
+    /// `{"partitions":P,"ranges":[[lo,hi,owner],..],"version":1}`, in the second version with
+    /// `"stages"` before `"version"`. The ranges are written as they are, none merged. Fails only
+    /// if memory runs out.
     pub fn write(&self) -> Result<String, AllocError>
         ensures text { IfOk result (λ text. string_bytes text ≡ plan_text self.now) }
-        // Reading the text gives the plan again.
+        // Reading the text returns the plan again.
         ensures reads_back { IfOk result (λ text. plan_in (string_bytes text) ≡ Ok self.now) }
     {
         let alloc = *self.ranges.allocator();
         plan_value(alloc, self)?.to_string(alloc)
     }
 
-    /// The owner of a root key.
+    /// Returns the owner of `root`.
     pub fn owner(&self, root: Root) -> PartId
         ensures owner { result ≡ owner self.now root }
         ensures exists { result < self.now.parts }
@@ -116,14 +119,14 @@ impl Plan {
         self.ranges[at].owner
     }
 
-    /// The version of the format that it is written in.
+    /// Returns the version of the plan's format.
     pub fn version(&self) -> Version
         ensures { result ≡ self.now.version }
     {
         self.version
     }
 
-    /// How many partitions there are, from 1 to [`MAX_PARTS`].
+    /// Returns the number of partitions, from 1 to [`MAX_PARTS`].
     #[tactic(auto, using(crate::proofs::Checks::parts_bound))]
     pub fn parts(&self) -> u8
         ensures parts { result ≡ self.now.parts }
@@ -133,7 +136,7 @@ impl Plan {
         self.parts
     }
 
-    /// The ranges, in key order.
+    /// Returns the ranges, in key order.
     pub fn ranges(&self) -> &[PlanRange]
         ensures ranges { result.now ≡ self.now.ranges }
         ensures plan { IsPlan self.now }

@@ -1,4 +1,4 @@
-// Reading a plan from JSON.
+// Reads a plan from JSON.
 ghost use Rattle.std.specs.Prelude.{◌≡◌, ◌^◌, ◌<◌, ◌≤◌, ◌⊎◌, nat_lt, List, length, true, Some, None, Err, MatchResult, IfOk, IsOk, IsSomeAnd, option_map};
 ghost use Rattle.std.specs.List.{list_all};
 ghost use Rattle.sq_plan.specs.declared.plan.PlanRange.{PlanRange};
@@ -15,7 +15,8 @@ use sq_schema::ROOT_END;
 use std::alloc::{AllocError, Global};
 use std::marker::Model;
 
-/// A range as the JSON has it, whose owner may be no partition. To a contract it is the range.
+/// A range as it is in JSON, whose owner isn't necessarily a partition. To a contract it is the
+/// range.
 #[derive(Clone, Copy, Debug, PartialEq, Eq)]
 pub struct JsonRange {
     pub lo: u64,
@@ -35,7 +36,8 @@ impl Model for JsonRange {
 }
 
 impl JsonRange {
-    /// The range that a JSON value is: an array of three whole numbers.
+    /// Reads a range from `item`, an array of three whole numbers; `None` if `item` is anything
+    /// else.
     pub fn of(item: &Value) -> Option<JsonRange>
         ensures { result ≡ range_in (view item.now) }
     {
@@ -49,7 +51,7 @@ impl JsonRange {
         })
     }
 
-    // The range, whose owner is the number of a partition.
+    // Returns the range, whose owner is the number of a partition.
     fn range(self) -> PlanRange
         requires { self.owner < 2 ^ 8 }
         ensures { result ≡ self }
@@ -62,7 +64,7 @@ impl JsonRange {
     }
 }
 
-// The JSON value that the bytes are.
+// Reads the JSON value that `bytes` spell.
 pub(crate) fn json_in(alloc: Global, bytes: &[u8]) -> Result<Value, PlanFault>
     ensures { MatchResult result
         (λ value. json_of bytes.now ≡ Some (view value))
@@ -76,23 +78,24 @@ pub(crate) fn json_in(alloc: Global, bytes: &[u8]) -> Result<Value, PlanFault>
     }
 }
 
-// The whole number of a field.
+// Returns the whole number of the field `name`.
 fn whole_number(value: &Value, name: &str) -> Option<u64>
     ensures { result ≡ whole_at name.now (view value.now) }
 {
     value.get(name).and_then(Value::as_u64)
 }
 
-/// The result of the items of `ranges`, each of them three whole numbers.
+/// What was found about the items of `ranges`, each of them three whole numbers.
 #[derive(Clone, Copy)]
 struct Layout {
-    /// The ranges follow one another from 0 to the end of the root keys, none of them empty.
+    /// True if the ranges follow one another from 0 to the end of the root keys, none of them
+    /// empty.
     tiling: bool,
-    /// Each owner is the number of one of the partitions.
+    /// True if each owner is one of the partitions.
     owned: bool,
 }
 
-// The result of the items; `None` where one isn't three whole numbers.
+// Checks the items; `None` if one isn't three whole numbers.
 fn layout_of(items: &[Value], parts: u64) -> Option<Layout>
     ensures { result ≡ option_map (layout parts) (ranges_in (items_view items.now)) }
 {
@@ -111,24 +114,24 @@ fn layout_of(items: &[Value], parts: u64) -> Option<Layout>
     })
 }
 
-// The text of a field.
+// Returns the text of the field `name`.
 fn text<'a>(value: &'a Value, name: &str) -> Option<&'a str>
     ensures { option_map (λ text. text.now) result ≡ text_at name.now (view value.now) }
 {
     value.get(name).and_then(Value::as_str)
 }
 
-/// What the fields say.
+/// The fields of a plan.
 #[derive(Clone, Copy)]
 struct PlanFields<'a> {
-    /// What is said of stages, in the second version.
+    /// The text of `stages`, in the second version.
     stages: Option<&'a str>,
     parts: u64,
     items: &'a [Value],
     layout: Layout,
 }
 
-// What a plan says of stages, which it has to in the second version alone.
+// Returns the text of `stages`, a field that only the second version requires.
 fn stages_in(value: &Value, version: u64) -> Option<Option<&str>>
     ensures { option_map (λ stages. option_map (λ text. text.now) stages) result
         ≡ stages_at version (view value.now) }
@@ -140,7 +143,7 @@ fn stages_in(value: &Value, version: u64) -> Option<Option<&str>>
     }
 }
 
-// What the fields say, or the fault of the first check of them that fails.
+// Returns the fields, or the fault of the first of their checks that fails.
 fn fields_of(value: &Value) -> Result<PlanFields<'_>, PlanFault>
     ensures { MatchResult result
         (AreFieldsOf (view value.now))
@@ -165,7 +168,7 @@ fn fields_of(value: &Value) -> Result<PlanFields<'_>, PlanFault>
     })
 }
 
-// How many partitions there are at most, by what a plan says of stages.
+// Returns the most partitions of a plan with these `stages`.
 fn parts_limit(stages: Option<&str>) -> u64
     ensures limit { result ≡ parts_limit_by (option_map (λ text. text.now) stages.entry) }
     ensures bound { result ≤ MAX_PARTS }
@@ -177,7 +180,7 @@ fn parts_limit(stages: Option<&str>) -> u64
     }
 }
 
-// The version, by what a plan says of stages; `None` where that is unknown.
+// Returns the version of a plan with these `stages`; `None` if their text is unknown.
 fn version_by(stages: Option<&str>) -> Option<Version>
     ensures { result ≡ version_by (option_map (λ text. text.now) stages.entry) }
 {
@@ -187,14 +190,14 @@ fn version_by(stages: Option<&str>) -> Option<Version>
     }
 }
 
-/// What a plan says besides its ranges.
+/// The parts of a plan other than its ranges.
 #[derive(Clone, Copy)]
 struct Heading {
     version: Version,
     parts: u8,
 }
 
-// What the plan says besides its ranges, or the fault of the first check that fails.
+// Returns the parts of the plan other than its ranges, or the fault of the first check that fails.
 fn heading_of(fields: PlanFields<'_>) -> Result<Heading, PlanFault>
     ensures { (ranges : List PlanRange) → HasRanges fields.entry ranges
         → ChecksTo fields.entry ranges result }
@@ -235,7 +238,7 @@ fn ranges_of(alloc: Global, items: &[Value]) -> Result<Vec<PlanRange>, AllocErro
     Ok(ranges)
 }
 
-// The plan that a JSON value spells. Memory is looked for after each check.
+// Returns the plan that a JSON value spells. Memory is taken only after every check.
 pub(crate) fn plan_of(alloc: Global, value: &Value) -> Result<Plan, PlanFault>
     ensures gives { ReadsPlan result (plan_of_json (view value.now)) }
     ensures memory { result ≡ Err PlanFault.Memory → IsOk (plan_of_json (view value.now)) }

@@ -1,16 +1,16 @@
 // Versions of the format of plans.
 ghost use Rattle.std.specs.Prelude.{◌≡◌};
 
-/// Whether what moves to a plan moves in one part or in stages.
+/// How the rows that move to a plan are divided.
 #[derive(Clone, Copy, Debug, PartialEq, Eq)]
 pub enum Stages {
-    /// In one part.
+    /// They move all at once.
     One,
-    /// In stages: each partition gives keys to one other at a time.
+    /// They move in stages: in each, a partition sends keys to only one other.
     Auto,
 }
 
-/// The version of the format that a plan is written in, and what it says of stages, which only the second does.
+/// The version of the format of a plan, with its stages, which only the second version names.
 #[derive(Clone, Copy, Debug, PartialEq, Eq)]
 pub enum Version {
     /// `"version":1`
@@ -22,7 +22,7 @@ pub enum Version {
 impl Stages {
     ghost use Rattle.sq_plan.specs.Version.{stages_name, stages_named};
 
-    // What a text names.
+    // Returns the stages with this `name`.
     #[tactic(auto, unfolding(crate::specs::Version::stages_named))]
     pub(crate) fn of(name: &[u8]) -> Option<Stages>
         ensures { result ≡ stages_named name.now }
@@ -34,7 +34,7 @@ impl Stages {
         }
     }
 
-    // The text that names it.
+    // Returns the name in JSON.
     pub(crate) fn name(self) -> &'static str
         ensures { result.now ≡ stages_name self }
     {
@@ -48,7 +48,7 @@ impl Stages {
 impl Version {
     ghost use Rattle.sq_plan.specs.Version.{is_auto};
 
-    /// Whether what moves to a plan of this version moves in stages.
+    /// Returns true if a move to a plan of this version has stages (`auto`).
     pub fn is_auto(self) -> bool
         ensures { result ≡ is_auto self }
     {

@@ -1,4 +1,4 @@
-// A plan as JSON.
+// Writes a plan as JSON.
 ghost use Rattle.std.specs.Prelude.{◌≡◌, IfOk};
 ghost use Rattle.serde_json.specs.Data.{array};
 ghost use Rattle.serde_json.specs.View.{view};
@@ -9,14 +9,14 @@ use crate::version::Version;
 use serde_json::{Value, json};
 use std::alloc::{AllocError, Global};
 
-// A range as JSON.
+// Returns `range` as JSON.
 fn range_value(alloc: Global, range: PlanRange) -> Result<Value, AllocError>
     ensures { IfOk result (λ value. view value ≡ range_data range) }
 {
     json!(in alloc; [range.lo, range.hi, range.owner.number()])
 }
 
-// The ranges as JSON, one for one.
+// Returns `ranges` as JSON, one for one.
 fn ranges_value(alloc: Global, ranges: &[PlanRange]) -> Result<Value, AllocError>
     ensures { IfOk result (λ value. view value ≡ array (ranges_data ranges.now)) }
 {
@@ -27,7 +27,7 @@ fn ranges_value(alloc: Global, ranges: &[PlanRange]) -> Result<Value, AllocError
     Ok(Value::Array(values))
 }
 
-// The plan as JSON.
+// Returns `plan` as JSON.
 pub(crate) fn plan_value(alloc: Global, plan: &Plan) -> Result<Value, AllocError>
     ensures { IfOk result (λ value. view value ≡ plan_data plan.now) }
 {

@@ -10,7 +10,7 @@ use Rattle.sq_ranges.specs.declared.segment.TheConstants.{SEGMENT_LIMIT, FIRST_S
 use Rattle.sq_ranges.specs.ReconValue.{ReconValue, IsRecon, segments_of, is_width}
 use Rattle.sq_ranges.specs.Moves.{moves_of, AreMoves}
 
--- how many segments a move to a plan of this version has at most
+-- the most segments of a move to a plan of this version
 abbrev pub segment_limit : Version → ℕ
 segment_limit First = FIRST_SEGMENT_LIMIT
 segment_limit (Second stages) = SEGMENT_LIMIT

@@ -1,7 +1,7 @@
--- Where a chunk of bounded size ends, that takes families from the front of a list of root keys.
+-- Where a chunk of bounded size ends that takes families from the front of a list of root keys.
 use Rattle.std.specs.Prelude.{ℕ, ◌-◌, nat_le, if◌then◌else◌, List, [], ◌∷◌}
 
--- the first key whose family doesn't fit any more into this room, or hi
+-- the first key whose family no longer fits into this room, or hi
 abbrev pub end_within : (ℕ → ℕ) → ℕ → ℕ → List ℕ → ℕ
 end_within size hi room [] = hi
 end_within size hi room (root ∷ roots) = if nat_le (size root) room then end_within size hi (room - size root) roots else root

@@ -1,4 +1,5 @@
--- Faults of a reconfiguration and of an opening: the first as the second, and their numbers as a user sees them.
+-- Faults of a reconfiguration and of an opening: the first as the second, and their numbers as a
+-- user sees them.
 use Rattle.std.specs.Prelude.{ℕ}
 use Rattle.sq_schema.specs.declared.fault.RowFault.{RowFault}
 use Rattle.sq_schema.specs.declared.fault.RowFault.TheVariants as row

@@ -1,4 +1,4 @@
--- Opening rows as they are given, the table that they make, and what an opening is made of.
+-- Opening rows as they are given, the table that they form, and the parts of an opening.
 use Rattle.std.specs.Prelude.{◌≡◌, ℕ, true, nat_lt, List, [], ◌∷◌}
 use Rattle.std.specs.List.{AllPass}
 use Rattle.std.specs.Ordering.{nat_cmp}
@@ -22,13 +22,13 @@ key_of given = record { table = given.table; sub = given.sub }
 abbrev pub row_of : GivenRow → RowValue
 row_of given = record { number = given.number; note = given.note.items }
 
--- an opening row: its root key, where it is within it, and the row itself
+-- an opening row: its root key, its place within it, and the row itself
 pub record GivenValue : Type 0 where
   pub root : ℕ
   pub key : RowKey
   pub row : RowValue
 
--- what a given row says
+-- the value of a given row
 abbrev pub value_of : GivenRow → GivenValue
 value_of given = record { root = given.root; key = key_of given; row = row_of given }
 

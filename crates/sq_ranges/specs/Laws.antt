@@ -1,4 +1,4 @@
--- What holds of reconfigurations, in few words.
+-- Short definitions for the laws of reconfigurations.
 use Rattle.std.specs.Prelude.{◌≡◌, ◌≢◌, ℕ, ◌≤◌, ◌<◌, true, false, IsTrue, List, Option, None, Some, slice_get}
 use Rattle.sq_plan.specs.PlanValue.{PlanValue, owner}
 use Rattle.sq_tree.specs.Prelude.{is_node, is_under}
@@ -11,12 +11,12 @@ pub record IsHoldingSegment (segments : List Range) (key i : ℕ) (segment : Ran
   pub at : slice_get segments i ≡ Some segment
   pub held : has_key segment key ≡ true
 
--- the key lies in this segment of the move, the one of this number
+-- the key is in this segment of the move, the one with this number
 pub record LiesInSegment (recon : ReconValue) (key i : ℕ) (segment : Range) : Type 0 where
   pub is : IsRecon recon
   pub holder : IsHoldingSegment recon.segments key i segment
 
--- a key that moves is in this segment alone, which goes from its old owner to its new one
+-- a key that moves is only in this segment, which goes from its old owner to its new one
 pub record IsMovedBy (old new : PlanValue) (segments : List Range) (key i : ℕ) (segment : Range) : Type 0 where
   pub holder : IsHoldingSegment segments key i segment
   pub src : owner old key ≡ segment.src
@@ -24,7 +24,8 @@ pub record IsMovedBy (old new : PlanValue) (segments : List Range) (key i : ℕ)
   pub moves : segment.src ≢ segment.dst
   pub only : (j : ℕ) (other : Range) → IsHoldingSegment segments key j other → j ≡ i
 
--- where a key's segment was looked for: it has none and keeps its owner, or it moves with this one alone
+-- the result of the search for a key's segment: it has none and keeps its owner, or it moves with
+-- only this one
 abbrev pub IsSegmentOf : PlanValue → PlanValue → List Range → ℕ → Option ℕ → Type 0
 IsSegmentOf old new segments key None = owner old key ≡ owner new key
 IsSegmentOf old new segments key (Some i) = (segment : Range) × IsMovedBy old new segments key i segment
@@ -45,7 +46,7 @@ pub record Covers (keys : Extent) (key : ℕ) : Type 0 where
   pub low : keys.lo ≤ key
   pub high : key < keys.hi
 
--- one lies in the other, from end to end or less
+-- the first are among the others
 pub record LiesIn (keys others : Extent) : Type 0 where
   pub low : others.lo ≤ keys.lo
   pub rises : keys.lo ≤ keys.hi

@@ -7,14 +7,14 @@ use Rattle.sq_plan.specs.PlanValue.{PlanValue, owner}
 use Rattle.sq_ranges.specs.declared.recon.Range.{Range}
 use Rattle.sq_ranges.specs.ReconValue.{has_key}
 
--- a nonempty run of root keys that the source owns by the old plan and the destination by the new
+-- a nonempty run of root keys that the source owns in the old plan and the destination in the new
 pub record IsMovingRun (old new : PlanValue) (range : Range) : Type 0 where
   pub some : range.lo < range.hi
   pub within : range.hi ≤ ROOT_END
   pub moves : range.src ≢ range.dst
   pub owned : (key : ℕ) → range.lo ≤ key → key < range.hi → (owner old key ≡ range.src) × (owner new key ≡ range.dst)
 
--- two runs can't be joined: keys lie between them, or they have different ends
+-- two runs can't be joined: keys are between them, or they have different ends
 abbrev pub AreUnjoinable : Range → Range → Type 0
 AreUnjoinable one next = (one.hi ≤ next.lo) × (one.hi ≡ next.lo → one.src ≡ next.src → one.dst ≢ next.dst)
 
@@ -24,7 +24,7 @@ AreMaximal [] = Unit {0}
 AreMaximal (one ∷ []) = Unit {0}
 AreMaximal (one ∷ next ∷ ranges) = AreUnjoinable one next × AreMaximal (next ∷ ranges)
 
--- the maximal runs of keys with one pair of owners that differ, in key order
+-- the maximal runs of keys that have the same two owners, which differ, in key order
 pub record AreMoves (old new : PlanValue) (ranges : List Range) : Type 0 where
   pub runs : All (IsMovingRun old new) ranges
   pub maximal : AreMaximal ranges
@@ -43,7 +43,8 @@ overlap one other = record { lo = max one.lo other.lo; hi = min one.hi other.hi;
 abbrev pub moves_keys : Range → Bool
 moves_keys range = nat_lt range.lo range.hi && not (range.src == range.dst)
 
--- a range put before those that follow it; one with the next where that continues it with the same owners
+-- a range put before those that follow it; joined with the next if that continues it with the same
+-- owners
 abbrev pub joined_with : Range → List Range → List Range
 joined_with range [] = range ∷ []
 joined_with range (next ∷ ranges) =

@@ -1,4 +1,4 @@
--- Reconfiguration ranges, segments, and where their nodes and leaves lie.
+-- Reconfiguration ranges, segments, and the places of their nodes and leaves.
 use Rattle.std.specs.Prelude.{◌≡◌, ◌↔◌, ℕ, Bool, true, ◌+◌, ◌-◌, ◌*◌, ◌/◌, ◌==◌, ◌&&◌, ◌≤◌, false, not, nat_lt, nat_le, min, if◌then◌else◌, max, unwrap_or, filter, List, [], ◌∷◌, length, map, position, slice_get, Option, None, Some, option_map, option_and_then, Contains}
 use Rattle.std.specs.List.{list_any, flat_map, range_with_len}
 use Rattle.std.specs.List.Sorted.{IsStrictlySortedBy}
@@ -22,7 +22,7 @@ pub record ReconValue : Type 0 where
 abbrev pub has_key : Range → ℕ → Bool
 has_key range key = nat_le range.lo key && nat_lt key range.hi
 
--- how many keys a segment has at most: its leaves have this width
+-- the most keys of a segment whose leaves have this width
 abbrev pub segment_width : ℕ → ℕ
 segment_width width = LEAVES * width
 
@@ -50,7 +50,7 @@ segments_of width ranges = flat_map (segments_in width) ranges
 abbrev pub is_width : ℕ → Bool
 is_width width = nat_le 1 width && nat_le width MAX_WIDTH
 
--- what these ranges and segments say of a move
+-- the move with these ranges and segments
 abbrev pub recon_with : ℕ → List Range → List Range → Bool → ReconValue
 recon_with width ranges segments auto = record { width = width; ranges = ranges; segments = segments; auto = auto }
 
@@ -65,7 +65,7 @@ are_in_key_order lo (range ∷ ranges) =
     nat_le lo range.lo
     && (nat_lt range.lo range.hi && (nat_le range.hi ROOT_END && (not (range.src == range.dst) && are_in_key_order range.hi ranges)))
 
--- what holds of each reconfiguration, whatever its plans
+-- the invariant of each reconfiguration, whatever its plans
 pub record IsRecon (recon : ReconValue) : Type 0 where
   pub leaf : is_width recon.width ≡ true
   pub rising : are_in_key_order 0 recon.ranges ≡ true
@@ -80,7 +80,7 @@ segment_of segments key = position (λ segment. has_key segment key) segments
 abbrev pub leaf_of : ℕ → Range → ℕ → ℕ
 leaf_of width segment key = (key - segment.lo) / width
 
--- where a leaf begins; past the segment's end, that end
+-- the first key of a leaf, or the segment's end if the leaf is past it
 abbrev pub leaf_start : ℕ → Range → ℕ → ℕ
 leaf_start width segment leaf = min segment.hi (segment.lo + leaf * width)
 
@@ -89,14 +89,14 @@ abbrev pub extent : ℕ → Range → ℕ → Extent
 extent width segment n =
     record { lo = leaf_start width segment (first_leaf n); hi = leaf_start width segment (first_leaf n + span n) }
 
--- the segment and the leaf that hold a key; none where no segment holds it
+-- the segment and the leaf that hold a key; none if no segment holds it
 abbrev pub leaf_at : ReconValue → ℕ → Option (ℕ × ℕ)
 leaf_at recon key =
     option_and_then
     (λ i. option_map (λ segment. (i, leaf_of recon.width segment key)) (slice_get recon.segments i))
     (segment_of recon.segments key)
 
--- the keys of a node of a segment; none where there is no such segment
+-- the keys of a node of a segment; none if there is no such segment
 abbrev pub extent_at : ReconValue → ℕ → ℕ → Option Extent
 extent_at recon seg n = option_map (λ segment. extent recon.width segment n) (slice_get recon.segments seg)
 
@@ -107,28 +107,28 @@ range_link range = record { src = range.src; dst = range.dst }
 abbrev pub is_link : List Range → ℕ → ℕ → Bool
 is_link ranges src dst = list_any (λ range. (range.src == src) && (range.dst == dst)) ranges
 
--- the partitions to which keys of this one go, each once, in the order in which they come first
+-- the partitions that this one sends keys to, each once, in the order of their first ranges
 abbrev pub destinations : ℕ → List Range → List ℕ
 destinations src [] = []
 destinations src (range ∷ ranges) =
     if range.src == src then range.dst ∷ filter (λ dst. not (dst == range.dst)) (destinations src ranges) else destinations src ranges
 
--- the place of a partition among those to which keys of another go; 0 where it isn't among them
+-- the place of a partition among those that another sends keys to; 0 if it isn't one of them
 abbrev pub place_on : List Range → ℕ → ℕ → ℕ
 place_on ranges src dst = unwrap_or (position (λ other. other == dst) (destinations src ranges)) 0
 
--- the place of the partition to which a range goes
+-- the place of the partition that a range goes to
 abbrev pub place_of : List Range → Range → ℕ
 place_of ranges range = place_on ranges range.src range.dst
 
--- the stage in which keys go from the one partition to the other, where the move runs in stages
+-- the stage in which keys go from one partition to the other, if the move has stages
 abbrev pub stage_on : ReconValue → ℕ → ℕ → ℕ
 stage_on recon src dst = if recon.auto then place_on recon.ranges src dst else 0
 
 abbrev pub stage_in : ReconValue → Range → ℕ
 stage_in recon range = stage_on recon range.src range.dst
 
--- how many stages there are: one more than the highest stage of a range, and one where nothing moves
+-- the number of stages: one more than the highest stage of a range, and one if nothing moves
 abbrev pub stages_in : ReconValue → List Range → ℕ
 stages_in recon [] = 1
 stages_in recon (range ∷ ranges) = max (stage_in recon range + 1) (stages_in recon ranges)
@@ -144,12 +144,12 @@ stage_found recon (Some segment) = stage_in recon segment
 abbrev pub stage_at : ReconValue → ℕ → ℕ
 stage_at recon seg = stage_found recon (slice_get recon.segments seg)
 
--- the segment, where it is of this stage
+-- the segment, if it is of this stage
 abbrev pub of_stage : ReconValue → ℕ → Option Range → Option Range
 of_stage recon i None = None
 of_stage recon i (Some segment) = if stage_in recon segment == i then Some segment else None
 
--- the segment moves into the partition; where there is none it doesn't
+-- the segment moves into the partition; false without a segment
 abbrev pub goes_into : Option Range → ℕ → Bool
 goes_into None part = false
 goes_into (Some segment) part = segment.dst == part
@@ -167,7 +167,8 @@ pub record AreLinks (ranges : List Range) (links : List Link) : Type 0 where
   pub rising : IsStrictlySortedBy link_cmp links
   pub all : (link : Link) → Contains links link ↔ (is_link ranges link.src link.dst ≡ true)
 
--- what holds of each reconfiguration, its links, and for each segment the place of the partition to which it goes
+-- the invariant of each reconfiguration, its links, and for each segment the place of the partition
+-- that it goes to
 pub record HasLists (move : ReconValue) (pairs : List Link) (numbers : List ℕ) : Type 0 where
   pub recon : IsRecon move
   pub links : AreLinks move.ranges pairs

@@ -1,4 +1,4 @@
--- Why a world doesn't open.
+-- Why an opening is refused.
 use Rattle.std.specs.Prelude.{◌≡◌, ◌≤◌, ℕ, ◌+◌, Bool, ◌&&◌, not, nat_lt, nat_le, if◌then◌else◌, List, [], ◌∷◌, Option, Some, None}
 use Rattle.std.specs.Option.{option_map, option_or}
 use Rattle.sq_schema.specs.Effect.{RowTable}
@@ -42,24 +42,26 @@ sizes_fault config =
 abbrev pub config_fault : PlanValue → PlanValue → Config → Option OpeningFault
 config_fault old new config = option_or (option_map of_recon (recon_fault old new config.width)) (sizes_fault config)
 
--- a row of a database with this many tables: its root key, and then its table, its sub key and its note
+-- a row of a database with this many tables: its root key, and then its table, its sub key and its
+-- note
 abbrev pub shape_fault : ℕ → GivenValue → Option TxnFault
 shape_fault tables given =
     if not (nat_lt given.root ROOT_END) then Some BadRoot
     else row_fault tables given.key given.row
 
--- why a given row, the one with this number, isn't taken into a table
+-- why a given row, the one with this number, is refused by a table
 abbrev pub given_fault : ℕ → RowTable → ℕ → GivenValue → Option OpeningFault
 given_fault tables table at given =
     option_or (option_map (Row at) (shape_fault tables given)) (option_map (of_row at) (row_given_fault (table given.root) given.key))
 
--- the fault of the first row that has one, each taken on top of those before it; the rows are numbered from this on
+-- the fault of the first row that has one, each taken after those before it; the rows are numbered
+-- from this on
 abbrev pub rows_fault : ℕ → RowTable → ℕ → List GivenRow → Option OpeningFault
 rows_fault tables table at [] = None
 rows_fault tables table at (given ∷ rows) =
     option_or (given_fault tables table at (value_of given)) (rows_fault tables (with_one table (value_of given)) (at + 1) rows)
 
--- the fault of the first row, which has this number, where it has one
+-- the fault of the first row, which has this number, if it has one
 abbrev pub first_fault : ℕ → RowTable → ℕ → List GivenRow → Option OpeningFault
 first_fault tables table at [] = None
 first_fault tables table at (given ∷ rows) = given_fault tables table at (value_of given)
@@ -68,11 +70,12 @@ first_fault tables table at (given ∷ rows) = given_fault tables table at (valu
 abbrev pub opening_fault : ℕ → PlanValue → PlanValue → Config → List GivenRow → Option OpeningFault
 opening_fault tables old new config rows = option_or (config_fault old new config) (rows_fault tables no_rows 0 rows)
 
--- the first fault that is found before any memory is taken: of plans and sizes, and then of the first row
+-- the first fault that is found before any memory is taken: of plans and sizes, and then of the
+-- first row
 abbrev pub early_fault : ℕ → PlanValue → PlanValue → Config → List GivenRow → Option OpeningFault
 early_fault tables old new config rows = option_or (config_fault old new config) (first_fault tables no_rows 0 rows)
 
--- an opening may be refused for its first fault, or because memory ran out where it has none of the early ones
+-- an opening may be refused for its first fault, or because memory ran out if it has no early fault
 abbrev pub MayRefuse : Option OpeningFault → Option OpeningFault → OpeningFault → Type 0
 MayRefuse early first Memory = early ≡ None
 MayRefuse early first fault = first ≡ Some fault

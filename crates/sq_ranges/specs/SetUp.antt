@@ -1,4 +1,4 @@
--- What holds of each opening, whatever it was made of.
+-- The invariant of each opening, whatever it was made of.
 use Rattle.std.specs.Prelude.{◌≡◌, ◌≤◌, true, nat_lt}
 use Rattle.std.specs.List.{AllPass}
 use Rattle.std.specs.Ordering.{nat_cmp}

@@ -1,4 +1,4 @@
--- Going over two plans from the low end of the keys to the high end.
+-- A sweep over two plans from the low end of the keys to the high end.
 use Rattle.std.specs.Prelude.{◌≡◌, ◌≢◌, ℕ, ◌+◌, ◌≤◌, ◌<◌, ◌==◌, min, if◌then◌else◌, List, [], ◌∷◌, length, find, true, Option, Some, None}
 use Rattle.sq_plan.specs.declared.plan.PlanRange.{PlanRange}
 use Rattle.sq_schema.specs.declared.root.TheConstants.{ROOT_END}
@@ -7,7 +7,7 @@ use Rattle.sq_ranges.specs.declared.recon.Range.{Range}
 use Rattle.sq_ranges.specs.declared.sweep.Sweep.{Sweep}
 use Rattle.sq_ranges.specs.Moves.{IsMovingRun}
 
--- ranges without the first, where that ends at this key
+-- ranges without the first, if that ends at this key
 abbrev pub past : List PlanRange → ℕ → List PlanRange
 past [] at = []
 past (range ∷ ranges) at = if range.hi == at then ranges else range ∷ ranges
@@ -18,7 +18,7 @@ piece_of at [] news = None
 piece_of at (one ∷ olds) [] = None
 piece_of at (one ∷ olds) (other ∷ news) = Some (record { lo = at; hi = min one.hi other.hi; src = one.owner; dst = other.owner })
 
--- a first range ends behind this key
+-- the first range ends after this key
 abbrev pub EndsBehind : ℕ → List PlanRange → Type 0
 EndsBehind at [] = Unit {0}
 EndsBehind at (range ∷ ranges) = at < range.hi

@@ -13,7 +13,8 @@ use sq_plan::Plan;
 use sq_tree::LEAVES;
 use std::alloc::{AllocError, Global};
 
-/// Whether what moves between two plans has no more segments than the version of the new one allows.
+/// Returns true if what moves between the plans has no more segments than the version of `new`
+/// allows.
 pub(crate) fn fits(old: &Plan, new: &Plan, width: u64) -> bool
     requires { is_width width ≡ true }
     ensures { result ≡ nat_le (length (segments_of width (moves_of old.now new.now)))
@@ -31,7 +32,7 @@ pub(crate) fn fits(old: &Plan, new: &Plan, width: u64) -> bool
     true
 }
 
-/// How many segments the moves between two plans come to; `None` where that is no number below 2^64.
+/// Counts the segments of the moves between the plans; `None` if there are 2^64 or more.
 pub(crate) fn count(old: &Plan, new: &Plan, width: u64) -> Option<u64>
     requires { is_width width ≡ true }
     ensures { IfSome result (λ count. count
@@ -45,7 +46,7 @@ pub(crate) fn count(old: &Plan, new: &Plan, width: u64) -> Option<u64>
     Some(count)
 }
 
-/// The moves between two plans, in key order.
+/// Returns the moves between the plans, in key order.
 pub(crate) fn moves(alloc: Global, old: &Plan, new: &Plan) -> Result<Vec<Range>, AllocError>
     ensures moves { IfOk result (λ moves. moves.items ≡ moves_of old.now new.now) }
     ensures plans { IsPlan old.now × IsPlan new.now }
@@ -58,7 +59,7 @@ pub(crate) fn moves(alloc: Global, old: &Plan, new: &Plan) -> Result<Vec<Range>,
     Ok(moves)
 }
 
-/// The segments of ranges, in key order.
+/// Returns the segments of `ranges`, in key order.
 pub(crate) fn segments(
     alloc: Global,
     ranges: &[Range],
@@ -75,7 +76,7 @@ pub(crate) fn segments(
     Ok(segments)
 }
 
-// Puts the segments of a range behind others.
+// Appends the segments of `range`.
 fn push_segments(segments: &mut Vec<Range>, range: &Range, width: u64) -> Result<(), AllocError>
     requires width { is_width width ≡ true }
     requires some { range.now.lo < range.now.hi }
@@ -88,7 +89,7 @@ fn push_segments(segments: &mut Vec<Range>, range: &Range, width: u64) -> Result
     Ok(())
 }
 
-// How many segments a range is cut into.
+// Returns the number of segments that `range` is cut into.
 fn segment_count(range: &Range, width: u64) -> u64
     requires width { is_width width ≡ true }
     requires some { range.now.lo < range.now.hi }
@@ -99,7 +100,7 @@ fn segment_count(range: &Range, width: u64) -> u64
     (range.hi - range.lo).div_ceil(LEAVES * width)
 }
 
-// The segment of this number within a range.
+// Returns segment number `i` of `range`.
 fn segment_at(range: &Range, width: u64, i: u64) -> Range
     requires width { is_width width ≡ true }
     requires within { range.now.hi ≤ ROOT_END }
@@ -114,7 +115,7 @@ fn segment_at(range: &Range, width: u64, i: u64) -> Range
     }
 }
 
-/// The links of ranges, strictly rising.
+/// Returns the links of `ranges`, strictly rising.
 pub(crate) fn links(alloc: Global, ranges: &[Range]) -> Result<Vec<Link>, AllocError>
     ensures { IfOk result (λ links. AreLinks ranges.now links.items) }
 {

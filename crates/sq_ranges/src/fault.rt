@@ -1,5 +1,5 @@
-// Why there is no reconfiguration or no opening, in the order in which the causes are looked at. The table of
-// `sq_explain` says what each means, by its number.
+// Why a reconfiguration or an opening was refused, in the order in which the causes are tested. The
+// table of `sq_explain` says what each number means.
 ghost use Rattle.std.specs.Prelude.{◌≡◌};
 ghost use Rattle.sq_ranges.specs.Fault.{of_row, recon_fault_number, opening_fault_number};
 
@@ -19,7 +19,7 @@ pub enum ReconFault {
 }
 
 impl ReconFault {
-    /// The number that a user sees.
+    /// Returns the number that a user sees.
     pub fn number(self) -> u16
         ensures { result ≡ recon_fault_number self }
     {
@@ -37,26 +37,26 @@ impl From<AllocError> for ReconFault {
     }
 }
 
-/// Why a world doesn't open.
+/// Why an opening was refused.
 #[derive(Clone, Copy, Debug, PartialEq, Eq, Error)]
 #[error("{}", meaning(self.number()))]
 pub enum OpeningFault {
     /// There is no reconfiguration.
     Recon(ReconFault),
-    /// 114.
+    /// The bytes of a chunk are out of range (number 114).
     Limit,
-    /// 115.
+    /// The chunks of a link's queue are out of range (number 115).
     Capacity,
     /// The row with this number, from 0, isn't of the schema.
     Row(usize, TxnFault),
-    /// The row with this number, from 0, isn't in its place.
+    /// The row with this number, from 0, is repeated or lacks its root row.
     Place(usize, RowFault),
-    /// Memory ran out, wherever it did.
+    /// Memory ran out, at any point.
     Memory,
 }
 
 impl OpeningFault {
-    /// The number that a user sees.
+    /// Returns the number that a user sees.
     pub fn number(self) -> u16
         ensures { result ≡ opening_fault_number self }
     {
@@ -70,7 +70,7 @@ impl OpeningFault {
         }
     }
 
-    /// Why the row with this number isn't in its place, or that memory ran out there.
+    /// Returns the fault of the row with the number `at`, or that memory ran out.
     pub(crate) fn of_row(at: usize, fault: RowFault) -> OpeningFault
         ensures { result ≡ of_row at fault }
     {

@@ -1,4 +1,4 @@
-// What an opening is made of, and why it isn't.
+// The parts of an opening, and their faults.
 ghost use Rattle.std.specs.Prelude.{◌≡◌, ◌≤◌, ℕ, true, None, MatchResult, IfOk, IfErr, OnOk, OnErr};
 ghost use Rattle.std.specs.List.{AllPass};
 ghost use Rattle.std.specs.Ordering.{nat_cmp};
@@ -18,8 +18,8 @@ use sq_plan::Plan;
 use sq_schema::Table;
 use std::alloc::Global;
 
-/// What moves between two plans, and the table of opening rows. No memory is taken before the plans, the sizes and
-/// the first row were found fit.
+/// Returns what moves between the plans, and the table of the opening rows. No memory is taken
+/// before the plans, the sizes and the first row have been checked.
 pub(crate) fn moves_and_table(
     alloc: Global,
     tables: u8,
@@ -44,8 +44,8 @@ pub(crate) fn moves_and_table(
     Ok((recon, table))
 }
 
-/// What moves between two plans that can be run with these sizes. No memory is taken before the plans and the sizes
-/// were found fit.
+/// Returns what moves between the plans, if it can be run with the sizes of `config`. No memory is
+/// taken before the plans and the sizes have been checked.
 pub(crate) fn moves(
     alloc: Global,
     old: &Plan,
@@ -63,7 +63,7 @@ pub(crate) fn moves(
     Ok(Recon::between(alloc, old, new, config.width)?)
 }
 
-// Refuses plans between which nothing can move, and then sizes out of their limits.
+// Refuses plans without a reconfiguration, and then sizes out of range.
 fn check(old: &Plan, new: &Plan, config: Config) -> Result<(), OpeningFault>
     ensures fault { result_err result ≡ config_fault old.now new.now config }
     ensures sizes { OnOk result (HasFitSizes config) }
@@ -81,7 +81,7 @@ fn check(old: &Plan, new: &Plan, config: Config) -> Result<(), OpeningFault>
     Ok(())
 }
 
-// The table of rows that are given one after another.
+// Adds `rows` one after another to a new table.
 fn table_of(alloc: Global, tables: u8, rows: &[GivenRow]) -> Result<Table, OpeningFault>
     requires { tables ≤ MAX_TABLES }
     ensures fault { MatchResult result
@@ -93,12 +93,12 @@ fn table_of(alloc: Global, tables: u8, rows: &[GivenRow]) -> Result<Table, Openi
     for (at, given) in rows.iter().enumerate() {
         take(&mut table, tables, at, given)?;
     }
-    // Called for what it ensures, that the root keys of the table rise and each has rows.
+    // Called for what it ensures: the root keys of the table rise, and each has rows.
     let _ = table.iter();
     Ok(table)
 }
 
-// Takes one row, which has this number, into a table. No memory is taken before the row was found fit.
+// Adds the row with the number `at` to `table`. No memory is taken before the row has been checked.
 fn take(table: &mut Table, tables: u8, at: usize, given: &GivenRow) -> Result<(), OpeningFault>
     requires { tables ≤ MAX_TABLES }
     ensures fault { let fault = given_fault tables (rows_in table.old) at (value_of given.now) in
@@ -122,8 +122,8 @@ fn take(table: &mut Table, tables: u8, at: usize, given: &GivenRow) -> Result<()
     Ok(())
 }
 
-/// Takes one row, which has this number, into a table, with its note and no copy. Otherwise nothing changes, and the
-/// row comes back.
+/// Moves the row with the number `at` into `table`, with its note uncopied. If it is refused,
+/// nothing changes and the row is returned.
 pub(crate) fn take_over(
     table: &mut Table,
     tables: u8,

@@ -1,4 +1,4 @@
-// What holds of the moves between two plans, and of segments and nodes.
+// Laws of the moves between two plans, and of segments and nodes.
 ghost use Rattle.std.specs.Prelude.{◌≡◌, ◌↔◌, ℕ, ◌+◌, ◌*◌, ◌<◌, Some, true, false, IsTrue, slice_get};
 ghost use Rattle.sq_schema.specs.declared.root.TheConstants.{ROOT_END};
 ghost use Rattle.sq_plan.specs.declared.plan.TheConstants.{MAX_PARTS, MAX_RANGES};
@@ -18,7 +18,7 @@ ghost use Rattle.sq_ranges.specs.Moves.{AreTheMoves, moves_of};
 ghost use Rattle.sq_ranges.specs.Between.{IsReconOf};
 ghost use Rattle.sq_ranges.specs.Laws.{IsSegmentOf, LiesInSegment, Covers, LiesIn, AreHalves, AreNotNested, keys_of};
 
-/// The limits of plans, of what moves and of what waits, in digits.
+/// States the limits of plans, of moves and of waiting transactions as numbers.
 pub fn the_limits()
     ensures parts { (parts_limit First ≡ 16)
         × ((stages : Stages) → parts_limit (Second stages) ≡ 64) × (MAX_PARTS ≡ 64) }
@@ -31,21 +31,23 @@ pub fn the_limits()
     ensures waiting { MAX_WAITING ≡ 1024 }
 {}
 
-/// What moves between two plans is one list of ranges: the maximal runs of root keys with one pair of owners that
-/// differ.
+/// What moves between two plans is one list of ranges: the maximal runs of root keys that have the
+/// same two owners, which differ.
 pub fn two_plans_have_one_list_of_moves()
     ensures { (old new : PlanValue) → IsPlan old → IsPlan new
         → AreTheMoves old new (moves_of old new) }
 {}
 
-/// A root key that moves is in just one segment, from its old owner to its new one; another keeps its owner.
+/// A root key that moves is in exactly one segment, from its old owner to its new one; any other
+/// key keeps its owner.
 pub fn each_key_that_moves_has_one_segment()
     ensures { (old new : PlanValue) (width : ℕ) (recon : ReconValue) (key : ℕ)
         → IsReconOf old new width recon
         → key < ROOT_END → IsSegmentOf old new recon.segments key (segment_of recon.segments key) }
 {}
 
-/// A node covers those keys of its segment whose leaf it is above, and its leaf is one of [`LEAVES`].
+/// A node covers exactly the keys of its segment whose leaf it is above, and each leaf is one of
+/// [`LEAVES`].
 pub fn a_node_covers_the_keys_of_its_leaves()
     ensures leaf { (recon : ReconValue) (i key : ℕ) (segment : Range)
         → LiesInSegment recon key i segment → leaf_of recon.width segment key < LEAVES }
@@ -54,8 +56,8 @@ pub fn a_node_covers_the_keys_of_its_leaves()
         ↔ (is_above n (leaf_of recon.width segment key) ≡ true) }
 {}
 
-/// The keys of a node lie in its segment, which node 1 covers whole. The two halves of a node make it up, and two
-/// nodes that aren't nested have no key in common.
+/// The keys of a node are in its segment, and node 1 covers all of it. The two halves of a node
+/// make up the node, and two nodes that aren't nested share no key.
 pub fn nodes_divide_their_segment()
     ensures inside { (recon : ReconValue) (i n : ℕ) (segment : Range) → IsRecon recon
         → slice_get recon.segments i ≡ Some segment

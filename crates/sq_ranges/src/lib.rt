@@ -1,4 +1,5 @@
-//! What a reconfiguration from one plan to another moves: ranges, segments and the extents of their nodes.
+//! What a reconfiguration from one plan to another moves: ranges, segments and the extents of their
+//! nodes.
 #![tactic(auto)]
 
 mod cut;

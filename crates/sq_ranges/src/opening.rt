@@ -1,4 +1,4 @@
-// What a world opens with.
+// The opening of a world.
 ghost use Rattle.std.specs.Prelude.{◌≡◌, ◌≤◌, ℕ, [], false, None, MatchResult, IfOk, IfErr, OnOk, OnErr};
 ghost use Rattle.sq_schema.specs.declared.root.TheConstants.{ROOT_END};
 ghost use Rattle.sq_schema.specs.Prelude.{rows_in};
@@ -11,46 +11,45 @@ use sq_schema::{MAX_NOTE, Root, Row, RowKey, Schema, Table, TxnFault};
 use std::alloc::{AllocError, Global};
 use std::marker::Model;
 
-/// The fewest bytes of families that a chunk may be set to hold.
+/// The least value of [`Config::limit`]: bytes of families in a chunk.
 pub const MIN_LIMIT: u64 = 64;
 
-/// The most bytes of families that a chunk may be set to hold.
+/// The greatest value of [`Config::limit`]: bytes of families in a chunk.
 pub const MAX_LIMIT: u64 = 1_048_576;
 
-/// The most chunks that the queue of a link may be set to hold.
+/// The greatest value of [`Config::capacity`]: chunks in the queue of a link.
 pub const MAX_CAPACITY: u64 = 64;
 
-/// How many transactions wait at a partition at most.
+/// The most transactions that wait at a partition.
 pub const MAX_WAITING: usize = 1024;
 
 /// The sizes that a reconfiguration is run with.
 #[derive(Clone, Copy, Debug, PartialEq, Eq)]
 pub struct Config {
-    /// How many root keys a leaf covers, from 1 to [`MAX_WIDTH`].
+    /// The most root keys that a leaf covers, from 1 to [`MAX_WIDTH`].
     pub width: u64,
-    /// How many bytes of families a chunk holds, from [`MIN_LIMIT`] to [`MAX_LIMIT`].
+    /// The most bytes of families that a chunk holds, unless it holds a single family, from
+    /// [`MIN_LIMIT`] to [`MAX_LIMIT`].
     pub limit: u64,
-    /// How many chunks the queue of a link holds, from 1 to [`MAX_CAPACITY`].
+    /// The most chunks that the queue of a link holds, from 1 to [`MAX_CAPACITY`].
     pub capacity: u64,
 }
 
-/// An opening row, of any numbers: [`Opening::new`] and [`Opening::take_row`] refuse wrong ones.
+/// An opening row with unchecked numbers: [`Opening::new`] and [`Opening::take_row`] refuse wrong
+/// ones.
 #[derive(Debug, Drop)]
 pub struct GivenRow {
-    /// The root key.
     pub root: u64,
     /// The table, from 0.
     pub table: u8,
     /// The sub key within the table.
     pub sub: u32,
-    /// The row's number.
     pub number: i64,
-    /// The row's note.
     pub note: Vec<u8>,
 }
 
-/// What a world opens with: the plans, what moves between them, the sizes, and the opening rows. To a contract it is
-/// an `OpeningValue`.
+/// What a world opens with: the plans, what moves between them, the sizes, and the opening rows. To
+/// a contract it is an `OpeningValue`.
 #[derive(Debug, Drop)]
 pub struct Opening {
     parts: OpeningParts,
@@ -59,13 +58,13 @@ pub struct Opening {
 /// The parts of an opening.
 #[derive(Debug, Drop)]
 pub struct OpeningParts {
-    /// Which tables there are.
+    /// The tables of the database.
     pub schema: Schema,
     /// The plan before the move.
     pub old: Plan,
     /// The plan after the move.
     pub new: Plan,
-    /// What moves between them.
+    /// What moves between the plans.
     pub recon: Recon,
     /// The sizes.
     pub config: Config,
@@ -73,27 +72,25 @@ pub struct OpeningParts {
     pub table: Table,
 }
 
-/// Why there is no opening, and what it was to be made of.
+/// Why an opening was refused, with what it was to be made of.
 #[derive(Debug, Drop)]
 pub struct RefusedOpening {
-    /// Why.
     pub fault: OpeningFault,
-    /// The plan before the move, as it was given.
+    /// The plan before the move, as given.
     pub old: Plan,
-    /// The plan after the move, as it was given.
+    /// The plan after the move, as given.
     pub new: Plan,
-    /// The rows, as they were given.
+    /// The rows, as given.
     pub rows: Vec<GivenRow>,
 }
 
-/// Why there is no opening without rows, and the plans that it was to be made of.
+/// Why an opening without rows was refused, with the plans that it was to be made of.
 #[derive(Debug, Drop)]
 pub struct RefusedPlans {
-    /// Why.
     pub fault: OpeningFault,
-    /// The plan before the move, as it was given.
+    /// The plan before the move, as given.
     pub old: Plan,
-    /// The plan after the move, as it was given.
+    /// The plan after the move, as given.
     pub new: Plan,
 }
 
@@ -114,12 +111,13 @@ impl Opening {
     ghost use Rattle.sq_ranges.specs.Given.{IsOpeningOf, value_of, with_one};
     ghost use Rattle.sq_ranges.specs.Refused.{config_fault, given_fault, opening_fault, MayRefuse, MayRefuseOpening};
 
-    /// The opening of two plans with these sizes and rows. Otherwise the plans and the rows come back as they were,
-    /// with the first of these faults: those of the plans and the width of a leaf, as [`Recon::fault`] has them; the
-    /// bytes of a chunk; the chunks of a queue; and then row by row the root key, the table, the sub key, the note, a
-    /// row that was given before, and a row without its root row. A row's fault has the number of the row. Want of
-    /// memory may be answered in place of any answer about rows but a fault of the first, and of none about plans and
-    /// sizes.
+    /// Creates the opening of two plans with these sizes and rows. If it is refused, the plans and
+    /// the rows are returned as they were, with the first of these faults: those of the plans and
+    /// the width of a leaf, as in [`Recon::fault`]; the bytes of a chunk; the chunks of a queue;
+    /// and then for each row its root key, table, sub key and note, a row that repeats one, and a
+    /// row without its root row. The fault of a row has the row's number. [`OpeningFault::Memory`]
+    /// may replace any answer about the rows, except a fault of the first row; it never replaces a
+    /// fault of the plans and sizes.
     pub fn new(
         alloc: Global,
         schema: Schema,
@@ -157,9 +155,10 @@ impl Opening {
         }
     }
 
-    /// The opening of two plans with these sizes, and no rows: [`Opening::take_row`] takes one after another. Otherwise
-    /// the plans come back as they were, with the first fault of the plans and the sizes, as [`Opening::new`] has them.
-    /// Want of memory is answered in place of none of these.
+    /// Creates the opening of two plans with these sizes, without rows: [`Opening::take_row`] adds
+    /// them one by one. If it is refused, the plans are returned as they were, with the first fault
+    /// of the plans and sizes, as in [`Opening::new`]; [`OpeningFault::Memory`] never replaces one
+    /// of these.
     pub fn without_rows(
         alloc: Global,
         schema: Schema,
@@ -190,9 +189,9 @@ impl Opening {
         }
     }
 
-    /// Takes one more opening row, with its note and no copy; a fault names it by this number. Otherwise nothing
-    /// changes, and the row comes back, with its first fault as [`Opening::new`] has them. Want of memory is answered
-    /// in place of none of these.
+    /// Adds one more opening row, with its note uncopied; a fault names it by the number `at`. If
+    /// it is refused, nothing changes and the row is returned, with its first fault as in
+    /// [`Opening::new`]; [`OpeningFault::Memory`] never replaces one of these.
     pub fn take_row(&mut self, at: usize, given: GivenRow) -> Result<(), (OpeningFault, GivenRow)>
         ensures fault { let fault = given_fault self.old.tables (rows_in self.old.table) at
             (value_of given) in
@@ -207,19 +206,19 @@ impl Opening {
     {
         let tables = self.parts.schema.tables();
         let taken = take_over(&mut self.parts.table, tables, at, given);
-        // For the proof alone: a table is by rising root key, and each has some rows.
+        // For the proof alone: a table has rising root keys, each with some rows.
         let _rows = self.parts.table.iter();
         taken
     }
 
-    /// Which tables there are.
+    /// Returns the tables of the database.
     pub fn schema(&self) -> Schema
         ensures { result ≡ self.now.tables }
     {
         self.parts.schema
     }
 
-    /// The plan before the move.
+    /// Returns the plan before the move.
     pub fn old_plan(&self) -> &Plan
         ensures plan { result.now ≡ self.now.old }
         ensures set_up { IsSetUp self.now }
@@ -227,7 +226,7 @@ impl Opening {
         &self.parts.old
     }
 
-    /// The plan after the move.
+    /// Returns the plan after the move.
     pub fn new_plan(&self) -> &Plan
         ensures plan { result.now ≡ self.now.new }
         ensures set_up { IsSetUp self.now }
@@ -235,7 +234,7 @@ impl Opening {
         &self.parts.new
     }
 
-    /// What moves between the plans.
+    /// Returns what moves between the plans.
     pub fn recon(&self) -> &Recon
         ensures recon { result.now ≡ self.now.recon }
         ensures set_up { IsSetUp self.now }
@@ -243,7 +242,7 @@ impl Opening {
         &self.parts.recon
     }
 
-    /// The sizes.
+    /// Returns the sizes.
     pub fn config(&self) -> Config
         ensures config { result ≡ self.now.config }
         ensures set_up { IsSetUp self.now }
@@ -251,7 +250,7 @@ impl Opening {
         self.parts.config
     }
 
-    /// The opening rows.
+    /// Returns the opening rows.
     pub fn table(&self) -> &Table
         ensures table { result.now ≡ self.now.table }
         ensures set_up { IsSetUp self.now }
@@ -259,13 +258,13 @@ impl Opening {
         &self.parts.table
     }
 
-    /// The same opening with other rows.
+    /// Returns the opening with the rows of `table` in place of its own.
     pub fn with_table(self, table: Table) -> Opening
         requires { (root : ℕ) → ROOT_END ≤ root → rows_in table root ≡ [] }
         ensures opening { result ≡ record self { table = table } }
         ensures set_up { IsSetUp result }
     {
-        // For the proof alone: a table is by rising root key, and each has some rows.
+        // For the proof alone: a table has rising root keys, each with some rows.
         let _rows = table.iter();
         Opening {
             parts: OpeningParts {
@@ -275,8 +274,9 @@ impl Opening {
         }
     }
 
-    /// The opening of the next move: from the plan after this one to another plan, with the same sizes and rows. Otherwise
-    /// this one comes back, with the first fault of the plans, as [`Recon::fault`] has it, or that memory ran out.
+    /// Returns the opening of the next move: from the plan after this move to `new`, with the same
+    /// sizes and rows. If it is refused, this opening is returned, with the first fault of the
+    /// plans, as in [`Recon::fault`], or [`OpeningFault::Memory`].
     pub fn onward(self, alloc: Global, new: Plan) -> Result<Opening, (OpeningFault, Opening)>
         ensures fault { let fault = config_fault self.new new self.config in
             MatchResult result (λ _. fault ≡ None) (λ refused. MayRefuse fault fault refused.0) }
@@ -288,7 +288,7 @@ impl Opening {
         ensures set_up { IfOk result IsSetUp }
         ensures returned { IfErr result (λ refused. refused.1 ≡ self) }
     {
-        // For the proof alone: a table is by rising root key, and each has some rows.
+        // For the proof alone: a table has rising root keys, each with some rows.
         let _rows = self.parts.table.iter();
         match moves(alloc, &self.parts.new, &new, self.parts.config) {
             Ok(recon) => Ok(Opening {
@@ -303,7 +303,7 @@ impl Opening {
         }
     }
 
-    /// Its parts, without a copy.
+    /// Returns the parts of the opening, uncopied.
     pub fn into_parts(self) -> OpeningParts
         ensures schema { result.schema ≡ self.tables }
         ensures old { result.old ≡ self.old }
@@ -322,7 +322,7 @@ impl GivenRow {
     ghost use Rattle.sq_ranges.specs.Given.{key_of, row_of, value_of};
     ghost use Rattle.sq_ranges.specs.Refused.{shape_fault};
 
-    /// Where it is within its root key.
+    /// Returns its table and sub key.
     pub(crate) fn key(&self) -> RowKey
         ensures { result ≡ key_of self.now }
     {
@@ -332,8 +332,8 @@ impl GivenRow {
         }
     }
 
-    /// Its root key. Refused for the first of these: the root key, the table that isn't one of this many, the sub
-    /// key, and the note.
+    /// Returns its root key. Refused for the first of these: the root key, the table if it isn't
+    /// below `tables`, the sub key, and the note.
     pub(crate) fn root(&self, tables: u8) -> Result<Root, TxnFault>
         ensures { MatchResult result
             (λ root. (shape_fault tables (value_of self.now) ≡ None) × (root ≡ self.now.root))
@@ -354,14 +354,14 @@ impl GivenRow {
         Ok(root)
     }
 
-    // The row, with the note and no copy.
+    // Returns the row, with its note uncopied.
     pub(crate) fn into_row(self) -> Row
         ensures { result ≡ row_of self }
     {
         Row::new(self.number, self.note)
     }
 
-    // A row at this place of its root key, as it was given.
+    // Returns `row`, of `root` and `key`, in the form in which it was given.
     pub(crate) fn of(root: Root, key: RowKey, row: Row) -> GivenRow
         ensures { value_of result ≡ record { root = root; key = key; row = row } }
     {
@@ -374,7 +374,7 @@ impl GivenRow {
         }
     }
 
-    /// The row, with a copy of the note.
+    /// Returns the row, with a copy of its note.
     pub(crate) fn row(&self) -> Result<Row, AllocError>
         ensures { IfOk result (λ row. row ≡ row_of self.now) }
     {

@@ -15,24 +15,24 @@ use sq_tree::{LEAVES, Leaf, NodeId};
 use std::alloc::{AllocError, Global};
 use std::marker::Model;
 
-/// How many root keys a leaf has at most.
+/// The most root keys that a leaf has.
 pub const MAX_WIDTH: u64 = 65_536;
 
-/// The root keys from `lo` up to `hi`, which move from one partition to another: a reconfiguration range
-/// (Elmore et al., Squall, SIGMOD 2015), or a segment of one.
+/// The root keys from `lo` up to, not including, `hi`, which move from one partition to another: a
+/// reconfiguration range (Elmore et al., Squall, SIGMOD 2015), or a segment of one.
 #[derive(Clone, Copy, Debug, PartialEq, Eq)]
 pub struct Range {
     /// The first key.
     pub lo: u64,
     /// The key after the last.
     pub hi: u64,
-    /// The owner by the old plan.
+    /// The owner in the old plan.
     pub src: PartId,
-    /// The owner by the new plan.
+    /// The owner in the new plan.
     pub dst: PartId,
 }
 
-/// The root keys from `lo` up to `hi`; none where these are equal.
+/// The root keys from `lo` up to, not including, `hi`; empty if these are equal.
 #[derive(Clone, Copy, Debug, PartialEq, Eq)]
 pub struct Extent {
     /// The first key.
@@ -46,7 +46,7 @@ pub struct Extent {
 pub struct Link {
     /// The partition that keys leave.
     pub src: PartId,
-    /// The partition that they come to.
+    /// The partition that keys move to.
     pub dst: PartId,
 }
 
@@ -84,10 +84,10 @@ impl Recon {
     ghost use Rattle.sq_ranges.specs.Moves.{moves_of};
     ghost use Rattle.sq_ranges.specs.Between.{recon_fault, recon_of, IsReconOf};
 
-    /// Why there is no reconfiguration between two plans: the first of these. They name different numbers of
-    /// partitions; the width of a leaf isn't from 1 to [`MAX_WIDTH`] root keys; what moves has more than
-    /// [`SEGMENT_LIMIT`] segments, or [`crate::FIRST_SEGMENT_LIMIT`] where the new plan is of the first version. `None`
-    /// where there is one. It takes no memory.
+    /// Returns why there is no reconfiguration between the plans, the first of these: they have
+    /// different numbers of partitions; `width` isn't from 1 to [`MAX_WIDTH`] root keys; what moves
+    /// has more than [`SEGMENT_LIMIT`] segments, or more than [`crate::FIRST_SEGMENT_LIMIT`] if
+    /// `new` is of the first version. `None` if there is one. It takes no memory.
     pub fn fault(old: &Plan, new: &Plan, width: u64) -> Option<ReconFault>
         ensures fault { result ≡ recon_fault old.now new.now width }
         ensures plans { IsPlan old.now × IsPlan new.now }
@@ -105,8 +105,9 @@ impl Recon {
         None
     }
 
-    /// How many segments the moves between two plans come to with leaves of this width, also where they are more than one move
-    /// has. `None` where the width isn't from 1 to [`MAX_WIDTH`] root keys, and where there are 2^64 or more. It takes no memory.
+    /// Counts the segments of the moves between the plans with leaves of `width` root keys, even if
+    /// one move can't have as many. `None` if `width` isn't from 1 to [`MAX_WIDTH`], or if there
+    /// are 2^64 segments or more. It takes no memory.
     pub fn count_segments(old: &Plan, new: &Plan, width: u64) -> Option<u64>
         ensures { IfSome result (λ count. count
             ≡ length (segments_of width (moves_of old.now new.now))) }
@@ -117,8 +118,9 @@ impl Recon {
         count(old, new, width)
     }
 
-    /// What moves between two plans, cut into segments of [`LEAVES`] leaves of `width` root keys each. It is refused where
-    /// [`Recon::fault`] finds a cause; memory is taken, and may run out, only where it finds none.
+    /// Returns what moves between the plans, cut into segments of [`LEAVES`] leaves of `width` root
+    /// keys each. Refused if [`Recon::fault`] finds a cause; only if it finds none is memory taken,
+    /// which may run out.
     pub fn between(alloc: Global, old: &Plan, new: &Plan, width: u64) -> Result<Recon, ReconFault>
         ensures answer { MatchResult result
             (λ recon. (recon_fault old.now new.now width ≡ None)
@@ -143,7 +145,7 @@ impl Recon {
         })
     }
 
-    /// A reconfiguration in which nothing moves. It takes no memory.
+    /// Returns a reconfiguration in which nothing moves. It takes no memory.
     pub fn nothing(alloc: Global) -> Recon
         ensures { result ≡ no_moves }
     {
@@ -157,7 +159,7 @@ impl Recon {
         }
     }
 
-    /// How many root keys a leaf has at most, from 1 to [`MAX_WIDTH`].
+    /// Returns the most root keys that a leaf has, from 1 to [`MAX_WIDTH`].
     pub fn width(&self) -> u64
         ensures width { result ≡ self.now.width }
         ensures recon { IsRecon self.now }
@@ -165,7 +167,7 @@ impl Recon {
         self.width
     }
 
-    /// The reconfiguration ranges, in key order.
+    /// Returns the reconfiguration ranges, in key order.
     pub fn ranges(&self) -> &[Range]
         ensures ranges { result.now ≡ self.now.ranges }
         ensures recon { IsRecon self.now }
@@ -173,7 +175,7 @@ impl Recon {
         self.ranges.as_slice()
     }
 
-    /// The segments, in key order over all ranges; at most [`SEGMENT_LIMIT`].
+    /// Returns the segments of all ranges in key order, at most [`SEGMENT_LIMIT`].
     pub fn segments(&self) -> &[Range]
         ensures segments { result.now ≡ self.now.segments }
         ensures recon { IsRecon self.now }
@@ -181,14 +183,14 @@ impl Recon {
         self.segments.as_slice()
     }
 
-    /// The links of the ranges, each once, by source and then by destination.
+    /// Returns the links of the ranges, each once, by source and then by destination.
     pub fn links(&self) -> &[Link]
         ensures { AreLinks self.now.ranges result.now }
     {
         self.links.as_slice()
     }
 
-    /// The segment that holds a root key, and the leaf of it; `None` where no segment does.
+    /// Returns the segment and the leaf that hold `root`; `None` if no segment does.
     pub fn find(&self, root: Root) -> Option<(SegId, Leaf)>
         ensures { result ≡ leaf_at self.now root }
     {
@@ -207,7 +209,8 @@ impl Recon {
         Some((seg, leaf))
     }
 
-    /// In how many stages the ranges move: 1 where the new plan doesn't say `auto`, or nothing moves.
+    /// Returns the number of stages in which the ranges move: 1 if the new plan doesn't say `auto`,
+    /// or nothing moves.
     pub fn stages(&self) -> u64
         ensures stages { result ≡ stages self.now }
         ensures some { 1 ≤ result }
@@ -219,8 +222,9 @@ impl Recon {
         most
     }
 
-    /// The stage in which the ranges from one partition to another move: 0, or where the new plan says `auto` the place
-    /// of the other among those to which the one gives keys, in key order. 0 where no range goes there.
+    /// Returns the stage in which the ranges from `src` to `dst` move: 0, or, if the new plan says
+    /// `auto`, the place of `dst` among the partitions that `src` sends keys to, in key order. 0 if
+    /// no range goes there.
     pub fn stage_on(&self, src: PartId, dst: PartId) -> u64
         ensures stage { result ≡ stage_on self.now src dst }
         ensures bound { result ≤ length self.now.ranges }
@@ -232,7 +236,7 @@ impl Recon {
         }
     }
 
-    /// The stage in which a segment moves; 0 where there is no such segment.
+    /// Returns the stage in which segment `seg` moves; 0 if there is no such segment.
     pub fn stage_of(&self, seg: SegId) -> u64
         ensures { result ≡ stage_at self.now seg }
     {
@@ -246,7 +250,7 @@ impl Recon {
             .unwrap_or(0)
     }
 
-    /// The root keys of a node of a segment; `None` where there is no such segment.
+    /// Returns the root keys of `node` in segment `seg`; `None` if there is no such segment.
     pub fn extent(&self, seg: SegId, node: NodeId) -> Option<Extent>
         ensures { result ≡ extent_at self.now seg node }
     {
@@ -274,14 +278,14 @@ impl Clone for Recon {
     }
 }
 
-// Whether a leaf may have this many root keys.
+// Returns true if a leaf may have `width` root keys.
 fn is_width(width: u64) -> bool
     ensures { result ≡ is_width width }
 {
     (1..=MAX_WIDTH).contains(&width)
 }
 
-// How many of the segments end at a key or before it.
+// Counts the segments that end at `key` or before it.
 fn count_up_to(segments: &[Range], key: u64) -> usize
     requires { are_in_key_order 0 segments.now ≡ true }
     ensures bound { result ≤ length segments.now }
@@ -296,7 +300,7 @@ fn count_up_to(segments: &[Range], key: u64) -> usize
     )
 }
 
-// Where a leaf of a segment begins; past the segment's end, that end.
+// Returns the first key of a leaf of `segment`, or the segment's end if the leaf is past it.
 fn leaf_start(segment: &Range, width: u64, leaf: u64) -> u64
     requires leaf { leaf ≤ LEAVES }
     requires width { width ≤ MAX_WIDTH }

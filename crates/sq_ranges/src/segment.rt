@@ -6,13 +6,13 @@ ghost use Rattle.sq_ranges.specs.Between.{segment_limit};
 use sq_plan::Version;
 use std::marker::Model;
 
-/// How many segments a reconfiguration has at most.
+/// The most segments that a reconfiguration has.
 pub const SEGMENT_LIMIT: u64 = 1024;
 
-/// How many segments a move to a plan of the first version has at most.
+/// The most segments that a move to a plan of the first version has.
 pub const FIRST_SEGMENT_LIMIT: u64 = 256;
 
-/// How many segments a move to a plan of this version has at most.
+/// Returns the most segments that a move to a plan of this `version` has.
 pub(crate) fn segment_limit(version: Version) -> u64
     ensures limit { result ≡ segment_limit version }
     ensures bound { result ≤ SEGMENT_LIMIT }
@@ -41,7 +41,7 @@ impl Model for SegId {
 }
 
 impl SegId {
-    /// The segment of this number; `None` from [`SEGMENT_LIMIT`] on.
+    /// Returns the segment with this `number`; `None` if that is [`SEGMENT_LIMIT`] or more.
     pub fn new(number: u64) -> Option<SegId>
         ensures { SomeIff result (number < SEGMENT_LIMIT) number }
     {
@@ -52,7 +52,7 @@ impl SegId {
         }
     }
 
-    /// Its number, below [`SEGMENT_LIMIT`].
+    /// Returns the number, below [`SEGMENT_LIMIT`].
     pub fn number(self) -> u64
         ensures number { result ≡ self }
         ensures bound { result < SEGMENT_LIMIT }
@@ -60,7 +60,7 @@ impl SegId {
         u64::from(self.0)
     }
 
-    /// Where the segment is in a list of all segments.
+    /// Returns the place of the segment in a list of all segments.
     pub fn index(self) -> usize
         ensures place { result ≡ self }
         ensures bound { result < SEGMENT_LIMIT }

@@ -6,10 +6,11 @@ use crate::recon::Range;
 use sq_plan::PartId;
 use std::alloc::{AllocError, Global};
 
-// How many numbers a partition may have.
+// The bound of partition numbers.
 const PART_NUMBERS: usize = 256;
 
-/// The place of a partition among those to which another gives keys, in key order; 0 where it isn't among them.
+/// Returns the place of `dst` among the partitions that `src` sends keys to, in key order; 0 if it
+/// isn't one of them.
 pub(crate) fn place_on(ranges: &[Range], src: PartId, dst: PartId) -> u64
     ensures place { result ≡ place_on ranges.now src dst }
     ensures bound { result ≤ length ranges.now }
@@ -31,7 +32,7 @@ pub(crate) fn place_on(ranges: &[Range], src: PartId, dst: PartId) -> u64
     0
 }
 
-/// For each segment the place of its destination among those of its source.
+/// Returns for each segment the place of its destination among those of its source.
 pub(crate) fn places(
     alloc: Global,
     ranges: &[Range],

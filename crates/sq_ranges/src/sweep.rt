@@ -8,7 +8,7 @@ ghost use Rattle.sq_ranges.specs.Sweep.{past, piece_of, left, HasAhead, Reaches,
 use crate::recon::Range;
 use sq_plan::{Plan, PlanRange};
 
-/// What is left of two plans from a key on: their ranges that end behind it.
+/// The rest of two plans from a key on: their ranges that end after it.
 #[derive(Clone, Copy)]
 pub(crate) struct Sweep<'a> {
     at: u64,
@@ -17,7 +17,7 @@ pub(crate) struct Sweep<'a> {
 }
 
 impl<'a> Sweep<'a> {
-    /// The whole of two plans.
+    /// Starts at the first key of both plans.
     pub(crate) fn new(old: &'a Plan, new: &'a Plan) -> Sweep<'a>
         ensures moves { HasAhead result (moves_of old.now new.now) }
         ensures plans { IsPlan old.now × IsPlan new.now }
@@ -29,7 +29,8 @@ impl<'a> Sweep<'a> {
         }
     }
 
-    /// The next run of keys that move, as far as it goes. The sweep continues behind it.
+    /// Returns the next maximal run of keys that move; the sweep continues after it. `None` if no
+    /// more keys move.
     pub(crate) fn next_run(&mut self) -> Option<Range>
         ensures next { (runs : List Range) → HasAhead self.old runs
             → MatchOption result (runs ≡ []) (λ run. (rest : List Range) × (runs ≡ run ∷ rest)
@@ -45,8 +46,8 @@ impl<'a> Sweep<'a> {
         None
     }
 
-    // A run of keys that ends where the sweep is, with the pieces behind it that have its owners. The sweep
-    // then is at its end.
+    // Extends a run that ends at the sweep's place by the next pieces with the same owners. The
+    // sweep is then at the end of the run.
     fn extended(&mut self, mut run: Range) -> Range
         ensures whole { (old new : PlanValue) (from : ℕ) → Reaches old new from self.old run
             → EndsAt old new from self.new result }
@@ -62,7 +63,7 @@ impl<'a> Sweep<'a> {
         run
     }
 
-    // The keys from here on that one range of each plan holds.
+    // Returns the keys from here on that one range of each plan holds.
     fn piece(&self) -> Option<Range>
         ensures { result ≡ piece_of self.now.at self.now.olds.now self.now.news.now }
     {
@@ -76,7 +77,7 @@ impl<'a> Sweep<'a> {
         })
     }
 
-    // Continues to a key up to which no range ends.
+    // Continues at the key `at`; no range ends before it.
     fn skip_to(&mut self, at: u64)
         ensures at { self.new.at ≡ at }
         ensures olds { self.new.olds.now ≡ past self.old.olds.now at }
@@ -88,7 +89,7 @@ impl<'a> Sweep<'a> {
     }
 }
 
-// The ranges without the first, where that ends at a key.
+// Returns the ranges without the first, if that ends at the key `at`.
 fn past(ranges: &[PlanRange], at: u64) -> &[PlanRange]
     ensures { result.now ≡ past ranges.now at }
 {

@@ -1,4 +1,4 @@
--- Rows that were written as lines of a header, and are read again.
+-- Rows that are written as lines of a header, and read again.
 use Rattle.std.specs.Prelude.{◌≡◌, ◌≢◌, ◌≤◌, ℕ, ◌+◌, ◌==◌, false, List, [], ◌++◌, length, sum_by, count_by, All, Some, Ok, codes}
 use Rattle.sq_schema.specs.Effect.{RowTable}
 use Rattle.sq_schema.specs.Family.{FamilyValue, rows_of}
@@ -7,7 +7,7 @@ use Rattle.sq_lines.specs.Pieces.{PieceValue, InputEnd, pieces_in, next_begins}
 use Rattle.sq_text.specs.Header.{HeaderValue, plans_of, header_of}
 use Rattle.sq_results.specs.Standing.{WritesRows}
 
--- families that a schema of this many tables takes, at most one of each root key
+-- families that a schema of this many tables accepts, at most one for each root key
 pub record AreFit (tables : ℕ) (families : List FamilyValue) : Type 0 where
   pub each : All (IsFitFamily tables) families
   pub one_each :
@@ -23,14 +23,16 @@ pub record HasRowsOf (families : List FamilyValue) (table : RowTable) : Type 0 w
   pub others :
       (root : ℕ) → All (λ (family : FamilyValue). family.root ≢ root) families → table root ≡ []
 
--- an input spells these plans and sizes with the table of these families, and this is left behind it
+-- an input spells these plans and sizes, and the table of these families, and `left` remains after
+-- it
 pub record IsHeaderWith (tables : ℕ) (families : List FamilyValue) (plans : HeaderValue)
     (input left : List PieceValue) : Type 0 where
   pub table : RowTable
   pub has : HasRowsOf families table
   pub header : header_of tables input ≡ Ok (record plans { rows = table }, left)
 
--- what is written of these families comes in the input behind these plans and sizes, and what is left behind it begins with no row
+-- what is written of these families comes in the input after these plans and sizes, and what
+-- remains after it doesn't begin with a row
 pub record HasLinesOf (families : List FamilyValue) (plans : HeaderValue)
     (input left : List PieceValue) : Type 0 where
   pub text : List ℕ
@@ -43,7 +45,7 @@ pub record HasLinesOf (families : List FamilyValue) (plans : HeaderValue)
   pub follows : left ≡ pieces_in end lines rest
   pub no_row : next_begins (codes "row ") (pieces_in end lines rest) ≡ false
 
--- whichever input has lines of these families, its header has their rows
+-- the header of any input that has the lines of these families has their rows
 abbrev pub RowsAreReadBack : ℕ → List FamilyValue → Type 0
 RowsAreReadBack tables families =
     (plans : HeaderValue) (input left : List PieceValue) → HasLinesOf families plans input left

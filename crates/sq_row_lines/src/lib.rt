@@ -1,4 +1,4 @@
-//! A file of rows: a reader of its lines, up to the first one that isn't a row's.
+//! A reader of a file of rows, up to its first line that isn't a row's.
 #![tactic(auto)]
 
 mod row_lines;

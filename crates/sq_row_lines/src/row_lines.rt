@@ -7,17 +7,17 @@ use std::io::Read;
 // The byte that ends a line.
 const LINE_END: u8 = 10;
 
-// The front of a row's line.
+// How a row's line begins.
 const FRONT: [u8; 4] = *b"row ";
 
-/// What replaces a line that isn't a row's: it is no row's line, and begins as one.
+/// Replaces a line that isn't a row's: it isn't a valid row either, but begins like one.
 pub const NO_ROW: &[u8] = b"row ?";
 
-/// The same with its end.
+/// The same with a line end.
 pub const NO_ROW_LINE: &[u8] = b"row ?\n";
 
-/// The lines of another reader, as long as each begins as a row's line does. In place of the first one that doesn't it gives
-/// [`NO_ROW`], and nothing more.
+/// A reader of the lines of another one, as long as each begins as a row's line does. In place of
+/// the first that doesn't, it reads [`NO_ROW`], and nothing after it.
 #[derive(Drop)]
 pub struct RowLines<R: Read> {
     inner: R,
@@ -27,16 +27,16 @@ pub struct RowLines<R: Read> {
 /// Where the reading is.
 #[derive(Clone, Copy, Debug, PartialEq, Eq)]
 pub(crate) enum RowPlace {
-    /// In a line; so many of its bytes were given, all of them of its front.
+    /// In a line of which this many bytes were read, all of them of its beginning `row `.
     Front(usize),
-    /// In a line, behind its front.
+    /// In a line, after that beginning.
     Within,
-    /// In the line that is no row's; so many of its bytes were given.
+    /// In the line that replaces one that isn't a row's, of which this many bytes were read.
     NoRow(usize),
 }
 
 impl RowPlace {
-    // The place behind one byte more, unless no row's line has it there.
+    // The place after `byte`; `None` if the line isn't a row's with that byte.
     fn behind(self, byte: u8) -> Option<RowPlace> {
         match self {
             RowPlace::Front(given) if FRONT.get(given) != Some(&byte) => None,
@@ -48,7 +48,7 @@ impl RowPlace {
         }
     }
 
-    // The place where the line turns out to be no row's.
+    // The place in the replacement of a line that turns out not to be a row's.
     fn cut(self) -> RowPlace {
         match self {
             RowPlace::Front(given) => RowPlace::NoRow(given),
@@ -57,7 +57,8 @@ impl RowPlace {
     }
 }
 
-// How many of these bytes are of rows' lines, up to the first line that is none, and the place behind them.
+// How many of `bytes` are of rows' lines, up to the first line that isn't, and the place after
+// them.
 fn rows_in(bytes: &[u8], from: RowPlace) -> (usize, RowPlace)
     ensures { result.0 ≤ length bytes.now }
 {
@@ -72,7 +73,7 @@ fn rows_in(bytes: &[u8], from: RowPlace) -> (usize, RowPlace)
 }
 
 impl<R: Read> RowLines<R> {
-    /// The lines of this reader.
+    /// The lines of `inner`.
     pub fn new(inner: R) -> RowLines<R> {
         RowLines {
             inner,
@@ -80,7 +81,7 @@ impl<R: Read> RowLines<R> {
         }
     }
 
-    // Gives more of the line that is no row's.
+    // Reads more of the line that replaces one that isn't a row's.
     fn read_no_row(&mut self, buf: &mut [u8]) -> usize
         ensures { result ≤ length buf.new }
     {
@@ -94,7 +95,8 @@ impl<R: Read> RowLines<R> {
         count
     }
 
-    // The place where the reader behind it ends: within a front, the line is no row's.
+    // The place where the inner reader ends: within the beginning of a line, that line isn't a
+    // row's.
     fn at_end(&self) -> RowPlace {
         match self.place {
             RowPlace::Front(0) => RowPlace::Front(0),

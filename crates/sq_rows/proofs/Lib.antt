@@ -7,5 +7,6 @@ pub mod Places
 pub mod Sizes
 pub mod Weights
 pub mod Latest
+pub mod Edited
 pub mod Rooted
 pub mod Equal

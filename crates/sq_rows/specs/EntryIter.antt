@@ -1,4 +1,4 @@
--- Going over entries by key.
+-- Iterators over entries by key.
 use Rattle.std.specs.Prelude.{List}
 use Rattle.std.specs.Slice.Iter.{iter_rest}
 use Rattle.sq_rows.specs.declared.entry_iter.EntriesLeft.{EntriesLeft}

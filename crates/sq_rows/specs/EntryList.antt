@@ -1,4 +1,4 @@
--- The rows of one root key, however they lie in memory.
+-- The rows of one root key, however they are stored.
 use Rattle.std.specs.Prelude.{◌≡◌, ℕ, ◌+◌, ◌≤◌, [], ◌∷◌, vec_len, vec_capacity}
 use Rattle.sq_rows.specs.declared.row.RowKey.{RowKey}
 use Rattle.sq_rows.specs.declared.entry_list.EntryList.{EntryList}
@@ -17,19 +17,19 @@ IsOne (One entry) = Unit {0}
 IsOne (Many entries) = ⊥
 IsOne (Map entries) = ⊥
 
--- the rows lie in no map
+-- the rows aren't in a map
 abbrev pub IsListed : EntryList → Type 0
 IsListed (One entry) = Unit {0}
 IsListed (Many entries) = Unit {0}
 IsListed (Map entries) = ⊥
 
--- there is memory for this many rows more
+-- there is room for this many more rows
 abbrev pub HasRoom : EntryList → ℕ → Type 0
 HasRoom (One entry) more = ⊥
 HasRoom (Many entries) more = vec_len entries + more ≤ vec_capacity entries
 HasRoom (Map entries) more = ⊥
 
--- there is no row, or this key's alone
+-- there is no row except that of this key
 abbrev pub StandsAlone : RowList → RowKey → Type 0
 StandsAlone [] key = Unit {0}
 StandsAlone (entry ∷ []) key = entry.0 ≡ key

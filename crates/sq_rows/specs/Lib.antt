@@ -7,5 +7,6 @@ pub mod Places
 pub mod EntryList
 pub mod EntryIter
 pub mod Writes
+pub mod Edits
 pub mod ShortList
 pub mod Equal

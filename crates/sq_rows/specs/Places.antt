@@ -20,7 +20,7 @@ module _ {K X : Type 0} (R : K → K → Ordering) where
     pub put : (x : X) → entries.put R key x es ≡ insert es at (key, x)
     pub removed : entries.where_key R (λ other. not (eq_by_cmp R key other)) es ≡ es
 
-  -- where the entry of the key is, or where it would go
+  -- the place of the entry of the key, or else where it belongs
   abbrev pub IsPlace : List (K × X) → K → Result ℕ ℕ → Type 0
   IsPlace es key (Ok at) = IsAt es key at
   IsPlace es key (Err at) = IsGap es key at

@@ -14,11 +14,11 @@ RowList = List (RowKey × RowValue)
 abbrev pub root_key : RowKey
 root_key = record { table = 0; sub = 0 }
 
--- the row that a key has, if it has one
+-- the row of a key, if it has one
 abbrev pub row_at : RowList → RowKey → Option RowValue
 row_at rows key = find key_cmp key rows
 
--- the rows with this one put, new or in place of the one that is there
+-- the rows with this one put, new or in place of the present one
 abbrev pub with_row : RowList → RowKey → RowValue → RowList
 with_row rows key row = put key_cmp key row rows
 

@@ -1,4 +1,4 @@
--- Lists that mostly have one item, however they lie in memory.
+-- Lists that mostly have one item, however they are stored.
 use Rattle.std.specs.Prelude.{List, [], ◌∷◌}
 use Rattle.sq_rows.specs.declared.short_list.ShortList.{ShortList}
 use Rattle.sq_rows.specs.declared.short_list.ShortList.TheVariants.{One, Many}

@@ -1,4 +1,4 @@
--- A row without where it lies in memory.
+-- A row, apart from where it is stored.
 use Rattle.std.specs.Prelude.{ℕ, ℤ, List}
 
 pub record RowValue : Type 0 where

@@ -34,10 +34,10 @@ is_sound key (Some row) = is_entry (key, row)
 abbrev pub is_write : Write → Bool
 is_write write = is_sound write.0 write.1
 
--- how many rows this is
+-- how many rows this is, 0 or 1
 abbrev pub count_of_row : Option RowValue → ℕ
 count_of_row row = option_map_or (λ row. 1) row 0
 
--- and their size
+-- its size
 abbrev pub size_of_row : Option RowValue → ℕ
 size_of_row row = option_map_or row_size row 0

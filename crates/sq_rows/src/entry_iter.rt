@@ -1,4 +1,4 @@
-// Going over entries by key.
+// Iterators over entries by key.
 ghost use Rattle.std.specs.Prelude.{◌≡◌, length};
 ghost use Rattle.std.specs.Iterator.{at_most};
 ghost use Rattle.std.specs.Map.Iter.{TakesFirst, deref_pair};
@@ -9,16 +9,17 @@ use std::collections::{BTreeMap, btree_map};
 use std::marker::Model;
 use std::slice;
 
-/// Entries by key in rising order. To a contract they are the list of those that are left.
+/// An iterator over entries by rising key. To a contract it is the list of the entries that are
+/// left.
 #[derive(Drop)]
 pub struct EntryIter<'a, K, V> {
     left: EntriesLeft<'a, K, V>,
 }
 
-/// The rows of one root key with their keys, by key in rising order.
+/// An iterator over the rows of one root key with their keys, by rising key.
 pub type RowIter<'a> = EntryIter<'a, RowKey, Row>;
 
-// The entries that are left, in each form.
+// The entries that are left, for each way of storing them.
 #[derive(Drop)]
 enum EntriesLeft<'a, K, V> {
     Listed(slice::Iter<'a, (K, V)>),
@@ -36,7 +37,7 @@ impl<'a, K, V> Model for EntryIter<'a, K, V> {
 }
 
 impl<'a, K: Ord, V> EntryIter<'a, K, V> {
-    /// The entries of a list.
+    /// Returns an iterator over the entries of a list.
     pub fn of_list(entries: &'a [(K, V)]) -> EntryIter<'a, K, V>
         ensures { result ≡ entries.now }
     {
@@ -45,7 +46,7 @@ impl<'a, K: Ord, V> EntryIter<'a, K, V> {
         }
     }
 
-    /// The entries of a map.
+    /// Returns an iterator over the entries of a map.
     pub fn of_map(entries: &'a BTreeMap<K, V>) -> EntryIter<'a, K, V>
         ensures { result ≡ entries.now.entries }
     {
@@ -54,7 +55,7 @@ impl<'a, K: Ord, V> EntryIter<'a, K, V> {
         }
     }
 
-    /// The entries of a part of a map.
+    /// Returns an iterator over a range of a map.
     pub fn of_range(entries: btree_map::Range<'a, K, V>) -> EntryIter<'a, K, V>
         ensures { result ≡ entries.entry }
     {
@@ -91,7 +92,7 @@ impl<'a, K, V> Iterator for EntryIter<'a, K, V> {
     }
 }
 
-// Whether these are equal rows under equal keys.
+// Returns true if both have equal rows under equal keys.
 pub(crate) fn are_equal(mut one: RowIter<'_>, mut other: RowIter<'_>) -> bool
     ensures { result ≡ rows_eq one.entry other.entry }
 {

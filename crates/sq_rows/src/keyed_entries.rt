@@ -1,4 +1,4 @@
-// Entries by key: in a list whose keys rise, and in a map.
+// Entries by key, in a sorted list and in a map.
 ghost use Rattle.std.specs.Prelude.{◌≡◌, true, IfOk, IfErr, OnOk, OnErr};
 ghost use Rattle.std.specs.Option.{option_copied};
 ghost use Rattle.std.specs.FinMap.Entries.{find, put, is_sorted};
@@ -8,12 +8,12 @@ use std::alloc::{AllocError, AllocFailed, Global};
 use std::cmp::Ordering;
 use std::collections::BTreeMap;
 
-/// Where the entry of a key is in a list, or where it would go.
+/// Returns the place of the entry of `key` in `list`, or else the place where it belongs.
 pub fn place<K: Copy + Ord, V>(list: &[(K, V)], key: K) -> Result<usize, usize>
     requires { is_sorted K.cmp list.now ≡ true }
     ensures { IsPlace K.cmp list.now key result }
 {
-    // Keys mostly come in rising order: the last needs no search, and neither does one past it.
+    // Keys mostly arrive in rising order: neither the last key nor one past it needs a search.
     if let Some((last, _)) = list.last() {
         match last.cmp(&key) {
             Ordering::Less => return Err(list.len()),
@@ -24,7 +24,7 @@ pub fn place<K: Copy + Ord, V>(list: &[(K, V)], key: K) -> Result<usize, usize>
     list.binary_search_by_key(&key, |(own, _)| *own)
 }
 
-/// The value of a key in a list.
+/// Returns the value of `key` in `list`.
 pub fn get<K: Copy + Ord, V>(list: &[(K, V)], key: K) -> Option<&V>
     requires { is_sorted K.cmp list.now ≡ true }
     ensures { option_copied result ≡ find K.cmp key list.now }
@@ -35,8 +35,8 @@ pub fn get<K: Copy + Ord, V>(list: &[(K, V)], key: K) -> Option<&V>
     }
 }
 
-/// Whether a write of this key moves entries of a list: it removes one that isn't the last, or puts a new one before
-/// another.
+/// Returns whether a write of `key` moves entries of `list`: it removes an entry that isn't the
+/// last, or inserts one before another.
 pub fn moves_entries<K: Copy + Ord, V>(list: &[(K, V)], key: K, removes: bool) -> bool {
     match list.last() {
         Some((last, _)) if *last > key => {
@@ -46,7 +46,7 @@ pub fn moves_entries<K: Copy + Ord, V>(list: &[(K, V)], key: K, removes: bool) -
     }
 }
 
-/// A map of copies of the entries of a list.
+/// Returns a map with clones of the entries of `list`.
 pub fn map_of<K: Copy + Ord, V: Clone>(
     alloc: Global,
     list: &[(K, V)],
@@ -62,7 +62,8 @@ pub fn map_of<K: Copy + Ord, V: Clone>(
     Ok(map)
 }
 
-/// Gives a key this value in a map, in place of the one that it has. Where there is no memory it comes back.
+/// Sets the value of `key` in `map`, replacing any that it has. If memory runs out, `value` is
+/// returned.
 pub fn insert<K: Copy + Ord, V: Drop>(
     map: &mut BTreeMap<K, V>,
     key: K,

@@ -1,4 +1,4 @@
-//! The rows of one root key: how they lie in memory, and writes of them.
+//! The rows of one root key: how they are stored, and writes of them.
 #![tactic(auto)]
 
 pub mod entry_iter;
@@ -10,6 +10,6 @@ pub mod rows;
 pub mod short_list;
 
 pub use entry_iter::{EntryIter, RowIter};
-pub use row::{MAX_NOTE, Row, RowKey, RowWrite};
+pub use row::{MAX_NOTE, NotAdded, NotPut, Row, RowKey, RowWrite};
 pub use rows::Rows;
 pub use short_list::ShortList;

@@ -1,14 +1,15 @@
 // Rows, by table and sub key.
-ghost use Rattle.std.specs.Prelude.{◌≡◌, IfOk};
+ghost use Rattle.std.specs.Prelude.{◌≡◌, ◌+ℤ◌, IfOk, IfSome, IfNone, SomeIff, FitsSigned};
+ghost use Rattle.std.specs.Int.{w64};
 
 use std::alloc::{AllocError, Global};
 use std::cmp::Ordering;
 use std::marker::Model;
 
-/// The most bytes that a note has.
+/// The most bytes of a note.
 pub const MAX_NOTE: usize = 255;
 
-/// The place of a row within its root key. Table 0 is the root table, and its only sub key is 0.
+/// The place of a row within its root key. Table 0 is the root table; its only sub key is 0.
 #[derive(Clone, Copy, Debug, PartialEq, Eq, PartialOrd)]
 pub struct RowKey {
     /// The table, from 0.
@@ -22,7 +23,25 @@ impl RowKey {
     pub const ROOT: RowKey = RowKey { table: 0, sub: 0 };
 }
 
-/// A row that a key is to have, or none.
+/// Why a row wasn't put under a new key, with the row.
+#[derive(Drop)]
+pub enum NotPut {
+    /// The key has a row already.
+    Repeated(Row),
+    /// Memory ran out.
+    Memory(Row),
+}
+
+/// Why nothing was added to the number of a row.
+#[derive(Clone, Copy)]
+pub enum NotAdded {
+    /// There is no such row.
+    Absent,
+    /// The sum exceeds an `i64`.
+    Range,
+}
+
+/// A write of a key: its new row, or `None` to remove it.
 pub type RowWrite = (RowKey, Option<Row>);
 
 impl Ord for RowKey {
@@ -38,7 +57,8 @@ impl Ord for RowKey {
 
     ghost matches_eq = { Prim.search (comparing, rules) };
 
-    // Asks first whether it comes later, as a search does at most keys: a derive compiles to more tests.
+    // Tests first whether this key is greater, as it is at most keys of a search; a derived
+    // comparison compiles to more tests.
     fn cmp(&self, other: &RowKey) -> Ordering {
         if self.table > other.table || self.table == other.table && self.sub > other.sub {
             Ordering::Greater
@@ -50,7 +70,8 @@ impl Ord for RowKey {
     }
 }
 
-/// A row: a number and a note of any length (a schema refuses long ones). To a contract it is a `RowValue`.
+/// A row: a number and a note of any length (a schema refuses long ones). To a contract it is a
+/// `RowValue`.
 #[derive(Debug, Drop)]
 pub struct Row {
     number: i64,
@@ -85,14 +106,14 @@ impl Row {
         &self.note
     }
 
-    /// Its note, without a copy.
+    /// Returns the note, uncopied.
     pub fn into_note(self) -> Vec<u8>
         ensures { result.items ≡ self.note }
     {
         self.note
     }
 
-    /// A row with the same note and this number.
+    /// Returns a row with this `number` and a copy of the note.
     pub fn with_number(&self, number: i64) -> Result<Row, AllocError>
         ensures { IfOk result (λ row. row ≡ record { number = number; note = self.now.note }) }
     {
@@ -105,13 +126,26 @@ impl Row {
 
 impl Row {
     ghost use Rattle.sq_rows.specs.Sizes.{row_size};
+    ghost use Rattle.sq_rows.specs.Edits.{with_number};
 
-    // Where its note is allocated.
+    // Returns the allocator of the note.
     pub(crate) fn alloc(&self) -> Global {
         *self.note.allocator()
     }
 
-    // Its size in bytes in its family.
+    // Adds `by` to the number and returns the sum; `None` if it exceeds an `i64`.
+    pub(crate) fn add(&mut self, by: i64) -> Option<i64>
+        ensures sum { SomeIff result (FitsSigned w64 (self.old.number +ℤ by))
+            (self.old.number +ℤ by) }
+        ensures some { IfSome result (λ sum. self.new ≡ with_number self.old sum) }
+        ensures none { IfNone result (self.new ≡ self.old) }
+    {
+        let number = self.number.checked_add(by)?;
+        self.number = number;
+        Some(number)
+    }
+
+    // Returns the bytes that the row adds to its family's size.
     pub(crate) fn size(&self) -> u64
         ensures { result ≡ row_size self.now }
     {

@@ -1,10 +1,11 @@
 // The rows of one root key.
-ghost use Rattle.std.specs.Prelude.{◌≡◌, ◌+◌, ◌*◌, ◌^◌, ◌<◌, ◌≤◌, ◌==◌, true, [], ◌∷◌, length, vec_len, vec_capacity, OnOk, OnErr, IfOk, IfErr, IfSome};
+ghost use Rattle.std.specs.Prelude.{◌≡◌, ◌+◌, ◌*◌, ◌^◌, ◌<◌, ◌≤◌, ◌==◌, true, [], ◌∷◌, length, is_some, None, OnOk, OnErr, IfOk, IfErr, IfSome};
 ghost use Rattle.std.specs.Option.{option_copied};
 ghost use Rattle.std.specs.List.{AllPass};
 ghost use Rattle.sq_rows.specs.declared.row.RowKey.{RowKey};
 ghost use Rattle.sq_rows.specs.declared.row.TheConstants.{MAX_NOTE};
-ghost use Rattle.sq_rows.specs.RowList.{RowList, row_at, with_row};
+ghost use Rattle.sq_rows.specs.RowList.{RowList, root_key, row_at, with_row, without_row};
+ghost use Rattle.sq_rows.specs.Edits.{AddsTo, ComesBack};
 ghost use Rattle.sq_rows.specs.Sizes.{rows_size};
 ghost use Rattle.sq_rows.specs.Rows.{IsRowList};
 ghost use Rattle.sq_rows.specs.Writes.{count_of_row, size_of_row, is_write, with_write, with_writes};
@@ -12,12 +13,13 @@ ghost use Rattle.sq_rows.specs.ShortList.{short_items};
 
 use crate::entry_iter::{RowIter, are_equal};
 use crate::entry_list::EntryList;
-use crate::row::{Row, RowKey, RowWrite};
+use crate::row::{NotAdded, NotPut, Row, RowKey, RowWrite};
 use crate::short_list::ShortList;
 use std::alloc::{AllocError, AllocFailed, Global};
 use std::marker::Model;
 
-/// The rows of one root key, by key in rising order. To a contract they are the list of key and row.
+/// The rows of one root key, by rising key. To a contract they are the list of keys with their
+/// rows.
 #[derive(Debug, Drop)]
 pub struct Rows {
     rows: EntryList,
@@ -41,7 +43,7 @@ impl Model for Rows {
 }
 
 impl Rows {
-    /// No rows.
+    /// Creates an empty list.
     pub fn new(alloc: Global) -> Rows
         ensures { result ≡ [] }
     {
@@ -51,7 +53,7 @@ impl Rows {
         }
     }
 
-    /// How many rows there are.
+    /// Returns the number of rows.
     pub fn len(&self) -> usize
         ensures count { result ≡ length self.now }
         ensures sound { IsRowList self.now }
@@ -59,14 +61,14 @@ impl Rows {
         self.rows.len()
     }
 
-    /// Whether there are none.
+    /// Returns true if there are no rows.
     pub fn is_empty(&self) -> bool
         ensures { result ≡ (length self.now == 0) }
     {
         self.rows.len() == 0
     }
 
-    /// The rows with their keys, in rising order.
+    /// Returns an iterator over the rows with their keys, in rising order.
     pub fn iter(&self) -> RowIter<'_>
         ensures all { result ≡ self.now }
         ensures sound { IsRowList self.now }
@@ -74,35 +76,77 @@ impl Rows {
         self.rows.iter()
     }
 
-    /// The row of a key.
+    /// Returns the row of `key`; `None` if there is none.
     pub fn get(&self, key: RowKey) -> Option<&Row>
         ensures { option_copied result ≡ row_at self.now key }
     {
         self.rows.get(key)
     }
 
-    /// The size in bytes of a family with these rows: 32, and 24 and the length of the note for each row.
+    /// Returns the size in bytes of a family with these rows: 32, plus 24 and the length of its
+    /// note for each row.
     pub fn size(&self) -> u64
         ensures { result ≡ rows_size self.now }
     {
         self.size
     }
 
-    /// Puts a row, new or in place of the one that is there. Where there is no memory the row comes back.
+    /// Puts `row`, new or in place of the present one. If memory runs out, nothing changes and
+    /// `row` is returned.
     pub fn insert(&mut self, key: RowKey, row: Row) -> Result<(), AllocFailed<Row>>
         requires { length row.note ≤ MAX_NOTE }
         ensures ok { OnOk result (self.new ≡ with_row self.old key row) }
         ensures err { OnErr result (self.new ≡ self.old) }
         ensures row_returned { IfErr result (λ failed. failed.value ≡ row) }
     {
-        let (_, old_size) = weight(self.get(key));
-        let size = self.size + row.size() - old_size;
-        self.rows.insert(key, row)?;
-        self.size = size;
+        let added = row.size();
+        let old = self.rows.replace(key, row)?;
+        let (_, old_size) = weight(old.as_ref());
+        self.size = self.size + added - old_size;
         Ok(())
     }
 
-    /// The first row.
+    /// Puts `row` under a new `key`. If the key has a row, or memory runs out, nothing changes and
+    /// `row` is returned.
+    pub fn insert_new(&mut self, key: RowKey, row: Row) -> Result<(), NotPut>
+        requires { length row.note ≤ MAX_NOTE }
+        ensures ok { OnOk result (self.new ≡ with_row self.old key row) }
+        ensures absent { OnOk result (row_at self.old key ≡ None) }
+        ensures err { OnErr result (self.new ≡ self.old) }
+        ensures row_returned { IfErr result (ComesBack (row_at self.old key) row) }
+    {
+        let added = row.size();
+        self.rows.insert_new(key, row)?;
+        self.size += added;
+        Ok(())
+    }
+
+    /// Adds `by` to the number of the row of `key` and returns the sum. If there is no row, or the
+    /// sum exceeds an `i64`, nothing changes.
+    pub fn add(&mut self, key: RowKey, by: i64) -> Result<i64, NotAdded>
+        ensures { AddsTo self.old key by (row_at self.old key) self.new result }
+    {
+        self.rows.add(key, by)
+    }
+
+    /// Removes the row of `key`, if there is one. If memory runs out, nothing changes.
+    pub fn remove(&mut self, key: RowKey) -> Result<(), AllocError>
+        ensures ok { OnOk result (self.new ≡ without_row self.old key) }
+        ensures err { OnErr result (self.new ≡ self.old) }
+    {
+        let (_, old_size) = weight(self.get(key));
+        let size = self.size - old_size;
+        self.write_all(ShortList::One((key, None)), size)
+    }
+
+    /// Returns whether there is a root row.
+    pub fn has_root(&self) -> bool
+        ensures { result ≡ is_some (row_at self.now root_key) }
+    {
+        self.rows.has_root()
+    }
+
+    /// Returns the first row.
     pub fn into_first(self) -> Row
         requires { 0 < length self }
         ensures { (key : RowKey) × (rest : RowList) × (self ≡ (key, result) ∷ rest) }
@@ -111,7 +155,8 @@ impl Rows {
         rows.into_first()
     }
 
-    /// Makes these writes in their order, or none where there is no memory. The size is the one of the rows afterwards.
+    /// Performs `writes` in their order, or none of them if memory runs out. `size` is the size in
+    /// bytes of a family with the rows afterwards.
     pub fn write_all(&mut self, writes: ShortList<RowWrite>, size: u64) -> Result<(), AllocError>
         requires writes { AllPass is_write (short_items writes) }
         requires size { size ≡ rows_size (with_writes self.old (short_items writes)) }
@@ -162,7 +207,7 @@ impl Clone for Rows {
     }
 }
 
-/// How many rows this is, and their size.
+/// Returns how many rows `row` is, 0 or 1, and its size in bytes.
 pub fn weight(row: Option<&Row>) -> (usize, u64)
     ensures count { result.0 ≡ count_of_row (option_copied row.entry) }
     ensures size { result.1 ≡ size_of_row (option_copied row.entry) }

@@ -7,7 +7,8 @@ use std::alloc::{AllocError, Global};
 use std::mem::replace;
 use std::slice;
 
-/// Items in their order; one alone takes no memory of its own: most transactions have one operation.
+/// Items in their order. One item alone takes no memory of its own: most transactions have one
+/// operation.
 #[derive(Clone, Drop)]
 pub enum ShortList<T> {
     One(T),
@@ -15,14 +16,14 @@ pub enum ShortList<T> {
 }
 
 impl<T> ShortList<T> {
-    /// No items.
+    /// Creates an empty list.
     pub fn new(alloc: Global) -> ShortList<T>
         ensures { short_items result ≡ [] }
     {
         ShortList::Many(Vec::new(alloc))
     }
 
-    /// The items in their order.
+    /// Returns the items in their order.
     pub fn as_slice(&self) -> &[T]
         requires { FitsInMemory T.row }
         ensures { result.now ≡ short_items self.now }
@@ -35,7 +36,7 @@ impl<T> ShortList<T> {
 }
 
 impl<T: Drop> ShortList<T> {
-    /// These items.
+    /// Makes a list of `items`.
     pub fn of(mut items: Vec<T>) -> ShortList<T>
         ensures { short_items result ≡ items.items }
     {
@@ -47,7 +48,8 @@ impl<T: Drop> ShortList<T> {
         ShortList::Many(items)
     }
 
-    /// Adds an item to a list of this many at most.
+    /// Appends `item` to a list that is expected to hold at most `most` items. If memory runs out,
+    /// nothing changes.
     pub fn push(&mut self, alloc: Global, most: usize, item: T) -> Result<(), AllocError>
         ensures ok { OnOk result (short_items self.new ≡ short_items self.old ++ item ∷ []) }
         ensures err { OnErr result (short_items self.new ≡ short_items self.old) }
@@ -60,7 +62,7 @@ impl<T: Drop> ShortList<T> {
         Ok(())
     }
 
-    // Adds an item to one that is alone.
+    // Appends `item` to a list of one.
     fn push_second(&mut self, alloc: Global, most: usize, item: T) -> Result<(), AllocError>
         requires { IsSingle self.old }
         ensures ok { OnOk result (short_items self.new ≡ short_items self.old ++ item ∷ []) }

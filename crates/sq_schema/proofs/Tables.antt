@@ -159,7 +159,7 @@ pub found_opening : (table : TableValue) (root : ℕ) → IsTable table → IfSo
 found_opening table root is = rw (find-lookup nat_cmp table root) at (All-lookup (λ rows. is_opening rows ≡ true) (is_at (nat_cmp root)) table is.opening)
 
 -- a table after rows were put, or weren't because memory ran out
-pub IsTable-row : {A E : Type 0} (r : Result A E) (old now : TableValue) (root : ℕ) (key : RowKey) (row : RowValue) → IsTable old → row_given_fault (rows_in old root) key ≡ None
+pub IsTable-row : {A E : Type 0} (r : Result A E) (old now : TableValue) (root : ℕ) (key : RowKey) (row : RowValue) → IsTable old → OnOk r (row_given_fault (rows_in old root) key ≡ None)
     → OnOk r (now ≡ put nat_cmp root (with_row (rows_in old root) key row) old) → OnErr r (now ≡ old) → IsTable now
 IsTable-row (Ok x) old now root key row is given ok err =
     subst IsTable (sym ok) (IsTable-put old root (with_row (rows_in old root) key row) (is_opening-with_row (rows_in old root) key row given (is_rooted-rows_in old root is.opening)) is)

@@ -1,4 +1,4 @@
--- What a transaction does to the rows of its root key, and what it is answered.
+-- What a transaction does to the rows of its root key, and its reply.
 use Rattle.std.specs.Prelude.{ℕ, ℤ, Bool, ◌+◌, ◌^◌, ◌+ℤ◌, ◌==◌, ◌&&◌, not, nat_lt, if◌then◌else◌, List, [], ◌∷◌, length, fold, filter, Option, Some, None, Result, Ok, Err, is_some, pos, negsuc}
 use Rattle.std.specs.Ordering.{eq_by_cmp, int_cmp, is_lt}
 use Rattle.sq_rows.specs.declared.row.RowKey.{RowKey}
@@ -24,12 +24,12 @@ is_i64 (negsuc n) = nat_lt n (2 ^ 63)
 abbrev pub OpOutcome : Type 0
 OpOutcome = Result (RowList × OpAnswer) Cause
 
--- there is a row of another table than the root table only under its root row
+-- a row of a table other than the root table needs a root row
 abbrev pub put_outcome : RowList → RowKey → RowValue → OpOutcome
 put_outcome rows key row =
     if not (key.table == 0) && not (is_some (row_at rows root_key)) then Err NoRoot else Ok (with_row rows key row, Done)
 
--- the number of an existing row grows by this, where the sum is an `i64`
+-- the number of an existing row grows by this, if the sum is an `i64`
 abbrev pub add_outcome : RowList → RowKey → ℤ → Option RowValue → OpOutcome
 add_outcome rows key by None = Err Absent
 add_outcome rows key by (Some row) =
@@ -37,13 +37,13 @@ add_outcome rows key by (Some row) =
     then Ok (with_row rows key (record { number = row.number +ℤ by; note = row.note }), Number (row.number +ℤ by))
     else Err Range
 
--- an existing row is deleted, the root row only where it is alone
+-- an existing row is deleted, the root row only if it is alone
 abbrev pub del_outcome : RowList → RowKey → Option RowValue → OpOutcome
 del_outcome rows key None = Err Absent
 del_outcome rows key (Some row) =
     if eq_by_cmp key_cmp key root_key && not (length rows == 1) then Err Children else Ok (without_row rows key, Done)
 
--- there is a row, and its number isn't below this
+-- there is a row, and its number is at least this
 abbrev pub check_outcome : RowList → ℤ → Option RowValue → OpOutcome
 check_outcome rows least None = Err Absent
 check_outcome rows least (Some row) = if is_lt (int_cmp row.number least) then Err Small else Ok (rows, Done)
@@ -56,7 +56,8 @@ op_outcome rows (Add key by) = add_outcome rows key by (row_at rows key)
 op_outcome rows (Del key) = del_outcome rows key (row_at rows key)
 op_outcome rows (Check key least) = check_outcome rows least (row_at rows key)
 
--- the outcome of operations: the rows after them and their answers, or the position and the cause of the first abort
+-- the outcome of operations: the rows after them and their answers, or the position and the cause
+-- of the first abort
 abbrev pub OpsOutcome : Type 0
 OpsOutcome = Result (RowList × List OpAnswer) (ℕ × Cause)
 
@@ -75,7 +76,7 @@ abbrev pub ops_outcome : ℕ → List Op → RowList → OpsOutcome
 ops_outcome at [] rows = Ok (rows, [])
 ops_outcome at (op ∷ ops) rows = then_rest at (ops_outcome (at + 1) ops) (op_outcome rows op)
 
--- the rows after the operations, which are those before them where one aborts
+-- the rows after the operations; the rows before them if one aborts
 abbrev pub rows_after : RowList → OpsOutcome → RowList
 rows_after rows (Ok told) = told.0
 rows_after rows (Err abort) = rows
@@ -85,11 +86,11 @@ abbrev pub reply_of : OpsOutcome → Reply
 reply_of (Ok told) = Committed told.1
 reply_of (Err abort) = Aborted abort.0 abort.1
 
--- the rows of its root key after the transaction, which are those before it where it aborts
+-- the rows of its root key after the transaction; the rows before it if it aborts
 abbrev pub effect : RowList → TxnValue → RowList
 effect rows txn = rows_after rows (ops_outcome 0 txn.ops rows)
 
--- what the transaction is answered on these rows
+-- the reply to the transaction on these rows
 abbrev pub reply : RowList → TxnValue → Reply
 reply rows txn = reply_of (ops_outcome 0 txn.ops rows)
 
@@ -97,11 +98,11 @@ reply rows txn = reply_of (ops_outcome 0 txn.ops rows)
 abbrev pub replay_rows : RowList → List TxnValue → RowList
 replay_rows rows txns = fold effect rows txns
 
--- a table that isn't partitioned: the rows of each root key
+-- a table without partitions: the rows of each root key
 abbrev pub RowTable : Type 0
 RowTable = ℕ → RowList
 
--- the table after a transaction, which changes the rows of its root key alone
+-- the table after a transaction, which changes only the rows of its root key
 abbrev pub table_after : RowTable → TxnValue → RowTable
 table_after table txn root = if txn.root == root then effect (table root) txn else table root
 

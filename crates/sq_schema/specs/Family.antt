@@ -1,4 +1,5 @@
--- A family: the rows of one root key, with the rows that its log starts from and the transactions that committed since.
+-- A family: the rows of one root key, with the rows that its log starts from and the transactions
+-- that committed since.
 use Rattle.std.specs.Prelude.{ℕ, Bool, ◌==◌, ◌||◌, not, List, [], ◌∷◌, ◌++◌, length}
 use Rattle.sq_schema.specs.declared.txn.Reply.{Reply}
 use Rattle.sq_schema.specs.declared.txn.Reply.TheVariants.{Committed, Aborted}
@@ -17,11 +18,11 @@ pub record FamilyValue : Type 0 where
 abbrev pub rows_of : FamilyValue → RowList
 rows_of family = replay_rows family.base family.log
 
--- a family stands that has rows to start from, or a log
+-- a family is kept that has rows to start from, or a log
 abbrev pub family_stands : FamilyValue → Bool
 family_stands family = not (length family.base == 0) || not (length family.log == 0)
 
--- a family whose log is folded: it starts anew from its rows
+-- a family whose log is folded: it restarts from its rows
 abbrev pub folded : FamilyValue → FamilyValue
 folded family = record { root = family.root; base = rows_of family; log = [] }
 
@@ -29,7 +30,7 @@ folded family = record { root = family.root; base = rows_of family; log = [] }
 abbrev pub logged : FamilyValue → TxnValue → FamilyValue
 logged family txn = record family { log = family.log ++ txn ∷ [] }
 
--- a family after a transaction that was answered so: a commit goes to the end of the log, and an abort doesn't
+-- a family after a transaction with this reply: a commit is appended to the log, an abort isn't
 abbrev pub answered : FamilyValue → TxnValue → Reply → FamilyValue
 answered family txn (Committed answers) = logged family txn
 answered family txn (Aborted at cause) = family

@@ -1,4 +1,4 @@
--- The operations of a transaction, however they lie in memory.
+-- The operations of a transaction, however they are stored.
 use Rattle.std.specs.Prelude.{List, [], ◌∷◌}
 use Rattle.std.specs.Arc.{arc_slice_items}
 use Rattle.sq_schema.specs.declared.txn.Op.{Op}

@@ -1,4 +1,4 @@
--- Writes of rows that wait to be made.
+-- Writes of rows that are still to be performed.
 use Rattle.std.specs.Prelude.{◌≡◌, ℕ, List, length}
 use Rattle.std.specs.List.{AllPass}
 use Rattle.sq_rows.specs.RowList.{RowList}

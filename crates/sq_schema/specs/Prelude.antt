@@ -1,4 +1,5 @@
--- The words of this crate that contracts of other crates cite, passed on from one place. Declares nothing.
+-- The words of this crate that contracts of other crates cite, passed on from one place. Declares
+-- nothing.
 pub use Rattle.sq_schema.specs.TxnValue.{TxnValue}
 pub use Rattle.sq_schema.specs.Effect.{reply}
 pub use Rattle.sq_schema.specs.Family.{FamilyValue, rows_of, folded}

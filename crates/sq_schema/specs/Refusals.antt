@@ -11,7 +11,8 @@ use Rattle.sq_schema.specs.declared.txn.Op.TheVariants.{Get, Put, Add, Del, Chec
 use Rattle.sq_schema.specs.declared.fault.TxnFault.{TxnFault}
 use Rattle.sq_schema.specs.declared.fault.TxnFault.TheVariants.{BadOps, BadRoot, BadTable, BadSub, BadNote}
 
--- a key of a schema with this many tables: the table is one of them, and the root table has the sub key 0 only
+-- a key of a schema with this many tables: the table is one of them, and the root table has only
+-- the sub key 0
 abbrev pub key_fault : ℕ → RowKey → Option TxnFault
 key_fault tables key =
     if not (nat_lt key.table tables)
@@ -39,7 +40,8 @@ abbrev pub ops_fault : ℕ → List Op → Option TxnFault
 ops_fault tables [] = None
 ops_fault tables (op ∷ ops) = option_or (op_fault tables op) (ops_fault tables ops)
 
--- the first fault of a transaction: of its count of operations, its root key, and then operation by operation
+-- the first fault of a transaction: of its count of operations, its root key, and then operation by
+-- operation
 abbrev pub txn_fault : ℕ → ℕ → List Op → Option TxnFault
 txn_fault tables root ops =
     if length ops == 0 || nat_lt MAX_OPS (length ops)

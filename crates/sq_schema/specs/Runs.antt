@@ -12,13 +12,14 @@ use Rattle.sq_rows.specs.Sizes.{rows_size}
 use Rattle.sq_rows.specs.Writes.{is_write, with_writes}
 use Rattle.sq_rows.specs.ShortList.{short_items}
 
--- an operation with this outcome ends so: with its answer and these rows after it, for its cause, or because memory ran out
+-- an operation with this outcome returns its answer and leaves these rows, or stops for its cause
+-- or because memory ran out
 abbrev pub ComesTo : OpOutcome → RowList → Result OpAnswer Stop → Type 0
 ComesTo outcome rows (Ok answer) = outcome ≡ Ok (rows, answer)
 ComesTo outcome rows (Err (Abort cause)) = outcome ≡ Err cause
 ComesTo outcome rows (Err Memory) = ⊤
 
--- operations on these rows end so
+-- operations on these rows have this outcome
 pub record EndsBy (rows : RowList) (ops : List Op) (outcome : RunOutcome) : Type 0 where
   pub reply : outcome.reply ≡ reply_of (ops_outcome 0 ops rows)
   pub after : with_writes rows (short_items outcome.writes) ≡ rows_after rows (ops_outcome 0 ops rows)

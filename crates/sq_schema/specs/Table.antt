@@ -15,11 +15,11 @@ use Rattle.sq_rows.specs.Rows.{is_rooted}
 abbrev pub TableValue : Type 0
 TableValue = List (ℕ × RowList)
 
--- the rows of each root key, which are none where it has none
+-- the rows of each root key; none if it isn't in the table
 abbrev pub rows_in : TableValue → RowTable
 rows_in table root = unwrap_or (find nat_cmp root table) []
 
--- some rows; there are some of other tables only under the root row
+-- some rows, with rows of other tables only under the root row
 abbrev pub is_opening : RowList → Bool
 is_opening rows = not (length rows == 0) && is_rooted rows
 
@@ -28,14 +28,15 @@ pub record IsTable (table : TableValue) : Type 0 where
   pub opening : AllPass (λ entry. is_opening entry.1) table
   pub rising : is_sorted nat_cmp table ≡ true
 
--- why an opening row is refused: its key was given, or it isn't of the root table and the root row wasn't given
+-- why an opening row is refused: its key was given already, or it isn't of the root table and the
+-- root row wasn't given
 abbrev pub row_given_fault : RowList → RowKey → Option RowFault
 row_given_fault rows key =
     if is_some (row_at rows key)
     then Some RowRepeated
     else (if not (key.table == 0) && not (is_some (row_at rows root_key)) then Some NoRootRow else None)
 
--- a refusal is that one; where there is none, memory ran out
+-- a refusal is this one; if there is none, memory ran out
 abbrev pub RefusesBy : Option RowFault → RowFault → Type 0
 RefusesBy fault RowRepeated = fault ≡ Some RowRepeated
 RefusesBy fault NoRootRow = fault ≡ Some NoRootRow

@@ -1,4 +1,4 @@
--- A transaction without where it lies in memory.
+-- A transaction, apart from where it is stored.
 use Rattle.std.specs.Prelude.{ℕ, List}
 use Rattle.sq_schema.specs.declared.txn.Op.{Op}
 

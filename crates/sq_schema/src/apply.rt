@@ -1,4 +1,4 @@
-// Transactions on the rows of one root key.
+// Runs transactions on the rows of one root key.
 ghost use Rattle.std.specs.Prelude.{◌≡◌, OnOk, OnErr, IfOk};
 ghost use Rattle.sq_schema.specs.Effect.{effect, reply};
 
@@ -8,7 +8,8 @@ use sq_rows::Rows;
 use std::alloc::{AllocError, Global};
 
 impl Txn {
-    /// Runs on the rows of its root key, and answers. Where it aborts, and where there is no memory, they stay.
+    /// Runs the transaction on the `rows` of its root key and returns its reply. If it aborts, or
+    /// memory runs out, `rows` stay as they were.
     pub fn apply_to(&self, alloc: Global, rows: &mut Rows) -> Result<Reply, AllocError>
         ensures reply { IfOk result (λ r. r ≡ reply rows.old self.now) }
         ensures rows { OnOk result (rows.new ≡ effect rows.old self.now) }
@@ -25,7 +26,7 @@ impl Txn {
         Ok(reply)
     }
 
-    // Runs on the rows of its root key. Where there is no memory they stay.
+    // Runs the transaction on `rows`, which stay as they were if memory runs out.
     pub(crate) fn run_on(&self, alloc: Global, rows: &mut Rows) -> Result<(), AllocError>
         ensures ok { OnOk result (rows.new ≡ effect rows.old self.now) }
         ensures err { OnErr result (rows.new ≡ rows.old) }

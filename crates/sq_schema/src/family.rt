@@ -1,5 +1,5 @@
-// Families: the rows of a root key, with what led to them.
-ghost use Rattle.std.specs.Prelude.{◌≡◌, ◌≤◌, ◌↔◌, true, [], length, IfOk, IfErr, OnErr, IsErrOf, IsTrue};
+// Families: the rows of a root key, with the transactions that led to them.
+ghost use Rattle.std.specs.Prelude.{◌≡◌, ◌<◌, ◌≤◌, ◌↔◌, true, [], ◌∷◌, length, IfOk, IfErr, OnErr, IsErrOf, IsTrue};
 ghost use Rattle.std.specs.List.{All};
 ghost use Rattle.sq_schema.specs.Effect.{reply};
 ghost use Rattle.sq_rows.specs.Sizes.{rows_size};
@@ -8,19 +8,19 @@ ghost use Rattle.sq_rows.specs.Rows.{is_rooted};
 
 use crate::fault::ApplyFault;
 use crate::logged_rows::LoggedRows;
-use crate::pending::{RunOutcome, run};
+use crate::pending::{RunOutcome, Stop, run};
 use crate::root::Root;
-use crate::txn::{Reply, Txn};
-use sq_rows::Rows;
+use crate::txn::{Op, OpAnswers, Reply, Txn};
+use sq_rows::{Rows, ShortList};
 use std::alloc::Global;
 use std::marker::Model;
 
 /// The most transactions that a log holds.
 pub const MAX_LOG: usize = 4096;
 
-/// A family: a root key with its rows, the rows that its log starts from, and its log. The rows are the replay of the
-/// log on those. The log and the rows lie side by side, since each transaction touches both. To a contract it is a
-/// `FamilyValue`.
+/// A family: a root key with its rows, the base rows that its log starts from, and its log. The
+/// rows are the replay of the log on the base rows. The log and the rows are stored side by side,
+/// since each transaction touches both. To a contract it is a `FamilyValue`.
 #[derive(Debug, Drop)]
 pub struct Family {
     root: Root,
@@ -41,7 +41,7 @@ impl Model for Family {
 }
 
 impl Family {
-    /// A family of this root key without rows.
+    /// Creates a family of `root` without rows.
     pub fn empty(alloc: Global, root: Root) -> Family
         ensures { result ≡ record { root = root; base = []; log = [] } }
     {
@@ -52,8 +52,8 @@ impl Family {
         }
     }
 
-    /// A family of this root key that starts from these rows; there are some of other tables only under the root row.
-    /// Where there is no memory for it they come back.
+    /// Creates a family of `root` that starts from `rows`, which have rows of other tables only
+    /// under the root row. If memory runs out, `rows` are returned.
     pub fn opened(alloc: Global, root: Root, rows: Rows) -> Result<Family, Rows>
         requires { IsTrue (is_rooted rows) }
         ensures ok { IfOk result (λ family. family
@@ -67,8 +67,9 @@ impl Family {
         })
     }
 
-    /// Runs a transaction of this root key on the rows. Where it commits, it goes to the end of the log; where it
-    /// aborts, and on an error, the family stays as it was. A full log refuses before any operation is looked at.
+    /// Runs `txn`, a transaction of this root key, on the rows and returns its reply. If it
+    /// commits, it is appended to the log; if it aborts or fails, the family stays as it was. A
+    /// full log refuses it before any operation is looked at.
     pub fn apply(&mut self, txn: &Txn) -> Result<Reply, ApplyFault>
         requires { txn.now.root ≡ self.old.root }
         ensures full { IsErrOf result ApplyFault.LogFull ↔ (MAX_LOG ≤ length self.old.log) }
@@ -78,6 +79,9 @@ impl Family {
     {
         if self.log.len() >= MAX_LOG {
             return Err(ApplyFault::LogFull);
+        }
+        if let [op] = txn.ops() {
+            return self.apply_one(txn, op);
         }
         let alloc = *self.log.allocator();
         let RunOutcome {
@@ -94,8 +98,31 @@ impl Family {
         Ok(reply)
     }
 
-    /// Folds the log: the family starts anew from its rows. It takes no memory, since rows that are those that the log
-    /// starts from are kept once.
+    // Runs `txn`, whose only operation is `op`.
+    fn apply_one(&mut self, txn: &Txn, op: &Op) -> Result<Reply, ApplyFault>
+        requires root { txn.now.root ≡ self.old.root }
+        requires short { length self.old.log < MAX_LOG }
+        requires one { txn.now.ops ≡ op.now ∷ [] }
+        ensures full { IsErrOf result ApplyFault.LogFull ↔ (MAX_LOG ≤ length self.old.log) }
+        ensures reply { IfOk result (λ r. r ≡ reply (rows_of self.old) txn.now) }
+        ensures family { IfOk result (λ r. self.new ≡ answered self.old txn.now r) }
+        ensures err { OnErr result (self.new ≡ self.old) }
+    {
+        let alloc = *self.log.allocator();
+        let copy = txn.clone()?;
+        self.log.reserve(1)?;
+        match self.rows.run_one(alloc, op) {
+            Ok(answer) => {
+                self.log.push_reserved(copy);
+                Ok(Reply::Committed(OpAnswers::of(ShortList::One(answer))))
+            }
+            Err(Stop::Abort(cause)) => Ok(Reply::Aborted { at: 0, cause }),
+            Err(Stop::Memory) => Err(ApplyFault::Memory),
+        }
+    }
+
+    /// Folds the log: the family restarts from its rows, with an empty log. It takes no memory,
+    /// since rows that equal the base rows are stored once.
     pub fn fold(&mut self)
         ensures { self.new ≡ folded self.old }
     {
@@ -109,7 +136,7 @@ impl Family {
         self.root
     }
 
-    /// The rows; there are some of other tables only under the root row.
+    /// Returns the rows, which have rows of other tables only under the root row.
     pub fn rows(&self) -> &Rows
         ensures rows { result.now ≡ rows_of self.now }
         ensures rooted { IsTrue (is_rooted result.now) }
@@ -117,7 +144,7 @@ impl Family {
         self.rows.rows()
     }
 
-    /// The rows that the log starts from.
+    /// Returns the base rows, which the log starts from.
     pub fn base(&self) -> &Rows
         ensures rows { result.now ≡ self.now.base }
         ensures rooted { IsTrue (is_rooted result.now) }
@@ -125,7 +152,7 @@ impl Family {
         self.rows.base()
     }
 
-    /// The transactions that committed, in their order: at most [`MAX_LOG`].
+    /// Returns the committed transactions in their order, at most [`MAX_LOG`].
     pub fn log(&self) -> &[Txn]
         ensures log { result.now ≡ self.now.log }
         ensures short { length result.now ≤ MAX_LOG }
@@ -134,14 +161,14 @@ impl Family {
         &self.log
     }
 
-    /// The size in bytes: 32, and 24 and the length of the note for each row.
+    /// Returns the size in bytes: 32, plus 24 and the length of its note for each row.
     pub fn size(&self) -> u64
         ensures { result ≡ rows_size (rows_of self.now) }
     {
         self.rows().size()
     }
 
-    /// Whether it has rows to start from, or a log.
+    /// Returns true if the family has base rows or a log.
     pub fn stands(&self) -> bool
         ensures { result ≡ family_stands self.now }
     {

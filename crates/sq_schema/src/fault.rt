@@ -1,5 +1,5 @@
-// Why something was refused, in the order in which the causes are looked at. The number of a variant is what a user
-// sees of it; the table of `sq_explain` says what it means.
+// Why something was refused, in the order in which the causes are tested. A variant's number is
+// what a user sees; the table of `sq_explain` says what it means.
 ghost use Rattle.std.specs.Prelude.{◌≡◌};
 ghost use Rattle.sq_schema.specs.Fault.{txn_fault_number, apply_fault_number, row_fault_number};
 
@@ -7,7 +7,7 @@ use sq_explain::meaning;
 use std::alloc::AllocError;
 use thiserror::Error;
 
-/// The number of each fault that says that memory ran out.
+/// The number of every fault that reports that memory ran out.
 pub const OUT_OF_MEMORY: u16 = 222;
 
 /// Why a transaction was refused before it ran, or a row isn't of the schema.
@@ -22,7 +22,7 @@ pub enum TxnFault {
 }
 
 impl TxnFault {
-    /// The number that a user sees.
+    /// Returns the number that a user sees.
     pub fn number(self) -> u16
         ensures { result ≡ txn_fault_number self }
     {
@@ -39,7 +39,7 @@ pub enum ApplyFault {
 }
 
 impl ApplyFault {
-    /// The number that a user sees.
+    /// Returns the number that a user sees.
     pub fn number(self) -> u16
         ensures { result ≡ apply_fault_number self }
     {
@@ -57,7 +57,7 @@ impl From<AllocError> for ApplyFault {
     }
 }
 
-/// Why an opening row wasn't taken.
+/// Why an opening row was refused.
 #[derive(Clone, Copy, Debug, PartialEq, Eq, Error)]
 #[error("{}", meaning(self.number()))]
 pub enum RowFault {
@@ -67,7 +67,7 @@ pub enum RowFault {
 }
 
 impl RowFault {
-    /// The number that a user sees.
+    /// Returns the number that a user sees.
     pub fn number(self) -> u16
         ensures { result ≡ row_fault_number self }
     {

@@ -1,4 +1,5 @@
-//! What follows from the definitions. The functions do nothing: each states a law, which the checker proves.
+//! Consequences of the definitions. The functions do nothing: each states a law, which the checker
+//! proves.
 ghost use Rattle.std.specs.Prelude.{◌≡◌, ◌↔◌, ℕ, List, IsTrue, [], ◌∷◌, ◌++◌, pos, Some, None};
 ghost use Rattle.sq_schema.specs.declared.txn.OpAnswer.TheVariants.{Found, Number, Done};
 ghost use Rattle.sq_schema.specs.declared.txn.Cause.TheVariants.{Absent, Small, Range, NoRoot, Children};
@@ -17,13 +18,13 @@ ghost use Rattle.sq_rows.specs.RowList.{RowList, root_key};
 ghost use Rattle.sq_schema.specs.Effect.{RowTable, reply, effect, replay, replay_rows, only};
 ghost use Rattle.sq_schema.specs.Examples.{ten, plain, hi, key, adds_largest, deletes_parent, puts_child, checks, deletes_absent, puts_and_adds, adds_one, gets_and_deletes, gets};
 
-/// The limits of rows and transactions, in digits.
+/// States the limits of rows and transactions as numbers.
 pub fn the_limits()
     ensures rows { (MAX_TABLES ≡ 8) × (MAX_NOTE ≡ 255) × (ROOT_END ≡ 4294967296) }
     ensures transactions { (MAX_OPS ≡ 64) × (MAX_LOG ≡ 4096) }
 {}
 
-/// Replies of transactions on a root row of 10 and on no rows, each worked out by hand.
+/// States replies of transactions on a root row of 10 and on no rows, each worked out by hand.
 pub fn worked_replies()
     ensures range { reply ten adds_largest ≡ Aborted 0 Range }
     ensures children { reply ten deletes_parent ≡ Aborted 1 Children }
@@ -40,13 +41,14 @@ pub fn worked_replies()
     ensures none { reply [] gets ≡ Committed (Found None ∷ []) }
 {}
 
-/// What a table has of one root key after transactions is the replay of that root key's own on its rows.
+/// The rows of a root key after transactions on a table are the replay of that key's own
+/// transactions on its rows.
 pub fn replays_by_root()
     ensures { (table : RowTable) (txns : List TxnValue) (root : ℕ)
         → replay table txns root ≡ replay_rows (table root) (only root txns) }
 {}
 
-/// Rows, transactions and replies are equal exactly if they are one value.
+/// Rows, transactions and replies compare as equal exactly if they are one value.
 pub fn equal_values_are_one()
     ensures rows { (rows others : RowList) → IsTrue (rows_eq rows others) ↔ (rows ≡ others) }
     ensures txns { (txn other : TxnValue) → IsTrue (txn_eq txn other) ↔ (txn ≡ other) }

@@ -10,8 +10,8 @@ use std::fmt::{self, Debug, Formatter, Write};
 use std::slice;
 use std::sync::ArcSlice;
 
-/// Operations; one alone takes no memory of its own: most transactions have one, and logs hold many. Copies of shared
-/// ones are the same in memory.
+/// Operations. One alone takes no memory of its own: most transactions have one, and logs hold
+/// many. Clones of a shared list use the same memory.
 #[derive(Clone, Drop)]
 pub(crate) enum OpList {
     One(Op),
@@ -20,7 +20,7 @@ pub(crate) enum OpList {
 }
 
 impl OpList {
-    /// These operations.
+    /// Makes a list of `ops`.
     pub(crate) fn of(ops: ShortList<Op>) -> OpList
         ensures { ops_of result ≡ short_items ops }
     {
@@ -30,7 +30,7 @@ impl OpList {
         }
     }
 
-    /// The same, which copies share if they are several.
+    /// Returns the same operations; if there are several, their clones share memory.
     pub(crate) fn share(self) -> Result<OpList, AllocError>
         ensures { IfOk result (λ ops. ops_of ops ≡ ops_of self) }
     {
@@ -40,7 +40,7 @@ impl OpList {
         }
     }
 
-    /// The operations in their order.
+    /// Returns the operations in their order.
     pub(crate) fn as_slice(&self) -> &[Op]
         ensures { result.now ≡ ops_of self.now }
     {

@@ -1,4 +1,4 @@
-// Operations on the rows of a root key, which make no write before all of them have run.
+// Runs operations on the rows of a root key, without a write before all of them have run.
 ghost use Rattle.std.specs.Prelude.{◌≡◌, ◌≤◌, ◌++◌, ◌∷◌, [], None, length, IfOk, IfSome, OnOk};
 ghost use Rattle.std.specs.Option.{option_copied};
 ghost use Rattle.sq_rows.specs.declared.row.TheConstants.{MAX_NOTE};
@@ -13,8 +13,8 @@ use sq_rows::{Row, RowKey, RowWrite, Rows, ShortList};
 use std::alloc::{AllocError, Global};
 use std::marker::Model;
 
-/// Rows with pending writes: all operations of a transaction run before the first write is made. To a contract it is
-/// a `PendingValue`.
+/// Rows with pending writes: all operations of a transaction run before the first write is
+/// performed. To a contract it is a `PendingValue`.
 #[derive(Drop)]
 pub(crate) struct PendingRows<'a> {
     alloc: Global,
@@ -50,9 +50,9 @@ pub(crate) enum Stop {
 /// The outcome of running operations.
 #[derive(Drop)]
 pub(crate) struct RunOutcome {
-    /// What their transaction is answered.
+    /// The reply to their transaction.
     pub(crate) reply: Reply,
-    /// What is still to be written: nothing where one of them aborts.
+    /// The writes still to be performed; empty if an operation aborted.
     pub(crate) writes: ShortList<RowWrite>,
     /// The size in bytes of a family with the rows after these writes.
     pub(crate) size: u64,
@@ -88,7 +88,7 @@ impl<'a> PendingRows<'a> {
     ghost use Rattle.sq_schema.specs.Pending.{pending_rows};
     ghost use Rattle.sq_schema.specs.Runs.{ComesTo};
 
-    // These rows without writes; there will be this many at most.
+    // Creates the pending rows of `rows`, without writes; at most `most` writes follow.
     fn new(alloc: Global, rows: &'a Rows, most: usize) -> PendingRows<'a>
         ensures rows { result.base ≡ rows.now }
         ensures writes { result.writes ≡ [] }
@@ -104,7 +104,7 @@ impl<'a> PendingRows<'a> {
         }
     }
 
-    // The row of a key after the writes.
+    // Returns the row of `key` after the pending writes.
     fn get(&self, key: RowKey) -> Option<&Row>
         ensures row { option_copied result ≡ row_at (pending_rows self.now) key }
         ensures short { IfSome result (λ row. length row.now.note ≤ MAX_NOTE) }
@@ -124,7 +124,7 @@ impl<'a> PendingRows<'a> {
         }
     }
 
-    // Adds a write of a key whose row weighs this.
+    // Adds a write of `key`, whose row has the weight `old` so far.
     fn write(&mut self, key: RowKey, old: (usize, u64), row: Option<Row>) -> Result<(), AllocError>
         requires short { IfSome row (λ row. length row.note ≤ MAX_NOTE) }
         requires count { old.0 ≡ count_of_row (row_at (pending_rows self.old) key) }
@@ -141,7 +141,6 @@ impl<'a> PendingRows<'a> {
         Ok(())
     }
 
-    // Runs an operation.
     fn run(&mut self, op: &Op) -> Result<OpAnswer, Stop>
         requires { op_fault MAX_TABLES op.now ≡ None }
         ensures base { self.new.base ≡ self.old.base }
@@ -219,7 +218,7 @@ impl<'a> PendingRows<'a> {
     }
 }
 
-// Runs operations on these rows, up to the first that aborts. The rows stay as they are.
+// Runs `ops` on `rows`, up to the first that aborts. `rows` stay as they are.
 pub(crate) fn run(alloc: Global, rows: &Rows, ops: &[Op]) -> Result<RunOutcome, AllocError>
     requires { ops_fault MAX_TABLES ops.now ≡ None }
     ensures { IfOk result (EndsBy rows.now ops.now) }

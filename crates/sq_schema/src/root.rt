@@ -1,13 +1,13 @@
-// The keys by which tables are cut into partitions.
+// The keys by which tables are partitioned.
 ghost use Rattle.std.specs.Prelude.{◌≡◌, ◌<◌, ◌^◌};
 ghost use Rattle.std.specs.Option.{SomeIff};
 
 use std::marker::Model;
 
-/// Root keys are the whole numbers below this.
+/// The bound of root keys: each is a whole number below it.
 pub const ROOT_END: u64 = 4_294_967_296;
 
-/// A root key. To a contract it is the number.
+/// A root key. To a contract it is its number.
 #[derive(Clone, Copy, Debug, PartialEq, Eq, PartialOrd, Ord)]
 pub struct Root(u32);
 
@@ -22,7 +22,7 @@ impl Model for Root {
 }
 
 impl Root {
-    /// The root key of this number; `None` from [`ROOT_END`] on.
+    /// Returns the root key with the number `key`; `None` if that is [`ROOT_END`] or more.
     pub fn new(key: u64) -> Option<Root>
         ensures { SomeIff result (key < ROOT_END) key }
     {
@@ -32,7 +32,7 @@ impl Root {
         }
     }
 
-    /// The number, below [`ROOT_END`].
+    /// Returns the number, below [`ROOT_END`].
     pub fn number(self) -> u64
         ensures number { result ≡ self }
         ensures bound { result < ROOT_END }

@@ -1,4 +1,4 @@
-// Which tables there are, and which rows they may hold.
+// The tables of a database, and the rows that they may hold.
 ghost use Rattle.std.specs.Prelude.{◌≡◌, ◌≤◌, None, OnOk};
 ghost use Rattle.std.specs.Option.{SomeIff};
 ghost use Rattle.std.specs.Result.{result_err};
@@ -11,7 +11,7 @@ use std::marker::Model;
 /// The most tables that a schema has.
 pub const MAX_TABLES: u8 = 8;
 
-/// The tables of a database: 1 to [`MAX_TABLES`] of them, numbered from 0. To a contract it is their count.
+/// The tables of a database: 1 to [`MAX_TABLES`], numbered from 0. To a contract it is their count.
 #[derive(Clone, Copy, Debug, PartialEq, Eq)]
 pub struct Schema {
     tables: u8,
@@ -31,7 +31,7 @@ impl Model for Schema {
 }
 
 impl Schema {
-    /// The schema of this many tables; `None` unless they are 1 to [`MAX_TABLES`].
+    /// Returns the schema of `tables` tables; `None` unless `tables` is from 1 to [`MAX_TABLES`].
     pub fn new(tables: u8) -> Option<Schema>
         ensures { SomeIff result ((1 ≤ tables) × (tables ≤ MAX_TABLES)) tables }
     {
@@ -42,7 +42,7 @@ impl Schema {
         }
     }
 
-    /// How many tables there are, 1 to [`MAX_TABLES`].
+    /// Returns the number of tables, 1 to [`MAX_TABLES`].
     pub fn tables(self) -> u8
         ensures count { result ≡ self }
         ensures some { 1 ≤ result }
@@ -51,19 +51,19 @@ impl Schema {
         self.tables
     }
 
-    /// Refuses a row whose table isn't in the schema, then one of the root table with another sub key than 0, and
-    /// then one whose note has over [`MAX_NOTE`] bytes.
+    /// Refuses, in this order: a row whose table isn't in the schema, a row of the root table whose
+    /// sub key isn't 0, and a row whose note has over [`MAX_NOTE`] bytes.
     pub fn check_row(self, key: RowKey, row: &Row) -> Result<(), TxnFault>
         ensures fault { result_err result ≡ row_fault self key row.now }
 
-        // A row of this schema is one of the widest.
+        // A row that this schema allows is allowed by one of [`MAX_TABLES`] tables.
         ensures widest { OnOk result (row_fault MAX_TABLES key row.now ≡ None) }
     {
         check_row(self.tables, key, row)
     }
 }
 
-// Refuses a key that no schema of this many tables has.
+// Refuses a key that doesn't fit a schema of `tables` tables.
 pub(crate) fn check_key(tables: u8, key: RowKey) -> Result<(), TxnFault>
     ensures { result_err result ≡ key_fault tables key }
 {
@@ -76,7 +76,7 @@ pub(crate) fn check_key(tables: u8, key: RowKey) -> Result<(), TxnFault>
     Ok(())
 }
 
-// Refuses such a key, and then a row with too long a note.
+// Refuses a key that doesn't fit, and then a row whose note is too long.
 pub(crate) fn check_row(tables: u8, key: RowKey, row: &Row) -> Result<(), TxnFault>
     ensures { result_err result ≡ row_fault tables key row.now }
 {

@@ -1,4 +1,4 @@
-// Tables that aren't partitioned.
+// Tables without partitions.
 ghost use Rattle.std.specs.Prelude.{◌≡◌, ◌==◌, nat_le, nat_lt, ℕ, true, [], None, length, filter, MatchResult, IfErr, IfSome, IsSome, OnOk, OnErr};
 ghost use Rattle.std.specs.List.{AllPass};
 ghost use Rattle.std.specs.Option.{option_copied};
@@ -9,19 +9,20 @@ ghost use Rattle.sq_schema.specs.declared.schema.TheConstants.{MAX_TABLES};
 ghost use Rattle.sq_schema.specs.Effect.{replay, table_after};
 ghost use Rattle.sq_schema.specs.Refusals.{row_fault};
 ghost use Rattle.sq_rows.specs.Rows.{is_rooted};
+ghost use Rattle.sq_schema.specs.RootList.{IsNotExtended};
 ghost use Rattle.sq_schema.specs.Table.{IsTable, rows_in, is_opening, row_given_fault, RefusesBy, with_given, with_rows};
 
 use crate::fault::RowFault;
 use crate::root::Root;
-use crate::root_list::RootList;
+use crate::root_list::{NotExtended, RootList};
 use crate::txn::Txn;
 use sq_rows::{EntryIter, Row, RowKey, Rows};
 use std::alloc::{AllocError, AllocFailed, Global};
 use std::collections::BTreeMap;
 use std::marker::Model;
 
-/// The rows of a database by root key, in one table that isn't partitioned. To a contract it is the list of the root
-/// keys that have rows, in rising order, with these.
+/// The rows of a database by root key, in one table without partitions. To a contract it is the
+/// list of the root keys that have rows, in rising order, each with its rows.
 #[derive(Debug, Drop)]
 pub struct Table {
     rows: RootList,
@@ -43,7 +44,7 @@ impl Model for Table {
 }
 
 impl Table {
-    /// No rows.
+    /// Creates an empty table.
     pub fn new(alloc: Global) -> Table
         ensures { result ≡ [] }
     {
@@ -53,7 +54,7 @@ impl Table {
         }
     }
 
-    /// The rows of a root key, where it has some.
+    /// Returns the rows of `root`; `None` if it has no rows.
     pub fn rows(&self, root: Root) -> Option<&Rows>
         ensures rows { option_copied result ≡ find nat_cmp root self.now }
         ensures opening { IfSome result (λ rows. is_opening rows.now ≡ true) }
@@ -61,7 +62,7 @@ impl Table {
         self.rows.get(root)
     }
 
-    /// The root keys that have rows, in rising order, with these.
+    /// Returns an iterator over the root keys that have rows, in rising order, each with its rows.
     pub fn iter(&self) -> EntryIter<'_, Root, Rows>
         ensures all { result ≡ self.now }
         ensures rising { is_sorted nat_cmp self.now ≡ true }
@@ -72,14 +73,16 @@ impl Table {
         self.rows.iter()
     }
 
-    /// The root keys from this one on that have rows, in rising order, with these.
+    /// Returns an iterator over the root keys from `from` on that have rows, in rising order, each
+    /// with its rows.
     pub fn iter_from(&self, from: Root) -> EntryIter<'_, Root, Rows>
         ensures { result ≡ filter (λ entry. nat_le from entry.0) self.now }
     {
         self.rows.iter_from(from)
     }
 
-    /// Takes one opening row, which a schema was asked for. On an error nothing changes, and the row comes back.
+    /// Adds one opening row, which the schema was asked about. If it is refused, nothing changes
+    /// and the row is returned.
     pub fn insert(&mut self, root: Root, key: RowKey, row: Row) -> Result<(), (RowFault, Row)>
         requires { row_fault MAX_TABLES key row ≡ None }
         ensures fault { MatchResult result
@@ -90,19 +93,16 @@ impl Table {
         ensures err { OnErr result (self.new ≡ self.old) }
         ensures row_returned { IfErr result (λ refused. refused.1 ≡ row) }
     {
-        if let Some(fault) = self.fault(root, key) {
-            return Err((fault, row));
+        match self.extend(root, key, row) {
+            Ok(()) => Ok(()),
+            Err(NotExtended::Refused(fault, row)) => Err((fault, row)),
+            Err(NotExtended::NoRows(row)) => self.begin(root, key, row),
         }
-        let taken = if self.rows(root).is_some() {
-            self.extend(root, key, row)
-        } else {
-            self.open(root, key, row)
-        };
-        taken.map_err(|refused| (RowFault::Memory, refused.value))
     }
 
-    /// Why an opening row with this key isn't taken, the first of these: a row with its key was given; it isn't of the
-    /// root table, and the root row wasn't given. `None` where neither holds. It takes no memory.
+    /// Returns why an opening row with `key` would be refused, the first of these: `root` has a row
+    /// with this key; the row isn't of the root table, and `root` has no root row. `None` if
+    /// neither applies. It takes no memory.
     pub fn fault(&self, root: Root, key: RowKey) -> Option<RowFault>
         ensures { result ≡ row_given_fault (rows_in self.now root) key }
     {
@@ -116,7 +116,27 @@ impl Table {
         None
     }
 
-    // Takes a row of a root key that has none.
+    // Adds the first row of a root key, which has to be its root row.
+    fn begin(&mut self, root: Root, key: RowKey, row: Row) -> Result<(), (RowFault, Row)>
+        requires row { row_fault MAX_TABLES key row ≡ None }
+        requires absent { find nat_cmp root self.old ≡ None }
+        ensures fault { MatchResult result (λ _. row_given_fault [] key ≡ None)
+            (λ refused. RefusesBy (row_given_fault [] key) refused.0) }
+        ensures ok { OnOk result ((k : ℕ)
+            → rows_in self.new k ≡ with_given (rows_in self.old) root key row k) }
+        ensures err { OnErr result (self.new ≡ self.old) }
+        ensures row_returned { IfErr result (λ refused. refused.1 ≡ row) }
+    {
+        if key.table != 0 {
+            return Err((RowFault::NoRootRow, row));
+        }
+        match self.open(root, key, row) {
+            Ok(()) => Ok(()),
+            Err(refused) => Err((RowFault::Memory, refused.value)),
+        }
+    }
+
+    // Adds a row of a root key that has none yet.
     fn open(&mut self, root: Root, key: RowKey, row: Row) -> Result<(), AllocFailed<Row>>
         requires row { row_fault MAX_TABLES key row ≡ None }
         requires given { row_given_fault [] key ≡ None }
@@ -136,21 +156,21 @@ impl Table {
         Ok(())
     }
 
-    // Takes a row of a root key that has some.
-    fn extend(&mut self, root: Root, key: RowKey, row: Row) -> Result<(), AllocFailed<Row>>
-        requires row { row_fault MAX_TABLES key row ≡ None }
-        requires given { row_given_fault (rows_in self.old root) key ≡ None }
-        requires present { IsSome (find nat_cmp root self.old) }
+    // Adds a row of a root key that has rows already.
+    fn extend(&mut self, root: Root, key: RowKey, row: Row) -> Result<(), NotExtended>
+        requires { row_fault MAX_TABLES key row ≡ None }
+        ensures given { OnOk result (row_given_fault (rows_in self.old root) key ≡ None) }
         ensures ok { OnOk result ((k : ℕ)
             → rows_in self.new k ≡ with_given (rows_in self.old) root key row k) }
         ensures err { OnErr result (self.new ≡ self.old) }
-        ensures row_returned { IfErr result (λ refused. refused.value ≡ row) }
+        ensures row_returned { IfErr result (IsNotExtended (find nat_cmp root self.old) key row) }
     {
         self.rows.put_row(root, key, row)
     }
 
-    /// Gives a root key these rows, in place of those that it has: some rows, with those of other tables under the root
-    /// row. Where there is no memory nothing changes, and the rows come back.
+    /// Sets the rows of `root`, replacing any that it has. `rows` aren't empty, and have rows of
+    /// other tables only under the root row. If memory runs out, nothing changes and `rows` are
+    /// returned.
     pub fn set(&mut self, root: Root, rows: Rows) -> Result<(), AllocFailed<Rows>>
         requires { is_opening rows ≡ true }
         ensures ok { OnOk result ((k : ℕ)
@@ -162,22 +182,22 @@ impl Table {
         Ok(())
     }
 
-    /// How many root keys have rows.
+    /// Returns the number of root keys that have rows.
     pub fn len(&self) -> usize
         ensures { result ≡ length self.now }
     {
         self.rows.len()
     }
 
-    /// Whether none has.
+    /// Returns true if no root key has rows.
     pub fn is_empty(&self) -> bool
         ensures { result ≡ (length self.now == 0) }
     {
         self.len() == 0
     }
 
-    /// Runs transactions one after another, each on the rows of its root key. Where there is no memory nothing
-    /// changes; all rows are copied first.
+    /// Runs `txns` one after another, each on the rows of its root key. It copies all rows first,
+    /// so that nothing changes if memory runs out.
     pub fn replay(&mut self, txns: &[Txn]) -> Result<(), AllocError>
         ensures ok { OnOk result ((k : ℕ)
             → rows_in self.new k ≡ replay (rows_in self.old) txns.now k) }
@@ -192,7 +212,7 @@ impl Table {
     }
 }
 
-// Runs one transaction. Where there is no memory the rows of its root key are lost.
+// Runs one transaction. If memory runs out, the rows of its root key are lost.
 fn run(alloc: Global, table: &mut BTreeMap<Root, Rows>, txn: &Txn) -> Result<(), AllocError>
     requires { IsTable table.old.entries }
     ensures ok { OnOk result ((k : ℕ)

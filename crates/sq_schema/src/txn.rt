@@ -1,4 +1,4 @@
-// Transactions: what they ask, and what they are answered.
+// Transactions and their replies.
 ghost use Rattle.std.specs.Prelude.{◌≡◌, ◌≤◌, None, length, IfOk, IfErr, OnOk};
 ghost use Rattle.std.specs.Option.{option_map};
 ghost use Rattle.std.specs.Result.{result_err};
@@ -12,29 +12,31 @@ use std::alloc::AllocError;
 use std::fmt::{self, Debug, Formatter, Write};
 use std::marker::Model;
 
-/// The most operations that a transaction has.
+/// The most operations of a transaction.
 pub const MAX_OPS: usize = 64;
 
 /// One operation of a transaction, on a row of its root key.
 #[derive(Clone, Debug, PartialEq, Eq, Drop)]
 pub enum Op {
-    /// Answers the row, or that there is none.
+    /// Returns the row, or that there is none.
     Get(RowKey),
-    /// Puts the row, new or in place of the one that is there. Aborts where a row of another table than the
-    /// root table is put and there is no root row.
+    /// Puts the row, new or in place of the present one. Aborts if the row is of a table other than
+    /// the root table and there is no root row.
     Put(RowKey, Row),
-    /// Adds to the row's number and answers the sum. Aborts where there is no row, or where the sum isn't an `i64`.
+    /// Adds to the row's number and returns the sum. Aborts if there is no row, or if the sum
+    /// exceeds an `i64`.
     Add(RowKey, i64),
-    /// Deletes the row. Aborts where there is none, or where it is the root row and there is another row.
+    /// Deletes the row. Aborts if there is no row, or if it is the root row and there is another
+    /// row.
     Del(RowKey),
-    /// Aborts where there is no row, or where its number is below this.
+    /// Aborts if there is no row, or if its number is below the given one.
     Check(RowKey, i64),
 }
 
 impl Op {
     ghost use Rattle.sq_schema.specs.Refusals.{op_fault};
 
-    // Refuses a key or a row that no schema of this many tables has.
+    // Refuses a key or a row that doesn't fit a schema of `tables` tables.
     fn check(&self, tables: u8) -> Result<(), TxnFault>
         ensures { result_err result ≡ op_fault tables self.now }
     {
@@ -47,14 +49,14 @@ impl Op {
     }
 }
 
-/// What an operation answers.
+/// The answer of an operation.
 #[derive(Clone, Debug, PartialEq, Eq, Drop)]
 pub enum OpAnswer {
-    /// The row that was asked for, or none.
+    /// The row of a `Get`, or that there is none.
     Found(Option<Row>),
-    /// The new number.
+    /// The sum of an `Add`.
     Number(i64),
-    /// Nothing: a put, a deletion or a check.
+    /// The answer of a `Put`, `Del` or `Check`, which return no value.
     Done,
 }
 
@@ -63,13 +65,13 @@ pub enum OpAnswer {
 pub enum Cause {
     /// There is no such row.
     Absent,
-    /// The number is below the least that was asked for.
+    /// The row's number is below the required one.
     Small,
-    /// The sum isn't an `i64`.
+    /// The sum exceeds an `i64`.
     Range,
     /// There is no root row.
     NoRoot,
-    /// There is another row under the root row.
+    /// The root row has other rows under it.
     Children,
 }
 
@@ -148,14 +150,14 @@ impl Clone for OpAnswers {
     }
 }
 
-/// What a transaction is answered.
+/// The reply to a transaction.
 #[derive(Clone, Debug, PartialEq, Eq, Drop)]
 pub enum Reply {
     /// It committed, with these answers.
     Committed(OpAnswers),
     /// It changed nothing.
     Aborted {
-        /// The position of the first operation that aborts, from 0.
+        /// The position of the operation that aborted it, from 0.
         at: usize,
         cause: Cause,
     },
@@ -188,8 +190,9 @@ impl Txn {
     ghost use Rattle.sq_schema.specs.declared.schema.TheConstants.{MAX_TABLES};
     ghost use Rattle.sq_schema.specs.Refusals.{ops_fault, txn_fault};
 
-    /// The transaction of this id on this root key. Refused, with the operations back, for the first of these:
-    /// the count of operations, the root key, and then operation by operation the table, the sub key and the note.
+    /// Creates the transaction `id` on the root key `root`. If it is refused, `ops` are returned
+    /// with the first of these faults: the count of operations, the root key, and then for each
+    /// operation its table, its sub key and its note.
     pub fn new(
         schema: &Schema,
         id: u64,
@@ -211,7 +214,8 @@ impl Txn {
         }
     }
 
-    /// The same of operations that may be kept without a list, if there is one. They are dropped where it is refused.
+    /// Like [`Txn::new`], for operations that need no list if there is only one. If it is refused,
+    /// `ops` are dropped.
     pub fn of(schema: &Schema, id: u64, root: u64, ops: ShortList<Op>) -> Result<Txn, TxnFault>
         ensures fault { result_err result ≡ txn_fault schema.now root (short_items ops) }
         ensures ok { IfOk result (λ txn. txn
@@ -224,7 +228,7 @@ impl Txn {
         })
     }
 
-    // The root key of a transaction, if the schema has it.
+    // Returns the root key, if the schema allows the transaction.
     fn check(schema: &Schema, root: u64, ops: &[Op]) -> Result<Root, TxnFault>
         ensures fault { result_err result ≡ txn_fault schema.now root ops.now }
         ensures ok { IfOk result (λ key. key ≡ root) }
@@ -255,8 +259,8 @@ impl Txn {
         self.root
     }
 
-    /// The same transaction, whose copies share its operations if they are several: so one that goes from hand to hand isn't
-    /// copied operation by operation. Where there is no memory for that it is dropped.
+    /// Returns the same transaction; if it has several operations, its clones share them, so that
+    /// passing it on copies no operation. If memory runs out, it is dropped.
     pub fn share(self) -> Result<Txn, AllocError>
         ensures { IfOk result (λ txn. txn ≡ self) }
     {
@@ -267,7 +271,7 @@ impl Txn {
         })
     }
 
-    /// Its operations: 1 to [`MAX_OPS`].
+    /// Returns the operations, 1 to [`MAX_OPS`].
     pub fn ops(&self) -> &[Op]
         ensures ops { result.now ≡ self.now.ops }
         ensures some { 1 ≤ length result.now }

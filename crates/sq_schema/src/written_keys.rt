@@ -5,31 +5,30 @@ ghost use Rattle.sq_schema.specs.WrittenKeys.{has_its_mark};
 
 use sq_rows::RowKey;
 
-// How many marks there are.
+// The number of marks.
 const MARKS: u32 = 256;
 
-/// Marks of the keys that were written, which say quickly of most others that they weren't. Some keys share a mark.
+/// Marks of the written keys, which rule out most other keys quickly. Some keys share a mark.
 #[derive(Drop)]
 pub(crate) struct WrittenKeys {
     marks: [bool; MARKS as usize],
 }
 
 impl WrittenKeys {
-    /// No key.
     pub(crate) fn new() -> WrittenKeys {
         WrittenKeys {
             marks: [false; MARKS as usize],
         }
     }
 
-    /// Whether the key may have been written.
+    /// Returns false only if `key` wasn't written.
     pub(crate) fn may_have(&self, key: RowKey) -> bool
         ensures { result ≡ has_its_mark self.now.marks key }
     {
         self.marks[place(key)]
     }
 
-    /// The key was written too.
+    /// Marks `key` as written.
     pub(crate) fn add(&mut self, key: RowKey)
         ensures added { has_its_mark self.new.marks key ≡ true }
         ensures kept { (other : RowKey) → has_its_mark self.old.marks other ≡ true
@@ -39,7 +38,7 @@ impl WrittenKeys {
     }
 }
 
-// The place of a key's mark.
+// Returns the place of the mark of `key`.
 fn place(key: RowKey) -> usize
     ensures { result ≡ key.sub % MARKS }
 {

@@ -6,7 +6,7 @@ use Rattle.sq_schema.specs.contracts.txn.OpPartialEq.TheImpl as op
 use Rattle.sq_schema.specs.contracts.txn.OpAnswerPartialEq.TheImpl as answer
 use Rattle.sq_schema.specs.TxnValue.{TxnValue}
 
--- they are answers to as many operations, and equal one by one
+-- the answers are as many, and equal one by one
 abbrev pub answers_eq : List OpAnswer → List OpAnswer → Bool
 answers_eq answers others = pointwise (answer.ghosts).eq answers others
 

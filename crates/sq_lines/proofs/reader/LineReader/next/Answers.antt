@@ -21,11 +21,11 @@ returns-in-Failed g c =
 pub returns-then-self-eq0 : goal.returns-then-self-eq0
 returns-then-self-eq0 g c =
     let s = c.self.inside in
-    let some : 0 < length (slice_range s.buffer.items s.start s.end) = omega (arith, length_range s.buffer.items s.start s.end (omega (arith, c.self.invariant.within, c.self.invariant.room)), c.if-self.false, c.self.invariant.searched_after, c.self.invariant.searched_before) in
+    let some : 0 < length (slice_range s.buffer.items s.start s.end) = omega (arith, length_range s.buffer.items s.start s.end c.self.invariant.within, c.if-self.false, c.self.invariant.searched_after, c.self.invariant.searched_before) in
     (subst (λ v. EndsIn v (TooMany ∷ []) v) c.self.view_is (too_many _ c.if-self-eq0.true some), refl)
 
 pub invariant_of-self : goal.invariant_of-self
-invariant_of-self g c = all_searched _ _ _ _ c.self.inside.searched _ _ _ c.self.invariant (rw (← c.deref.ensures.value) (sym c.place_of.ensures ∙ c.in_default.is))
+invariant_of-self g c = all_searched _ _ _ _ _ c.self.inside.searched _ _ _ c.self.invariant (rw (← c.deref.ensures.value) (sym c.place_of.ensures ∙ c.in_default.is))
 
 pub returns-then-self-most : goal.returns-then-self-most
 returns-then-self-most g c =
@@ -33,7 +33,7 @@ returns-then-self-most g c =
     (subst (λ v. IsLong c.args.most v) c.self.view_is (long_unended _ c.args.most (omega (arith, c.if-self-eq0.false)) held.unended (omega (arith, held.count, c.if-self-most.true))), c.self.view_is)
 
 pub invariant_of-self-in-Open-reading : goal.invariant_of-self-in-Open-reading
-invariant_of-self-in-Open-reading g c = all_searched _ _ _ _ c.self.inside.searched _ _ _ c.self.invariant (rw (← c.deref.ensures.value) (sym c.place_of.ensures ∙ c.in_default.is))
+invariant_of-self-in-Open-reading g c = all_searched _ _ _ _ _ c.self.inside.searched _ _ _ c.self.invariant (rw (← c.deref.ensures.value) (sym c.place_of.ensures ∙ c.in_default.is))
 
 pub returns-in-Open-reading : goal.returns-in-Open-reading
 returns-in-Open-reading g c =
@@ -41,7 +41,7 @@ returns-in-Open-reading g c =
     (subst (λ v. IsUndecided c.args.most v) c.self.view_is (record { unended = held.unended; short = omega (arith, held.count, c.if-self-most.false); goes_on = c.in-Open-reading.is; some_line = inr (omega (arith, c.if-self-eq0.false)) }), c.self.view_is)
 
 pub invariant_of-self-in-Failed-reading : goal.invariant_of-self-in-Failed-reading
-invariant_of-self-in-Failed-reading g c = all_searched _ _ _ _ c.self.inside.searched _ _ _ c.self.invariant (rw (← c.deref.ensures.value) (sym c.place_of.ensures ∙ c.in_default.is))
+invariant_of-self-in-Failed-reading g c = all_searched _ _ _ _ _ c.self.inside.searched _ _ _ c.self.invariant (rw (← c.deref.ensures.value) (sym c.place_of.ensures ∙ c.in_default.is))
 
 pub returns-in-Failed-reading : goal.returns-in-Failed-reading
 returns-in-Failed-reading g c =

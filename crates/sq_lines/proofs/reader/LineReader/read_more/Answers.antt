@@ -1,11 +1,9 @@
-use Rattle.std.proofs.Common.{◌≡◌, ℕ, ◌+◌, ◌-◌, ◌++◌, length, refl, sym, ap, ◌∙◌, subst, arith}
-use Rattle.std.specs.Prelude.{vec_len, slice_range}
-use Rattle.std.specs.Global.{Vec}
+use Rattle.std.proofs.Common.{◌≡◌, ◌+◌, ◌-◌, ◌≤◌, ◌++◌, length, refl, ap, ◌∙◌, subst, arith}
+use Rattle.std.specs.Prelude.{slice_range}
 use Rattle.std.specs.Io.KnownBytes.{Consumes, Keeps}
 use Rattle.sq_lines.specs.declared.reader.ReadState.{ReadState}
 use Rattle.sq_lines.specs.declared.reader.ReadState.TheVariants.{Open, Ended}
 use Rattle.sq_lines.specs.Coming.{LinesValue}
-use Rattle.sq_lines.proofs.Ranges.{length_range}
 use Rattle.sq_lines.proofs.Comings.{read_before, fail_before}
 use Rattle.sq_lines.proofs.Buffers.{read_on, read_behind}
 use Rattle.sq_lines.proofs.reader.LineReader.read_more.Goals as goal
@@ -13,30 +11,25 @@ use Rattle.sq_lines.proofs.reader.LineReader.read_more.Goals as goal
 not_both : {P : Type 0} {r : ReadState} → r ≡ Open → r ≡ Ended → P
 not_both o e = absurd cc
 
--- a buffer is as long as before once bytes were moved and others were read into it
-still_long : (before moved filled : Vec ℕ) → vec_len moved ≡ vec_len before → vec_len filled ≡ vec_len moved → length filled.items ≡ length before.items
-still_long before moved filled moves fills = sym filled.ok.0 ∙ fills ∙ moves ∙ before.ok.0
-
 pub invariant_of-self : goal.invariant_of-self
 invariant_of-self g c =
     let s = c.self.inside in
-    let long = still_long s.buffer c.move_to_front.new.buffer c.read_behind.new.buffer c.move_to_front.ensures.len c.read_behind.ensures.len in
-    read_on s.buffer.items c.move_to_front.new.buffer.items c.read_behind.new.buffer.items _ _ s.start s.searched s.end _ _ _ _ _ c.self.invariant c.move_to_front.ensures.moved c.read_behind.ensures.before long (omega arith) (omega (arith, long, c.self.invariant.room, c.self.invariant.within))
+    let filled : s.end - s.start + 65536 ≤ length c.read_behind.new.buffer.items = omega (arith, c.read_behind.ensures.len, c.read_behind.new.buffer.ok.0) in
+    read_on s.buffer.items c.move_to_front.new.buffer.items c.read_behind.new.buffer.items _ _ _ _ s.start s.searched s.end _ _ _ _ _ c.self.invariant c.move_to_front.ensures.moved c.read_behind.ensures.before (omega arith) (omega arith) (omega (arith, filled))
     (λ e. c.in-Ok-eq0.ensures.ended c.in-Ok-eq0.field-0-test)
 
 pub invariant_of-self-in-Ok : goal.invariant_of-self-in-Ok
 invariant_of-self-in-Ok g c =
     let s = c.self.inside in
-    let long = still_long s.buffer c.move_to_front.new.buffer c.read_behind.new.buffer c.move_to_front.ensures.len c.read_behind.ensures.len in
-    let held : length c.args.self.now.held ≡ s.end - s.start = sym (ap (λ (v : LinesValue). length v.held) c.self.view_is) ∙ length_range s.buffer.items s.start s.end (omega (arith, c.self.invariant.within, c.self.invariant.room)) in
-    read_on s.buffer.items c.move_to_front.new.buffer.items c.read_behind.new.buffer.items _ _ s.start s.searched s.end _ _ _ _ _ c.self.invariant c.move_to_front.ensures.moved c.read_behind.ensures.before long (omega arith) (omega (arith, long, held, c.requires.short, c.in-Ok.ensures.within, c.self.invariant.room))
+    let filled : s.end - s.start + 65536 ≤ length c.read_behind.new.buffer.items = omega (arith, c.read_behind.ensures.len, c.read_behind.new.buffer.ok.0) in
+    read_on s.buffer.items c.move_to_front.new.buffer.items c.read_behind.new.buffer.items _ _ _ _ s.start s.searched s.end _ _ _ _ _ c.self.invariant c.move_to_front.ensures.moved c.read_behind.ensures.before (omega arith) (omega arith) (omega (arith, filled, c.in-Ok.ensures.within))
     (λ e. not_both (ap (λ (v : LinesValue). v.reading) c.self.view_is ∙ c.requires.goes_on) e)
 
 pub invariant_of-self-in-Err : goal.invariant_of-self-in-Err
 invariant_of-self-in-Err g c =
     let s = c.self.inside in
-    let long = still_long s.buffer c.move_to_front.new.buffer c.read_behind.new.buffer c.move_to_front.ensures.len c.read_behind.ensures.len in
-    read_on s.buffer.items c.move_to_front.new.buffer.items c.read_behind.new.buffer.items _ _ s.start s.searched s.end _ _ _ _ _ c.self.invariant c.move_to_front.ensures.moved c.read_behind.ensures.before long (omega arith) (omega (arith, long, c.self.invariant.room, c.self.invariant.within))
+    let filled : s.end - s.start + 65536 ≤ length c.read_behind.new.buffer.items = omega (arith, c.read_behind.ensures.len, c.read_behind.new.buffer.ok.0) in
+    read_on s.buffer.items c.move_to_front.new.buffer.items c.read_behind.new.buffer.items _ _ _ _ s.start s.searched s.end _ _ _ _ _ c.self.invariant c.move_to_front.ensures.moved c.read_behind.ensures.before (omega arith) (omega arith) (omega (arith, filled))
     (λ e. absurd cc)
 
 pub returns-in-Ok-clause-comes : goal.returns-in-Ok-clause-comes

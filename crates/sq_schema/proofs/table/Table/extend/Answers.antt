@@ -1,17 +1,16 @@
-use Rattle.std.proofs.Common.{◌≡◌, ℕ, None, refl, sym, ap, ◌∙◌, subst}
+use Rattle.std.proofs.Common.{◌≡◌, ℕ, refl, ap, ◌∙◌, subst}
 use Rattle.std.specs.Ordering.{nat_cmp}
 use Rattle.std.specs.FinMap.Entries.{put}
 use Rattle.sq_rows.specs.RowList.{with_row}
 use Rattle.sq_schema.specs.RootList.{table_of}
-use Rattle.sq_schema.specs.Table.{TableValue, rows_in, row_given_fault, with_given}
+use Rattle.sq_schema.specs.Table.{TableValue, rows_in, with_given}
 use Rattle.sq_schema.proofs.Tables.{IsTable-row, rows_in-put, rows_in-given, OnOk-map}
 use Rattle.sq_schema.proofs.table.Table.extend.Goals as goal
 
 pub invariant_of-self : goal.invariant_of-self
 invariant_of-self c =
     let old = table_of c.self.inside.rows in
-    let given = subst (λ (table : TableValue). row_given_fault (rows_in table c.args.root) c.args.key ≡ None) (sym c.self.view_is) c.requires.given in
-    IsTable-row c.put_row.result old (table_of c.put_row.new.self) c.args.root c.args.key c.args.row c.self.invariant given c.put_row.ensures.ok c.put_row.ensures.err
+    IsTable-row c.put_row.result old (table_of c.put_row.new.self) c.args.root c.args.key c.args.row c.self.invariant c.put_row.ensures.given c.put_row.ensures.ok c.put_row.ensures.err
 
 pub returns-clause-ok : goal.returns-clause-ok
 returns-clause-ok c =
