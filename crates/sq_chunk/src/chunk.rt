@@ -8,29 +8,29 @@ use sq_schema::Family;
 use sq_tree::NodeId;
 use std::marker::Model;
 
-/// What a chunk covers: the root keys from `lo` up to `hi` of a node, on its way from `src` to `dst`.
+/// What a chunk covers: the root keys of a node from `lo` up to, not including, `hi`, moving from
+/// `src` to `dst`.
 #[derive(Clone, Copy, Debug, PartialEq, Eq)]
 pub struct Note {
-    /// The partition that cut it.
+    /// The partition that cut the chunk.
     pub src: PartId,
-    /// The partition that loads it.
+    /// The partition that loads the chunk.
     pub dst: PartId,
-    /// Its number among the chunks from `src` to `dst`, from 0.
+    /// The chunk's number among those from `src` to `dst`, from 0.
     pub number: u64,
-    /// The segment.
     pub seg: SegId,
     /// The node of the segment's split tree.
     pub node: NodeId,
-    /// The first key that it covers.
+    /// The first key that the chunk covers.
     pub lo: u64,
     /// The key after the last.
     pub hi: u64,
-    /// Whether it is the last chunk of its node.
+    /// True if this is the last chunk of its node.
     pub last: bool,
 }
 
-/// A note, and the families of the keys that it covers, by root in rising order, each with a log of its own root key.
-/// To a contract it is a `ChunkValue`.
+/// A note, and the families of the keys that it covers, by rising root key, each with a log of its
+/// own root key. To a contract it is a `ChunkValue`.
 #[derive(Debug, Drop)]
 pub struct Chunk {
     note: Note,
@@ -50,8 +50,8 @@ impl Model for Chunk {
 }
 
 impl Chunk {
-    /// A chunk of these families, whose roots rise strictly from the note's `lo` on and stay below its `hi`, and whose
-    /// logs are of their own root keys, as those of all families are.
+    /// Creates a chunk of `families`. Their root keys rise strictly from the note's `lo` on and
+    /// stay below its `hi`, and each log is of its own root key, as it is in every family.
     pub fn new(note: Note, families: Vec<Family>) -> Chunk
         requires within { IsTrue (are_within note.lo note.hi families.items) }
         requires keyed { AreKeyed families.items }
@@ -60,14 +60,14 @@ impl Chunk {
         Chunk { note, families }
     }
 
-    /// What it covers.
+    /// Returns the note.
     pub fn note(&self) -> Note
         ensures { result ≡ self.now.note }
     {
         self.note
     }
 
-    /// Its families, by root in rising order, with each root within what the note covers.
+    /// Returns the families by rising root key; the note covers all of their root keys.
     pub fn families(&self) -> &[Family]
         ensures families { result.now ≡ self.now.families }
         ensures within { IsTrue (are_within self.now.note.lo self.now.note.hi self.now.families) }
@@ -76,21 +76,22 @@ impl Chunk {
         self.families.as_slice()
     }
 
-    /// How many families it has.
+    /// Returns the number of families.
     pub fn len(&self) -> usize
         ensures { result ≡ length self.now.families }
     {
         self.families.len()
     }
 
-    /// Whether it has no family.
+    /// Returns true if the chunk has no family.
     pub fn is_empty(&self) -> bool
         ensures { IsTrue result ↔ (self.now.families ≡ []) }
     {
         self.families.is_empty()
     }
 
-    /// Its note and its families, in the same room: `Chunk::new` puts them together again without memory.
+    /// Returns the note and the families, uncopied; [`Chunk::new`] takes no memory to put them
+    /// together again.
     pub fn into_parts(self) -> (Note, Vec<Family>)
         ensures note { result.0 ≡ self.note }
         ensures families { result.1.items ≡ self.families }

@@ -1,4 +1,4 @@
-// Chunks that are cut out of a store.
+// Cuts chunks out of a store.
 ghost use Rattle.std.specs.Prelude.{◌≡◌, ◌≤◌, IfOk, OnErr};
 ghost use Rattle.sq_store.specs.Prelude.{without_between};
 ghost use Rattle.sq_chunk.specs.NextChunk.{next_chunk};
@@ -8,10 +8,10 @@ use sq_ranges::Extent;
 use sq_store::{Cut, FamilyStore};
 use std::alloc::AllocError;
 
-/// Cuts the next chunk out of a store: families of the rest of a node by rising root key, the first, and then as many as
-/// fit with it into `limit` bytes. It ends at the root key of the first family that it doesn't take, or at the end of
-/// the rest, and is the node's last exactly if it ends there; in all else its note is `base`. Where there is no memory
-/// for it the store stays as it was.
+/// Cuts the next chunk out of `store`: families of `rest`, the rest of a node, by rising root key;
+/// the first, and then as many as fit with it into `limit` bytes. The chunk ends at the root key of
+/// the first family that it doesn't take, or at the end of `rest`, and is the node's last exactly
+/// if it ends there. Its note is otherwise `base`. If memory runs out, the store stays as it was.
 pub fn cut_next<S: FamilyStore>(
     store: &mut S,
     base: Note,

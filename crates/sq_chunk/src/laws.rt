@@ -6,7 +6,7 @@ ghost use Rattle.sq_chunk.specs.declared.chunk.Note.{Note};
 ghost use Rattle.sq_chunk.specs.Laws.{HasCovered, LeavesOthers};
 ghost use Rattle.sq_chunk.specs.NextChunk.{next_chunk};
 
-/// A chunk takes each family whose root key its note covers, and leaves each other one.
+/// A chunk takes every family whose root key its note covers, and leaves every other.
 pub fn takes_what_its_note_covers()
     ensures taken { (store : StoreValue) (base : Note) (rest : Extent) (limit root : ℕ)
         → HoldsByRoot store → HasCovered store (next_chunk store base rest limit) root }

@@ -1,4 +1,5 @@
-//! Chunks: families on their way from one partition to another, with the note that says which keys they cover.
+//! Chunks: families on their way from one partition to another, with a note of the keys that they
+//! cover.
 #![tactic(auto)]
 
 mod chunk;

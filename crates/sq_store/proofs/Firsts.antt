@@ -1,20 +1,19 @@
 -- The first family of a store from a root key on.
-use Rattle.std.proofs.Common.{⊎_elim, ◌≡◌, ℕ, Bool, true, false, List, [], ◌∷◌, refl, sym, ap, ◌∙◌, arith, true≢false}
-use Rattle.std.specs.Prelude.{◌+◌, ◌<◌, ◌≤◌, ◌≢◌, ◌&&◌, nat_le, nat_lt, map, filter, find, cond, Some, None}
+use Rattle.std.proofs.Common.{⊎_elim, ◌≡◌, ℕ, Bool, true, false, List, [], ◌∷◌, refl, sym, ap, ◌∙◌, arith}
+use Rattle.std.specs.Prelude.{◌+◌, ◌<◌, ◌≤◌, ◌&&◌, nat_le, nat_lt, map, filter, find, cond, Some, None}
 use Rattle.std.specs.Ordering.{nat_cmp, is_lt}
 use Rattle.std.specs.FinMap.Entries.{find as find_key}
-use Rattle.std.specs.FinMap.{get, get-entries, entries, remove, retain_keys, is_sorted}
-use Rattle.std.proofs.lemmas.Bool.{and_parts, and_left, and_right, and_from, le-leb, lt-leb, le-ltb, lt-ltb, cases_lt, cases_eq, eq-eqb}
+use Rattle.std.specs.FinMap.{get, get-entries, entries, retain_keys, is_sorted}
+use Rattle.std.proofs.lemmas.Bool.{and_parts, and_left, and_right, and_from, le-leb, lt-leb, le-ltb, lt-ltb, cases_lt, eq-eqb}
 use Rattle.sq_schema.specs.Family.{FamilyValue}
-use Rattle.sq_store.specs.StoreValue.{StoreValue, family_in, families_between, without_between}
+use Rattle.sq_store.specs.StoreValue.{StoreValue, family_in, families_between}
 use Rattle.sq_store.specs.InOrder.{families_in, family_from, HoldsByRoot}
 use Rattle.sq_store.specs.Listed.{roots_rise}
 use Rattle.sq_store.specs.First.{IsFirst}
 use Rattle.sq_store.proofs.Order.{is_below, first_rises, less_from_cmp}
 use Rattle.sq_store.proofs.Lists.{values-entries_of}
 use Rattle.sq_store.proofs.Spans.{filter-entries_of}
-use Rattle.sq_store.proofs.Keys.{same_store, get-remove_same, get-remove_other}
-use Rattle.sq_store.proofs.Between.{rooted_by, entries-rooted, sorted_is, is_between, family_in-between, kept, entries_between, get-without}
+use Rattle.sq_store.proofs.Between.{rooted_by, entries-rooted, sorted_is, is_between, family_in-between, kept, entries_between}
 
 -- the families of a store rise
 pub rising_in : (store : StoreValue) → HoldsByRoot store → roots_rise (families_in store) ≡ true
@@ -156,58 +155,3 @@ none_between store lo hi root none inside =
     let kept_store = retain_keys store (is_between lo hi) in
     ap (λ b. cond b (get store root) None) (sym inside) ∙ sym (kept lo hi store root)
     ∙ get-entries kept_store root ∙ ap (find_key nat_cmp root) (no_entries (entries kept_store) (entries_between lo hi store ∙ none))
-
--- without them the store is as it was
-pub without_empty : (store : StoreValue) (lo hi : ℕ) → families_between store lo hi ≡ [] → without_between store lo hi ≡ store
-without_empty store lo hi none =
-    same_store (without_between store lo hi) store (λ root. get-without lo hi store root ∙ by_test root (is_between lo hi root) refl)
-  where
-    by_test : (root : ℕ) (b : Bool) → is_between lo hi root ≡ b → cond b None (get store root) ≡ get store root
-    by_test root true inside = sym (none_between store lo hi root none inside)
-    by_test root false outside = refl
-
--- a store without its first family between two bounds
-module _ (store : StoreValue) (lo hi : ℕ) (family : FamilyValue) (first : IsFirst store lo hi family) where
-  left_at : (root : ℕ) → cond (is_between lo hi root) (get (remove store family.root) root) None ≡ cond (is_between (family.root + 1) hi root) (get store root) None
-  left_at root =
-      let from = first.from in
-      let below = first.below in
-      ⊎_elim
-      (λ (low : root < family.root).
-      ⊎_elim
-      (λ (out : root < lo).
-      ap (λ b. cond b (get (remove store family.root) root) None) (not_between_low lo hi root out)
-      ∙ sym (ap (λ b. cond b (get store root) None) (not_between_low (family.root + 1) hi root (omega arith))))
-      (λ (inside : lo ≤ root).
-      ap (λ b. cond b (get (remove store family.root) root) None) (between_from lo hi root inside (omega (arith, low, below)))
-      ∙ get-remove_other store family.root root (λ same. absurd (omega (arith, low, same)))
-      ∙ none_between store lo family.root root (first.before family.root (omega arith)) (between_from lo family.root root inside low)
-      ∙ sym (ap (λ b. cond b (get store root) None) (not_between_low (family.root + 1) hi root (omega arith))))
-      (cases_lt root lo))
-      (λ (upto : family.root ≤ root).
-      ⊎_elim
-      (λ (same : root ≡ family.root).
-      ap (λ b. cond b (get (remove store family.root) root) None) (between_from lo hi root (omega (arith, from, same)) (omega (arith, below, same)))
-      ∙ get-remove_same store family.root root same
-      ∙ sym (ap (λ b. cond b (get store root) None) (not_between_low (family.root + 1) hi root (omega (arith, same)))))
-      (λ (apart : root ≢ family.root).
-      (λ i. cond (later_alike lo (family.root + 1) hi family.root root (omega (arith, from)) (omega arith) (omega (arith, upto, apart)) i) (get-remove_other store family.root root apart i) None))
-      (cases_eq root family.root))
-      (cases_lt root family.root)
-
-  pub left_between : families_between (remove store family.root) lo hi ≡ families_between store (family.root + 1) hi
-  left_between =
-      sym (entries_between lo hi (remove store family.root))
-      ∙ ap (λ s. map (λ entry. entry.1) (entries s))
-      (same_store (retain_keys (remove store family.root) (is_between lo hi)) (retain_keys store (is_between (family.root + 1) hi)) (λ root.
-      kept lo hi (remove store family.root) root ∙ left_at root ∙ sym (kept (family.root + 1) hi store root)))
-      ∙ entries_between (family.root + 1) hi store
-
-  pub without_first : without_between (remove store family.root) lo hi ≡ without_between store lo hi
-  without_first =
-      same_store (without_between (remove store family.root) lo hi) (without_between store lo hi) (λ root.
-      get-without lo hi (remove store family.root) root ∙ by_test root (is_between lo hi root) refl ∙ sym (get-without lo hi store root))
-    where
-      by_test : (root : ℕ) (b : Bool) → is_between lo hi root ≡ b → cond b None (get (remove store family.root) root) ≡ cond b None (get store root)
-      by_test root true inside = refl
-      by_test root false outside = get-remove_other store family.root root (λ same. true≢false (sym (ap (is_between lo hi) same ∙ between_from lo hi family.root first.from first.below) ∙ outside))

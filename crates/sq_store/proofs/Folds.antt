@@ -1,11 +1,11 @@
 -- What a store has at each root key once its logs are folded.
-use Rattle.std.proofs.Common.{⊎_elim, ◌≡◌, ℕ, zero, suc, Bool, true, false, List, [], ◌∷◌, ◌++◌, length, take, drop, set, get_or, refl, sym, ap, ◌∙◌, arith}
-use Rattle.std.specs.Prelude.{◌==◌, ◌+◌, ◌<◌, ◌≤◌, ◌≢◌, nat_le, nat_lt, not, map, filter, if◌then◌else◌, cond, Option, Some, None}
+use Rattle.std.proofs.Common.{◌≡◌, ℕ, zero, suc, Bool, true, false, List, [], ◌∷◌, ◌++◌, length, take, drop, set, get_or, refl, sym, ap, ◌∙◌, arith}
+use Rattle.std.specs.Prelude.{◌==◌, ◌+◌, ◌<◌, not, map, filter, if◌then◌else◌, cond, Option, Some, None}
 use Rattle.std.specs.Ordering.{nat_cmp, is_lt, eq_by_cmp}
 use Rattle.std.specs.Cmp.{nat_cmp_total, unsigned_tied}
 use Rattle.std.specs.FinMap.{get, entries, get-entries, get-from_entries, is_sorted}
 use Rattle.std.specs.FinMap.Entries.{find, below_all}
-use Rattle.std.proofs.lemmas.Bool.{and_parts, and_from, ne_eqb, eqb-true, le-leb, le-ltb, lt-ltb, cases_lt, cases_eq, cond_both}
+use Rattle.std.proofs.lemmas.Bool.{and_parts, and_from, ne_eqb, eqb-true, cond_both}
 use Rattle.sq_schema.specs.Family.{FamilyValue, rows_of, folded}
 use Rattle.sq_store.specs.StoreValue.{StoreValue, fold_of, folded_entries, folded_store}
 use Rattle.sq_store.proofs.Order.{less_from_cmp}
@@ -13,9 +13,6 @@ use Rattle.sq_store.proofs.Between.{sorted_is}
 use Rattle.sq_store.proofs.Lists.{get-store_of}
 use Rattle.sq_store.proofs.Keys.{same_store}
 use Rattle.sq_store.specs.Listed.{keyed_families, roots_rise, store_of, folded_families}
-use Rattle.sq_store.specs.First.{IsFirst}
-use Rattle.sq_store.specs.InOrder.{family_from, HoldsByRoot}
-use Rattle.sq_store.proofs.Firsts.{first_is, first_none, none_between}
 
 -- below all keys of entries there is none of them
 none_below : (key root : ℕ) (es : List (ℕ × FamilyValue)) → root ≡ key → below_all nat_cmp key es ≡ true → find nat_cmp root es ≡ None
@@ -54,67 +51,6 @@ get-folded store root =
 -- so a store that has this at each root key is the folded one
 pub is_folded : (store after : StoreValue) → ((root : ℕ) → get after root ≡ fold_of (get store root)) → after ≡ folded_store store
 is_folded store after each = same_store after (folded_store store) (λ root. each root ∙ sym (get-folded store root))
-
--- the logs of the families below a root key are folded
-abbrev pub IsFoldedTo : StoreValue → StoreValue → ℕ → Type 0
-IsFoldedTo before store at = (root : ℕ) → get store root ≡ (if nat_lt root at then fold_of (get before root) else get before root)
-
--- the first family from a root key on stands
-pub stands_from : (store : StoreValue) (at : ℕ) (family : FamilyValue) → HoldsByRoot store → family_from store at ≡ Some family → get store family.root ≡ Some family
-stands_from store at family by found = let one = first_is store at by (family.root + 1) family found (omega arith) in one.stands
-
--- one more family is folded: the first from there on
-module _ (before store after : StoreValue) (at : ℕ) (family : FamilyValue) (by : HoldsByRoot store) (so_far : IsFoldedTo before store at) (found : family_from store at ≡ Some family)
-    (here : get after family.root ≡ fold_of (Some family)) (others : (root : ℕ) → root ≢ family.root → get after root ≡ get store root) where
-  first : IsFirst store at (family.root + 1) family
-  first = first_is store at by (family.root + 1) family found (omega arith)
-
-  -- from there on the store is as it was
-  unfolded : (root : ℕ) → at ≤ root → get store root ≡ get before root
-  unfolded root from = so_far root ∙ ap (λ b. if b then fold_of (get before root) else get before root) (le-ltb root at from)
-
-  below : (root : ℕ) → root < family.root → get after root ≡ fold_of (get before root)
-  below root low =
-      let one = first in
-      others root (λ same. absurd (omega (arith, low, same)))
-      ∙ ⊎_elim
-      (λ (done : root < at). so_far root ∙ ap (λ b. if b then fold_of (get before root) else get before root) (lt-ltb root at done))
-      (λ (from : at ≤ root).
-      let none = none_between store at family.root root (one.before family.root (omega arith)) (and_from (nat_le at root) (nat_lt root family.root) (le-leb at root from) (lt-ltb root family.root low)) in
-      none ∙ sym (ap fold_of (sym (unfolded root from) ∙ none)))
-      (cases_lt root at)
-
-  pub folded_next : IsFoldedTo before after (family.root + 1)
-  folded_next root =
-      let one = first in
-      ⊎_elim
-      (λ (low : root < family.root). below root low ∙ sym (ap (λ b. if b then fold_of (get before root) else get before root) (lt-ltb root (family.root + 1) (omega (arith, low)))))
-      (λ (from : family.root ≤ root).
-      ⊎_elim
-      (λ (same : root ≡ family.root).
-      ap (get after) same ∙ here ∙ ap fold_of (sym one.stands ∙ unfolded family.root one.from ∙ ap (get before) (sym same))
-      ∙ sym (ap (λ b. if b then fold_of (get before root) else get before root) (lt-ltb root (family.root + 1) (omega (arith, same)))))
-      (λ (apart : root ≢ family.root).
-      let start = one.from in
-      others root apart ∙ unfolded root (omega (arith, from, start))
-      ∙ sym (ap (λ b. if b then fold_of (get before root) else get before root) (le-ltb root (family.root + 1) (omega (arith, from, apart)))))
-      (cases_eq root family.root))
-      (cases_lt root family.root)
-
--- where no family is left, all are folded
-pub folded_all : (before store : StoreValue) (at : ℕ) → HoldsByRoot store → IsFoldedTo before store at → family_from store at ≡ None → store ≡ folded_store before
-folded_all before store at by so_far none =
-    is_folded before store (λ root.
-    ⊎_elim
-    (λ (done : root < at). so_far root ∙ ap (λ b. if b then fold_of (get before root) else get before root) (lt-ltb root at done))
-    (λ (from : at ≤ root).
-    let gone = none_between store at (root + 1) root (first_none store at by (root + 1) none) (and_from (nat_le at root) (nat_lt root (root + 1)) (le-leb at root from) (lt-ltb root (root + 1) (omega arith))) in
-    gone ∙ sym (ap fold_of (sym (so_far root ∙ ap (λ b. if b then fold_of (get before root) else get before root) (le-ltb root at from)) ∙ gone)))
-    (cases_lt root at))
-
--- nothing is folded yet
-pub folded_none : (store : StoreValue) → IsFoldedTo store store 0
-folded_none store root = sym (ap (λ b. if b then fold_of (get store root) else get store root) (le-ltb root 0 (omega arith)))
 
 -- the first so many families with their logs folded, and the others
 abbrev pub folded_to : ℕ → List FamilyValue → List FamilyValue

@@ -35,18 +35,6 @@ module _ (store : StoreValue) (root : ℕ) where
   pub get-remove_other : (other : ℕ) → other ≢ root → get (remove store root) other ≡ get store other
   get-remove_other other apart = get-remove nat_cmp_total store root other ∙ ap (λ b. cond b None (get store other)) (untied root other apart)
 
-  -- the family that stands may be put in again
-  pub insert_again : (family : FamilyValue) → get store root ≡ Some family → insert store root family ≡ store
-  insert_again family stands =
-      same_store (insert store root family) store (λ other.
-      at_key root other (λ same. get-insert_same family other same ∙ sym (ap (get store) same ∙ stands)) (λ apart. get-insert_other family other apart))
-
-  -- a family that doesn't stand may be taken out
-  pub remove_none : get store root ≡ None → remove store root ≡ store
-  remove_none none =
-      same_store (remove store root) store (λ other.
-      at_key root other (λ same. get-remove_same other same ∙ sym (ap (get store) same ∙ none)) (λ apart. get-remove_other other apart))
-
 -- what was put in new may be taken out
 pub remove-insert : (store : StoreValue) (root : ℕ) (family : FamilyValue) → get store root ≡ None → remove (insert store root family) root ≡ store
 remove-insert store root family none =

@@ -15,16 +15,7 @@ pub mod Taken
 pub mod Fullest
 pub mod Keys
 pub mod Firsts
-pub mod Walks
-pub mod Takes
-pub mod Chunks
-pub mod Leading
-pub mod Indexes
-pub mod Iterations
-pub mod Filled
 pub mod Suffixes
 pub mod Opened
-pub mod Writes
 pub mod PutsIn
 pub mod Folds
-pub mod FoldWrites

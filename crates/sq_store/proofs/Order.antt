@@ -3,10 +3,10 @@ use Rattle.std.proofs.Common.{◌≡◌, ⊎_elim, ℕ, zero, suc, Bool, true, f
 use Rattle.std.specs.Prelude.{◌+◌, ◌<◌, ◌≤◌, ◌≢◌, ◌==◌, ◌||◌, not, nat_lt, cond}
 use Rattle.std.specs.List.Sorted.{IsNonDecreasingBy}
 use Rattle.std.specs.declared.cmp.Ordering.TheVariants.{Less, Equal, Greater}
-use Rattle.std.specs.Ordering.{nat_cmp, is_lt, is_le, ordering_reverse}
+use Rattle.std.specs.Ordering.{nat_cmp, is_lt, ordering_reverse}
 use Rattle.std.specs.Cmp.{nat_cmp_total}
 use Rattle.std.specs.FinMap.Entries.{below_all}
-use Rattle.std.proofs.lemmas.Bool.{and_parts, and_from, lt-ltb, le-ltb, eq-eqb, ne_eqb, ltb-true, cases_lt, cases_eq}
+use Rattle.std.proofs.lemmas.Bool.{and_parts, and_from, lt-ltb, le-ltb, eq-eqb, ne_eqb, ltb-true, cases_lt}
 use Rattle.sq_schema.specs.Family.{FamilyValue}
 use Rattle.sq_schema.proofs.Entries.{below_before}
 use Rattle.sq_store.specs.StoreValue.{roots_differ}
@@ -19,13 +19,6 @@ cmp_less x y below = ap (λ b. cond b Less (cond (x == y) Equal Greater)) (lt-lt
 pub cmp_greater : (x y : ℕ) → y < x → nat_cmp x y ≡ Greater
 cmp_greater x y above =
     (λ i. cond (le-ltb x y (omega arith) i) Less (cond (ne_eqb x y (λ same. absurd (omega (arith, same, above))) i) Equal Greater))
-
-pub le_upto : (x y : ℕ) → x ≤ y → is_le (nat_cmp x y) ≡ true
-le_upto x y upto =
-    ⊎_elim
-    (λ (same : x ≡ y). ap is_le (λ i. cond (le-ltb x y (omega (arith, same)) i) Less (cond (eq-eqb x y same i) Equal Greater)))
-    (λ (apart : x ≢ y). ap is_le (cmp_less x y (omega (arith, upto, apart))))
-    (cases_eq x y)
 
 pub less_from_cmp : (x y : ℕ) → is_lt (nat_cmp x y) ≡ true → x < y
 less_from_cmp x y e = ltb-true x y (first (nat_lt x y) (x == y) e)

@@ -1,5 +1,5 @@
 -- Families that are put in one after another from the last on, and taken out again.
-use Rattle.std.proofs.Common.{◌≡◌, ℕ, true, List, [], ◌∷◌, ◌++◌, refl, sym, ap, ◌∙◌, append_assoc, append-nil}
+use Rattle.std.proofs.Common.{◌≡◌, ℕ, true, List, [], ◌∷◌, ◌++◌, refl, sym, ap, ◌∙◌, append_assoc}
 use Rattle.std.specs.Prelude.{map, reverse, cond, Option, Some, None, is_some, is_none}
 use Rattle.std.specs.FinMap.{get, insert, remove}
 use Rattle.std.proofs.lemmas.Bool.{and_parts, eq-eqb, ne_eqb}
@@ -106,14 +106,3 @@ module _ (before : StoreValue) (given : List FamilyValue) (differ : roots_differ
     take_back_last is found looked =
         let back = back_of is.put is.whole is.listed is.store in
         (back.0, looked ∙ back.1, back.2)
-
-pub put_none : (before : StoreValue) (given : List FamilyValue) → IsPutIn before given given [] before
-put_none before given = record { put = []; whole = sym (append-nil given); listed = refl; store = refl }
-
--- where none was put in all are left
-pub took_all : (before : StoreValue) (given left : List FamilyValue) (store : StoreValue) → IsPutIn before given left [] store → (store ≡ before) × (left ≡ given)
-took_all before given left store is = by_case is.put is.whole is.listed is.store
-  where
-    by_case : (put : List FamilyValue) → given ≡ left ++ put → [] ≡ map (λ family. family.root) put → store ≡ with_families before put → (store ≡ before) × (left ≡ given)
-    by_case [] whole listed same = (same, sym (whole ∙ append-nil left))
-    by_case (family ∷ put) whole listed same = absurd (cc)

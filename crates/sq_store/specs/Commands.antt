@@ -1,4 +1,4 @@
--- What a store answers to commands, as a finite map by root key.
+-- A store's answers to commands, as a finite map by root key.
 use Rattle.std.specs.Prelude.{◌≡◌, ◌<◌, ◌≤◌, true, false, List, [], ◌∷◌, Ok, Err}
 use Rattle.sq_schema.specs.declared.family.TheConstants.{MAX_LOG}
 use Rattle.sq_schema.specs.declared.fault.ApplyFault.TheVariants.{LogFull, Memory}

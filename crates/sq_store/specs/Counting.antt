@@ -1,5 +1,5 @@
 -- How many families a chunk takes.
-use Rattle.std.specs.Prelude.{◌≡◌, ℕ, suc, ◌-◌, nat_lt, nat_le, if◌then◌else◌, List, [], ◌∷◌, map, filter, take, slice_get}
+use Rattle.std.specs.Prelude.{ℕ, suc, ◌-◌, nat_le, if◌then◌else◌, List, [], ◌∷◌, take, slice_get}
 use Rattle.std.specs.Option.{option_map_or}
 use Rattle.sq_schema.specs.Family.{FamilyValue, rows_of, rows_size}
 
@@ -21,15 +21,6 @@ chunk_count limit (family ∷ families) = suc (fitting (limit - family_size fami
 abbrev pub root_after : ℕ → List FamilyValue → ℕ → ℕ
 root_after hi families count = option_map_or (λ family. family.root) (slice_get families count) hi
 
--- the families of root keys below this number
-abbrev pub families_below : ℕ → List FamilyValue → List FamilyValue
-families_below hi families = filter (λ family. nat_lt family.root hi) families
-
 -- the families that a chunk takes
 abbrev pub chunk_of : ℕ → List FamilyValue → List FamilyValue
 chunk_of limit families = take (chunk_count limit families) families
-
--- the root keys of those of rising families below hi that a chunk takes, and where it ends
-pub record IsChunkOfList (hi limit : ℕ) (families : List FamilyValue) (roots : List ℕ) (end : ℕ) : Type 0 where
-  pub listed : roots ≡ map (λ family. family.root) (chunk_of limit (families_below hi families))
-  pub ends : end ≡ root_after hi (families_below hi families) (chunk_count limit (families_below hi families))

@@ -1,5 +1,5 @@
 -- The families of a store in the order of their root keys.
-use Rattle.std.specs.Prelude.{◌≡◌, ℕ, Bool, true, ◌+◌, ◌&&◌, nat_lt, nat_le, List, [], ◌∷◌, map, filter, find, All, Option, Some}
+use Rattle.std.specs.Prelude.{◌≡◌, ℕ, Bool, true, ◌+◌, ◌&&◌, nat_lt, nat_le, List, [], ◌∷◌, map, find, All, Option, Some}
 use Rattle.std.specs.FinMap.{get, entries}
 use Rattle.sq_schema.specs.Family.{FamilyValue}
 use Rattle.sq_store.specs.StoreValue.{StoreValue}
@@ -8,13 +8,9 @@ use Rattle.sq_store.specs.StoreValue.{StoreValue}
 abbrev pub families_in : StoreValue → List FamilyValue
 families_in store = map (λ entry. entry.1) (entries store)
 
--- the family of the least root key from this number on
+-- the family with the least root key from this number on
 abbrev pub family_from : StoreValue → ℕ → Option FamilyValue
 family_from store least = find (λ family. nat_le least family.root) (families_in store)
-
--- the families of the root keys from this number on
-abbrev pub families_from : StoreValue → ℕ → List FamilyValue
-families_from store least = filter (λ family. nat_le least family.root) (families_in store)
 
 -- each family is kept under its own root key
 abbrev pub HoldsByRoot : StoreValue → Type 0

@@ -1,4 +1,4 @@
--- What laws say of the families that are taken of a store.
+-- What laws say of the families that are taken out of a store.
 use Rattle.std.specs.Prelude.{◌≡◌, ◌+◌, ◌<◌, ◌≤◌, ◌⊎◌, ℕ, List, length, sum_by, Option, Some, is_some, if◌then◌else◌}
 use Rattle.std.specs.FinMap.{get}
 use Rattle.sq_schema.specs.Family.{FamilyValue}
@@ -13,8 +13,9 @@ family_or families root other = if is_some (family_in families root) then family
 abbrev pub total_size : List FamilyValue → ℕ
 total_size families = sum_by family_size families
 
--- the families from lo up to this end are as many as a chunk of at most this size takes: they fit, or there is one
--- alone; and where it ends before hi there is one, and the family that is at the end doesn't fit with them
+-- the families from lo up to this end are as many as a chunk of this limit takes: they fit, or
+-- there is only one; and if it ends before hi there is one, and the family at the end doesn't fit
+-- with them
 pub record IsFullest (store : StoreValue) (lo hi limit end : ℕ) : Type 0 where
   pub fits : (total_size (families_between store lo end) ≤ limit) ⊎ (length (families_between store lo end) ≡ 1)
   pub some : end < hi → 0 < length (families_between store lo end)

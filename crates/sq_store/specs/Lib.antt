@@ -7,7 +7,6 @@ pub mod Counting
 pub mod Cut
 pub mod Commands
 pub mod Laws
-pub mod Indexed
 pub mod First
 pub mod PutIn
 pub mod Opened

@@ -26,13 +26,14 @@ pub record IsRootAt (families : List FamilyValue) (root at : ℕ) : Type 0 where
   pub within : at < length families
   pub here : (d : FamilyValue) → (get_or families at d).root ≡ root
 
--- no family has this root key: those before this place have lower ones, and the others have higher ones
+-- no family has this root key: those before this place have lower ones, and the others have higher
+-- ones
 pub record IsRootGap (families : List FamilyValue) (root at : ℕ) : Type 0 where
   pub within : at ≤ length families
   pub below : (k : ℕ) (d : FamilyValue) → 0 ≤ k → k < at → (get_or families k d).root < root
   pub above : (k : ℕ) (d : FamilyValue) → at ≤ k → k < length families → root < (get_or families k d).root
 
--- what a search for a root key answers
+-- the result of a search for a root key
 abbrev pub IsRootPlace : List FamilyValue → ℕ → Result ℕ ℕ → Type 0
 IsRootPlace families root (Ok at) = IsRootAt families root at
 IsRootPlace families root (Err at) = IsRootGap families root at
@@ -47,7 +48,8 @@ pub record IsStart (families : List FamilyValue) (key at : ℕ) : Type 0 where
 abbrev pub folded_families : List FamilyValue → List FamilyValue
 folded_families families = map folded (filter (λ family. not (length (rows_of family) == 0)) families)
 
--- the list after a transaction with this reply, of a root key without a family: one that commits puts a family at this place
+-- the list after a transaction with this reply, of a root key without a family: a commit inserts a
+-- family at this place
 abbrev pub opened : List FamilyValue → ℕ → TxnValue → Reply → List FamilyValue
 opened families at txn (Committed answers) = insert families at (logged (absent txn.root) txn)
 opened families at txn (Aborted n cause) = families

@@ -1,4 +1,4 @@
--- Which of two lists of families the next one comes from, when they are put together by root key.
+-- Which of two lists of families the next one comes from, as they are merged by root key.
 use Rattle.std.specs.Prelude.{◌≡◌, Bool, true, false, nat_lt, List, [], ◌∷◌, Option, Some, None}
 use Rattle.sq_schema.specs.Family.{FamilyValue}
 

@@ -1,4 +1,4 @@
--- What a store contains: a finite map from root keys to families, however it is kept.
+-- What a store contains: a finite map from root keys to families, however it is stored.
 use Rattle.std.specs.Prelude.{ℕ, Bool, true, ◌==◌, ◌&&◌, not, nat_le, nat_lt, if◌then◌else◌, List, [], ◌∷◌, length, map, fold, filter, Option, Some, None, is_none, unwrap_or, find}
 use Rattle.std.specs.List.{list_any, list_all}
 use Rattle.std.specs.Ordering.{nat_cmp}
@@ -18,7 +18,7 @@ StoreValue = FinMap nat_cmp FamilyValue
 abbrev pub absent : ℕ → FamilyValue
 absent root = record { root = root; base = []; log = [] }
 
--- the family of a root key, which may be an empty one that doesn't stand
+-- the family of a root key; an empty one if the store has none
 abbrev pub family_at : StoreValue → ℕ → FamilyValue
 family_at store root = unwrap_or (get store root) (absent root)
 
@@ -26,11 +26,11 @@ family_at store root = unwrap_or (get store root) (absent root)
 abbrev pub log_length : StoreValue → ℕ → ℕ
 log_length store root = length (family_at store root).log
 
--- what a transaction is answered on the family of its root key
+-- the reply to a transaction on the family of its root key
 abbrev pub store_reply : StoreValue → TxnValue → Reply
 store_reply store txn = reply (rows_of (family_at store txn.root)) txn
 
--- the store after a transaction with this reply: one that commits goes to the end of its family's log
+-- the store after a transaction with this reply: a commit is appended to its family's log
 abbrev pub store_after : StoreValue → TxnValue → Reply → StoreValue
 store_after store txn (Committed answers) = insert store txn.root (logged (family_at store txn.root) txn)
 store_after store txn (Aborted at cause) = store
@@ -47,7 +47,7 @@ without_between store lo hi = retain_keys store (λ root. not (nat_le lo root &&
 abbrev pub stored_size : StoreValue → ℕ → ℕ
 stored_size store root = rows_size (rows_of (family_at store root))
 
--- where a chunk of at most this size ends that takes families from lo on and below hi
+-- where a chunk of this limit ends that takes families from lo on and below hi
 abbrev pub take_end : StoreValue → ℕ → ℕ → ℕ → ℕ
 take_end store lo hi limit = end_of (stored_size store) hi limit (map (λ family. family.root) (families_between store lo hi))
 
@@ -55,12 +55,12 @@ take_end store lo hi limit = end_of (stored_size store) hi limit (map (λ family
 abbrev pub with_families : StoreValue → List FamilyValue → StoreValue
 with_families store families = fold (λ so_far family. insert so_far family.root family) store families
 
--- a family with its log folded; one without rows goes
+-- a family with its log folded; none if it has no rows
 abbrev pub fold_of : Option FamilyValue → Option FamilyValue
 fold_of None = None
 fold_of (Some family) = if length (rows_of family) == 0 then None else Some (folded family)
 
--- these families with their logs folded, by root key; those without rows go
+-- these families with their logs folded, by root key, without those that have no rows
 abbrev pub folded_entries : List (ℕ × FamilyValue) → List (ℕ × FamilyValue)
 folded_entries [] = []
 folded_entries (entry ∷ entries) =
@@ -79,10 +79,10 @@ abbrev pub roots_differ : List FamilyValue → Bool
 roots_differ [] = true
 roots_differ (family ∷ families) = not (list_any (λ other. other.root == family.root) families) && roots_differ families
 
--- the store has a family of none of these root keys
+-- the store has no family with the root key of one of these
 abbrev pub has_none_of : StoreValue → List FamilyValue → Bool
 has_none_of store families = list_all (λ family. is_none (get store family.root)) families
 
--- these families can be given: their root keys differ, and none of them stands
+-- these families can be given: their root keys differ, and the store has none of them
 abbrev pub can_give : StoreValue → List FamilyValue → Bool
 can_give store families = roots_differ families && has_none_of store families

@@ -9,21 +9,22 @@ use std::alloc::AllocError;
 pub enum StoreCommand {
     /// Runs a transaction.
     Apply(Txn),
-    /// Takes families of an extent out, of at most this size in bytes.
+    /// Takes families of an extent out, with a limit in bytes.
     Take(Extent, u64),
     /// Puts families in.
     Give(Vec<Family>),
 }
 
-/// What a command is answered.
+/// The answer to a command.
 #[derive(Debug, Drop)]
 pub enum StoreAnswer {
-    /// What the transaction is answered, or why it didn't run.
+    /// The reply to the transaction, or why it didn't run.
     Applied(Result<Reply, ApplyFault>),
     /// The families that were taken, unless memory ran out.
     Taken(Result<Cut, AllocError>),
-    /// The families were put in, or come back where memory ran out.
+    /// The families were put in; they are returned if memory ran out.
     Given(Result<(), Vec<Family>>),
-    /// Two of the families have the same root key, or one of their root keys is in the store: they come back.
+    /// The families are returned, since two of them have the same root key or the store has one of
+    /// their root keys.
     NotGiven(Vec<Family>),
 }

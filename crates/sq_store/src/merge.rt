@@ -1,4 +1,4 @@
-// Two lists of families put together.
+// Merges two lists of families.
 ghost use Rattle.std.specs.Prelude.{◌≡◌, ◌+◌, ◌++◌, ◌≤◌, length, vec_len, vec_capacity, IsTrue};
 ghost use Rattle.sq_store.specs.StoreValue.{with_families, has_none_of};
 ghost use Rattle.sq_store.specs.Listed.{roots_rise, store_of};
@@ -7,8 +7,8 @@ ghost use Rattle.sq_store.specs.Merging.{is_first_next, TakesNext};
 use sq_schema::Family;
 use std::collections::VecDeque;
 
-// Puts the families of two rising lists, which have no root key in common, after those that are there. There is room
-// for them.
+// Appends the families of two rising lists, which share no root key, to `into`, which has room for
+// them.
 pub(crate) fn merge(into: &mut Vec<Family>, mut left: VecDeque<Family>, mut right: VecDeque<Family>)
     requires left { IsTrue (roots_rise (into.old.items ++ left.items)) }
     requires right { IsTrue (roots_rise (into.old.items ++ right.items)) }
@@ -24,7 +24,7 @@ pub(crate) fn merge(into: &mut Vec<Family>, mut left: VecDeque<Family>, mut righ
     }
 }
 
-// Takes the family of the lesser root key off the front of one of the two.
+// Takes the family with the lesser root key off the front of one of the two lists.
 fn next(left: &mut VecDeque<Family>, right: &mut VecDeque<Family>) -> Option<Family>
     ensures { TakesNext (is_first_next left.old.items right.old.items)
         left.old.items right.old.items result left.new.items right.new.items }
@@ -36,7 +36,7 @@ fn next(left: &mut VecDeque<Family>, right: &mut VecDeque<Family>) -> Option<Fam
     }
 }
 
-// Whether the next family is on the left.
+// Returns true if the next family is on the left.
 fn comes_first(left: &VecDeque<Family>, right: &VecDeque<Family>) -> bool
     ensures { result ≡ is_first_next left.now.items right.now.items }
 {

@@ -13,8 +13,9 @@ use sq_plan::{PartId, Plan, PlanRange};
 use sq_schema::{EntryIter, Root, Rows, Table};
 use std::marker::Model;
 
-/// Going over the root keys of a table that a partition owns, in rising order. One search goes past all keys of a range of
-/// another partition. To a contract it is the list of those that are left, with their rows.
+/// An iterator over the root keys of a table that a partition owns, in rising order. One search
+/// skips all keys of a range of another partition. To a contract it is the list of the root keys
+/// that are left, with their rows.
 #[derive(Drop)]
 pub struct OwnedEntries<'a> {
     plan: &'a Plan,
@@ -43,7 +44,7 @@ impl<'a> Model for OwnedEntries<'a> {
 }
 
 impl<'a> OwnedEntries<'a> {
-    /// The root keys of a table that a partition owns.
+    /// Returns an iterator over the root keys of `table` that `part` owns.
     pub fn new(plan: &'a Plan, part: PartId, table: &'a Table) -> OwnedEntries<'a>
         ensures all { result ≡ owned_entries plan.now part table.now }
         ensures rising { is_sorted nat_cmp table.now ≡ true }
@@ -73,7 +74,7 @@ impl<'a> Iterator for OwnedEntries<'a> {
             if self.range.owner == self.part {
                 return Some((root, rows));
             }
-            // The last range has no end among the root keys: none is left behind it.
+            // The last range ends past all root keys, so that none is left after it.
             let next = Root::new(self.range.hi)?;
             self.left = self.table.iter_from(next);
         }
@@ -81,7 +82,7 @@ impl<'a> Iterator for OwnedEntries<'a> {
     }
 }
 
-// A range that holds no root key.
+// Returns a range that holds no root key.
 fn no_root_keys(owner: PartId) -> PlanRange
     ensures { (key : ℕ) → holds result key ≡ false }
 {
@@ -92,7 +93,7 @@ fn no_root_keys(owner: PartId) -> PlanRange
     }
 }
 
-// The range of a plan that holds a root key: this one, or one that is looked up.
+// Returns the range of `plan` that holds `root`: the given `range`, or one that is looked up.
 fn range_of(plan: &Plan, range: PlanRange, root: Root) -> PlanRange
     requires { IsOwned plan.now range }
     ensures owned { IsOwned plan.now result }

@@ -1,4 +1,4 @@
-// A store that is given commands.
+// Runs commands on a store.
 ghost use Rattle.std.specs.Prelude.{◌≡◌, ◌==◌, nat_lt, IsTrue, IfOk, IfErr, OnErr};
 ghost use Rattle.std.specs.List.{list_any};
 ghost use Rattle.sq_store.specs.StoreValue.{roots_differ, has_none_of};
@@ -10,10 +10,10 @@ use crate::store::FamilyStore;
 use sq_schema::{Family, Root};
 use std::alloc::Global;
 
-/// Runs commands in order, and answers each as a finite map by root key does. A command for which memory runs out says
-/// so in its answer and changes nothing; families whose root keys aren't all different, or one of which stands, are
-/// handed back without a call of the store. Where there is no memory for the answers the commands come back, and none
-/// has run.
+/// Runs `commands` in order and answers each as a finite map by root key does. A command for which
+/// memory runs out answers so and changes nothing. Families that share a root key, or one of whose
+/// root keys the store has, are returned without a call of the store. If there is no memory for the
+/// answers, `commands` are returned and none has run.
 pub fn run_store<S: FamilyStore>(
     alloc: Global,
     store: &mut S,
@@ -34,7 +34,6 @@ pub fn run_store<S: FamilyStore>(
     Ok(answers)
 }
 
-// Runs one command.
 fn answer<S: FamilyStore>(store: &mut S, command: StoreCommand) -> StoreAnswer
     ensures { IsStoreAnswer (S.contents store.old) command result (S.contents store.new) }
 {
@@ -48,15 +47,15 @@ fn answer<S: FamilyStore>(store: &mut S, command: StoreCommand) -> StoreAnswer
     }
 }
 
-// Whether no two of the families have the same root key. Families that left a store together are sorted, which shows
-// it at once; of others each one is looked for behind itself.
+// Returns true if no two of `families` have the same root key. Families that left a store together
+// are sorted, which shows it at once; otherwise each family is looked for among those after it.
 fn differ(families: &[Family]) -> bool
     ensures { result ≡ roots_differ families.now }
 {
     are_sorted(families) || differ_in_pairs(families)
 }
 
-// Whether the root keys rise.
+// Returns true only if the root keys rise.
 fn are_sorted(families: &[Family]) -> bool
     ensures { IsTrue result → IsTrue (roots_rise families.now) }
 {
@@ -67,7 +66,7 @@ fn are_sorted(families: &[Family]) -> bool
     )
 }
 
-// Whether no family is followed by one of its root key.
+// Returns true if no family is followed by one with the same root key.
 fn differ_in_pairs(families: &[Family]) -> bool
     ensures { result ≡ roots_differ families.now }
 {
@@ -79,14 +78,14 @@ fn differ_in_pairs(families: &[Family]) -> bool
     true
 }
 
-// Whether one of the families has the root key.
+// Returns true if one of `families` has the root key `root`.
 fn has(families: &[Family], root: Root) -> bool
     ensures { result ≡ list_any (λ family. family.root == root) families.now }
 {
     families.iter().any(|family| family.root() == root)
 }
 
-// Whether the store has a family of none of these root keys.
+// Returns true if the store has no family with the root key of one of `families`.
 fn has_none<S: FamilyStore>(store: &S, families: &[Family]) -> bool
     ensures { result ≡ has_none_of (S.contents store.now) families.now }
 {

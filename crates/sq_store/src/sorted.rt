@@ -8,7 +8,7 @@ ghost use Rattle.sq_store.specs.Counting.{chunk_count as count_of, root_after};
 use sq_schema::{Family, ROOT_END, Root};
 use std::alloc::AllocError;
 
-/// Where the family of a root key is, or where it would go.
+/// Returns the place of the family of `root`, or else the place where it belongs.
 pub fn place(families: &[Family], root: Root) -> Result<usize, usize>
     requires { IsTrue (roots_rise families.now) }
     ensures { IsRootPlace families.now root result }
@@ -16,7 +16,7 @@ pub fn place(families: &[Family], root: Root) -> Result<usize, usize>
     families.binary_search_by_key(&root, |family| family.root())
 }
 
-/// How many families have a root key below this one.
+/// Counts the families whose root key is below `key`.
 pub fn start(families: &[Family], key: u64) -> usize
     requires { IsTrue (roots_rise families.now) }
     ensures { IsStart families.now key result }
@@ -28,7 +28,8 @@ pub fn start(families: &[Family], key: u64) -> usize
     )
 }
 
-// How many families a chunk takes: the first, and then as many as fit into this many bytes.
+// Returns how many families a chunk takes: the first, and then as many as fit with it into `limit`
+// bytes.
 pub(crate) fn chunk_count(families: &[Family], limit: u64) -> usize
     ensures { result ≡ count_of limit families.now }
 {
@@ -45,7 +46,7 @@ pub(crate) fn chunk_count(families: &[Family], limit: u64) -> usize
     families.len()
 }
 
-// The root key of the family at a place, or this bound where there is none.
+// Returns the root key of the family at `at`, or `bound` if there is none.
 pub(crate) fn root_at(families: &[Family], at: usize, bound: u64) -> u64
     ensures { result ≡ root_after bound families.now at }
 {
@@ -55,7 +56,7 @@ pub(crate) fn root_at(families: &[Family], at: usize, bound: u64) -> u64
     }
 }
 
-// Takes this many families out, from a place on. Where there is no memory for them all families stay.
+// Takes `count` families out, from place `first` on. If memory runs out, all families stay.
 pub(crate) fn take_out(
     families: &mut Vec<Family>,
     first: usize,
@@ -76,7 +77,7 @@ pub(crate) fn take_out(
     Ok(taken)
 }
 
-/// Puts a family, whose log is of its own root key, after those that are there. There is room for it.
+/// Appends `family` to `families`, which have room for it. Its log is of its own root key.
 pub fn put_last(families: &mut Vec<Family>, family: Family)
     requires { vec_len families.old < vec_capacity families.old }
     ensures items { families.new.items ≡ families.old.items ++ family ∷ [] }
@@ -88,7 +89,7 @@ pub fn put_last(families: &mut Vec<Family>, family: Family)
     families.push_reserved(family);
 }
 
-// The least root key of families; where there are none, one that is past all.
+// Returns the least root key of `families`; if there are none, the bound of all root keys.
 pub(crate) fn least_root(families: &[Family]) -> u64
     ensures { All (λ family. result ≤ family.root) families.now }
 {
@@ -99,7 +100,7 @@ pub(crate) fn least_root(families: &[Family]) -> u64
         .unwrap_or(ROOT_END)
 }
 
-// The families by root key.
+// Sorts `families` by root key.
 pub(crate) fn sorted(mut families: Vec<Family>) -> Vec<Family>
     ensures permutation { IsPermutation families.items result.items }
     ensures sorted { IsNonDecreasingBy (λ family. family.root) result.items }

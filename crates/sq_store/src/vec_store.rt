@@ -14,8 +14,8 @@ use sq_schema::{ApplyFault, Family, Reply, Root, Txn};
 use std::alloc::{AllocError, Global};
 use std::marker::Model;
 
-/// The families of one partition in a vector, by root key. To a contract it is a `StoreValue`, a map from root keys to
-/// families.
+/// The families of one partition in a vector, by root key. To a contract it is a `StoreValue`, a
+/// map from root keys to families.
 #[derive(Debug, Drop)]
 pub struct VecStore {
     families: Vec<Family>,
@@ -37,7 +37,7 @@ impl Model for VecStore {
 }
 
 impl VecStore {
-    /// A store without families.
+    /// Creates an empty store.
     pub fn new(alloc: Global) -> VecStore
         ensures { result ≡ empty }
     {
@@ -46,7 +46,7 @@ impl VecStore {
         }
     }
 
-    /// The families by rising root key.
+    /// Returns the families by rising root key.
     pub fn families(&self) -> &[Family]
         ensures families { result.now ≡ families_in self.now }
         ensures rooted { HoldsByRoot self.now }
@@ -107,7 +107,8 @@ impl FamilyStore for VecStore {
     }
 }
 
-/// Folds the logs of families: each starts anew from its rows, and those without rows go.
+/// Folds the logs of `families`: each family restarts from its rows, and families without rows are
+/// dropped.
 pub fn fold_all(families: &mut Vec<Family>)
     ensures { families.new.items ≡ folded_families families.old.items }
 {
@@ -123,7 +124,7 @@ fn keep_rowed(families: &mut Vec<Family>)
     families.retain(|family| !family.rows().is_empty());
 }
 
-// Folds the logs of families.
+// Folds the logs of `families`.
 fn fold_each(families: &mut [Family])
     ensures { families.new ≡ map folded families.old }
 {
@@ -132,8 +133,8 @@ fn fold_each(families: &mut [Family])
     }
 }
 
-// Runs a transaction of a root key that has no family. Where it commits its family goes to this place, and else the
-// families stay.
+// Runs a transaction whose root key has no family. If it commits, its family is inserted at `at`;
+// otherwise `families` stay as they were.
 fn open(families: &mut Vec<Family>, at: usize, txn: &Txn) -> Result<Reply, ApplyFault>
     requires { at ≤ vec_len families.old }
     ensures memory { IfErr result (λ fault. fault ≡ ApplyFault.Memory) }
