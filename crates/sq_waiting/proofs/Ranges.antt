@@ -1,5 +1,5 @@
 -- The index by root key, and the part of it between two root keys.
-use Rattle.std.proofs.Common.{⊎_elim, ◌≡◌, ◌≢◌, ℕ, ◌+◌, ◌<◌, ◌≤◌, Bool, true, false, ◌||◌, List, [], ◌∷◌, ◌++◌, inl, inr, refl, sym, ap, subst, ◌∙◌, arith}
+use Rattle.std.proofs.Common.{⊎_elim, ◌≡◌, ◌≢◌, ℕ, ◌+◌, ◌<◌, ◌≤◌, Bool, true, false, ◌||◌, not, List, [], ◌∷◌, ◌++◌, inl, inr, refl, sym, ap, subst, ◌∙◌, arith}
 use Rattle.std.specs.Prelude.{cond, ◌==◌, ◌&&◌, ◌⊎◌, nat_le, nat_lt}
 use Rattle.std.specs.Ordering.{nat_cmp, ordering_then, is_gt}
 use Rattle.std.specs.Cmp.{IsTotalOrder, nat_cmp_total, unsigned_tied, tied_then, on_total, then_total}
@@ -11,9 +11,18 @@ use Rattle.std.specs.BTreeSet.{BTreeSet, contains, keys_between, IsKeyInRange, I
 use Rattle.std.proofs.lemmas.Bool.{cases_eq, cases_lt, cases_Bool, and_parts, and_from, eq-eqb, eqb-true, leb-true, ltb-true, le-leb, lt-ltb, le-ltb, ne_eqb, or_cases, true≢false}
 use Rattle.std.specs.List.{list_any}
 use Rattle.std.proofs.lemmas.List.Folds.{list_any-append}
+use Rattle.std.specs.List.Sorted.{IsPermutation}
+use Rattle.std.proofs.lemmas.List.Sorted.{list_any-IsPermutation}
 use Rattle.std.proofs.lemmas.Map.Views.{any-filter_same, range_contains-from_IsInRange}
 use Rattle.sq_waiting.specs.Index.{entry_cmp, has_entry, is_between, is_among, IsFirstOf, IsNumberedBetween, AddsBetween, HasAllBetween, LackBetween}
-use Rattle.sq_waiting.proofs.Entries.{cmp_greater, less_from_less}
+use Rattle.sq_waiting.proofs.Entries.{cmp_less, cmp_greater, less_from_less}
+
+pub turned : (x y : ℕ) → (x == y) ≡ (y == x)
+turned x y =
+    ⊎_elim
+    (λ (same : x ≡ y). eq-eqb x y same ∙ sym (eq-eqb y x (sym same)))
+    (λ (apart : x ≢ y). ne_eqb x y apart ∙ sym (ne_eqb y x (λ same. apart (sym same))))
+    (cases_eq x y)
 
 pub entry_cmp_total : IsTotalOrder entry_cmp
 entry_cmp_total = then_total (on_total (λ (e : ℕ × ℕ). e.0) nat_cmp_total) (on_total (λ (e : ℕ × ℕ). e.1) nat_cmp_total)
@@ -21,9 +30,6 @@ entry_cmp_total = then_total (on_total (λ (e : ℕ × ℕ). e.0) nat_cmp_total)
 -- an entry is one with the root key and the number
 pub at_entry : (root number : ℕ) (entry : ℕ × ℕ) → is_at (entry_cmp (root, number)) entry ≡ ((root == entry.0) && (number == entry.1))
 at_entry root number entry = sym (tied_then (nat_cmp root entry.0) (nat_cmp number entry.1)) ∙ (λ i. unsigned_tied root entry.0 i && unsigned_tied number entry.1 i)
-
-cmp_less : (x y : ℕ) → x < y → nat_cmp x y ≡ Less
-cmp_less x y below = ap (λ b. cond b Less (cond (x == y) Equal Greater)) (lt-ltb x y below)
 
 cmp_equal : (x y : ℕ) → x ≡ y → nat_cmp x y ≡ Equal
 cmp_equal x y same = λ i. cond (le-ltb x y (omega (arith, same)) i) Less (cond (eq-eqb x y same i) Equal Greater)
@@ -103,16 +109,29 @@ pub set_entry : (by_root new : BTreeSet (ℕ × ℕ)) (root number : ℕ) (stand
     → (r n : ℕ) → has_entry new r n ≡ cond ((root == r) && (number == n)) stands (has_entry by_root r n)
 set_entry by_root new root number stands updates r n = updates (r, n) ∙ ap (λ b. cond b stands (has_entry by_root r n)) (at_entry root number (r, n))
 
-pub set_due : (due new : BTreeSet ℕ) (number : ℕ) (is_due : Bool) → ((q : ℕ) → contains nat_cmp new q ≡ cond (is_at (nat_cmp number) q) is_due (contains nat_cmp due q))
-    → (n : ℕ) → contains nat_cmp new n ≡ cond (number == n) is_due (contains nat_cmp due n)
-set_due due new number is_due updates n = updates n ∙ ap (λ b. cond b is_due (contains nat_cmp due n)) (unsigned_tied number n)
+-- the numbers after one was put in or taken out
+pub put_due : (due new : List ℕ) (number : ℕ) → ((n : ℕ) → is_among new n ≡ ((n == number) || is_among due n)) → (n : ℕ) → is_among new n ≡ cond (number == n) true (is_among due n)
+put_due due new number put n = put n ∙ ap (λ b. b || is_among due n) (turned n number) ∙ either (number == n)
+  where
+    either : (b : Bool) → (b || is_among due n) ≡ cond b true (is_among due n)
+    either true = refl
+    either false = refl
+
+pub strike_due : (due new : List ℕ) (number : ℕ) → ((n : ℕ) → is_among new n ≡ (is_among due n && not (n == number))) → (n : ℕ) → is_among new n ≡ cond (number == n) false (is_among due n)
+strike_due due new number struck n = struck n ∙ ap (λ b. is_among due n && not b) (turned n number) ∙ unless (number == n) (is_among due n)
+  where
+    unless : (b had : Bool) → (had && not b) ≡ cond b false had
+    unless true true = refl
+    unless true false = refl
+    unless false true = refl
+    unless false false = refl
 
 -- a number that isn't due is left so
-pub not_due : (due : BTreeSet ℕ) (number : ℕ) → contains nat_cmp due number ≡ false → (n : ℕ) → contains nat_cmp due n ≡ cond (number == n) false (contains nat_cmp due n)
+pub not_due : (due : List ℕ) (number : ℕ) → is_among due number ≡ false → (n : ℕ) → is_among due n ≡ cond (number == n) false (is_among due n)
 not_due due number off n =
     ⊎_elim
-    (λ (same : number ≡ n). ap (contains nat_cmp due) (sym same) ∙ off ∙ sym (ap (λ b. cond b false (contains nat_cmp due n)) (eq-eqb number n same)))
-    (λ (apart : number ≢ n). sym (ap (λ b. cond b false (contains nat_cmp due n)) (ne_eqb number n apart)))
+    (λ (same : number ≡ n). ap (is_among due) (sym same) ∙ off ∙ sym (ap (λ b. cond b false (is_among due n)) (eq-eqb number n same)))
+    (λ (apart : number ≢ n). sym (ap (λ b. cond b false (is_among due n)) (ne_eqb number n apart)))
     (cases_eq number n)
 
 -- an entry that was put in and taken out again
@@ -155,20 +174,20 @@ module _ (numbers : List ℕ) (last : ℕ) where
       ⊎_elim (λ (before : is_among numbers n ≡ true). inl before) (λ (here : (n == last) ≡ true). inr (eqb-true n last here))
       (or_cases (is_among numbers n) (n == last) (sym (among_more n) ∙ among))
 
-module _ (had : BTreeSet ℕ) where
-  -- each of these entries has its number in the set, or among those that it lacks
+module _ (had : List ℕ) where
+  -- each of these entries has its number in the one list, or in the other
   abbrev pub AreGoneOver : List (ℕ × ℕ) → List ℕ → Type 0
-  AreGoneOver entries lacking = (root n : ℕ) → list_any (is_at (entry_cmp (root, n))) entries ≡ true → (contains nat_cmp had n || is_among lacking n) ≡ true
+  AreGoneOver entries lacking = (root n : ℕ) → list_any (is_at (entry_cmp (root, n))) entries ≡ true → (is_among had n || is_among lacking n) ≡ true
 
   -- so it is of one entry more
   module _ (entries : List (ℕ × ℕ)) (entry : ℕ × ℕ) (lacking : List ℕ) (gone : AreGoneOver entries lacking) where
-    gone_over : (more : List ℕ) → ((n : ℕ) → is_among lacking n ≡ true → is_among more n ≡ true) → (contains nat_cmp had entry.1 || is_among more entry.1) ≡ true → AreGoneOver (entries ++ entry ∷ []) more
+    gone_over : (more : List ℕ) → ((n : ℕ) → is_among lacking n ≡ true → is_among more n ≡ true) → (is_among had entry.1 || is_among more entry.1) ≡ true → AreGoneOver (entries ++ entry ∷ []) more
     gone_over more kept here root n any =
         ⊎_elim
-        (λ (before : list_any (is_at (entry_cmp (root, n))) entries ≡ true). still (contains nat_cmp had n) (is_among lacking n) (is_among more n) (kept n) (gone root n before))
+        (λ (before : list_any (is_at (entry_cmp (root, n))) entries ≡ true). still (is_among had n) (is_among lacking n) (is_among more n) (kept n) (gone root n before))
         (λ (last : (is_at (entry_cmp (root, n)) entry || false) ≡ true).
         let own : n ≡ entry.1 = eqb-true n entry.1 (and_parts (root == entry.0) (n == entry.1) (sym (at_entry root n entry) ∙ or_alone (is_at (entry_cmp (root, n)) entry) last)).1 in
-        ap (λ k. contains nat_cmp had k || is_among more k) own ∙ here)
+        ap (λ k. is_among had k || is_among more k) own ∙ here)
         (or_cases (list_any (is_at (entry_cmp (root, n))) entries) (is_at (entry_cmp (root, n)) entry || false) (sym (list_any-append (is_at (entry_cmp (root, n))) entries (entry ∷ [])) ∙ any))
       where
         or_alone : (b : Bool) → (b || false) ≡ true → b ≡ true
@@ -179,22 +198,22 @@ module _ (had : BTreeSet ℕ) where
         still true b c more h = refl
         still false b c more h = more h
 
-    -- the set has its number
-    pub gone_by : contains nat_cmp had entry.1 ≡ true → AreGoneOver (entries ++ entry ∷ []) lacking
+    -- the first has its number
+    pub gone_by : is_among had entry.1 ≡ true → AreGoneOver (entries ++ entry ∷ []) lacking
     gone_by there = gone_over lacking (λ n among. among) (ap (λ b. b || is_among lacking entry.1) there)
 
-    -- the set lacks it
+    -- the first lacks it
     pub gone_more : AreGoneOver (entries ++ entry ∷ []) (lacking ++ entry.1 ∷ [])
-    gone_more = gone_over (lacking ++ entry.1 ∷ []) (among_kept lacking entry.1) (ap (λ b. contains nat_cmp had entry.1 || b) (among_last lacking entry.1) ∙ or_true (contains nat_cmp had entry.1))
+    gone_more = gone_over (lacking ++ entry.1 ∷ []) (among_kept lacking entry.1) (ap (λ b. is_among had entry.1 || b) (among_last lacking entry.1) ∙ or_true (is_among had entry.1))
       where
         or_true : (b : Bool) → (b || true) ≡ true
         or_true true = refl
         or_true false = refl
 
-  pub lacking_more : (lacking : List ℕ) (number : ℕ) → ((n : ℕ) → is_among lacking n ≡ true → contains nat_cmp had n ≡ false) → contains nat_cmp had number ≡ false
-      → (n : ℕ) → is_among (lacking ++ number ∷ []) n ≡ true → contains nat_cmp had n ≡ false
+  pub lacking_more : (lacking : List ℕ) (number : ℕ) → ((n : ℕ) → is_among lacking n ≡ true → is_among had n ≡ false) → is_among had number ≡ false
+      → (n : ℕ) → is_among (lacking ++ number ∷ []) n ≡ true → is_among had n ≡ false
   lacking_more lacking number lacks off n among =
-      ⊎_elim (λ (before : is_among lacking n ≡ true). lacks n before) (λ (same : n ≡ number). ap (contains nat_cmp had) same ∙ off) (among_either lacking number n among)
+      ⊎_elim (λ (before : is_among lacking n ≡ true). lacks n before) (λ (same : n ≡ number). ap (is_among had) same ∙ off) (among_either lacking number n among)
 
 module _ (by_root : BTreeSet (ℕ × ℕ)) (lo hi : ℕ) where
   pub between_more : (lacking : List ℕ) (entry : ℕ × ℕ) → ((n : ℕ) → is_among lacking n ≡ true → IsNumberedBetween by_root lo hi n) → IsKeyInRange entry_cmp (Included (lo, 0)) (Excluded (hi, 0)) by_root entry
@@ -208,21 +227,31 @@ module _ (by_root : BTreeSet (ℕ × ℕ)) (lo hi : ℕ) where
       })
       (among_either lacking entry.1 n among)
 
-  module _ (had new : BTreeSet ℕ) where
-    -- with those that it lacked the set has all
-    module _ (lacking : List ℕ) (lacks : LackBetween by_root lo hi had lacking) (is : (n : ℕ) → contains nat_cmp new n ≡ (contains nat_cmp had n || is_among lacking n)) where
+  -- the same numbers in another order
+  pub lacking_sorted : (had lacking sorted : List ℕ) → IsPermutation lacking sorted → LackBetween by_root lo hi had lacking → LackBetween by_root lo hi had sorted
+  lacking_sorted had lacking sorted moved lacks =
+      let same = λ (n : ℕ). list_any-IsPermutation (λ m. n == m) lacking sorted moved in
+      record {
+        lacking = λ n among. lacks.lacking n (same n ∙ among);
+        between = λ n among. lacks.between n (same n ∙ among);
+        all = λ root n stands between. ap (λ b. is_among had n || b) (sym (same n)) ∙ lacks.all root n stands between;
+      }
+
+  module _ (had new : List ℕ) where
+    -- with those that it lacked a list has all
+    module _ (lacking : List ℕ) (lacks : LackBetween by_root lo hi had lacking) (is : (n : ℕ) → is_among new n ≡ (is_among had n || is_among lacking n)) where
       pub adds_lacking : AddsBetween by_root lo hi had new
       adds_lacking = record {
         kept = λ n there. is n ∙ ap (λ b. b || is_among lacking n) there;
         only = λ n here.
-            ⊎_elim (λ (old : contains nat_cmp had n ≡ true). inl old) (λ (among : is_among lacking n ≡ true). inr (lacks.between n among))
-            (or_cases (contains nat_cmp had n) (is_among lacking n) (sym (is n) ∙ here));
+            ⊎_elim (λ (old : is_among had n ≡ true). inl old) (λ (among : is_among lacking n ≡ true). inr (lacks.between n among))
+            (or_cases (is_among had n) (is_among lacking n) (sym (is n) ∙ here));
       }
 
       pub has_all : HasAllBetween by_root lo hi new
       has_all = λ root n stands between. is n ∙ lacks.all root n stands between
 
-    pub adds_none : ((n : ℕ) → contains nat_cmp new n ≡ contains nat_cmp had n) → AddsBetween by_root lo hi had new
+    pub adds_none : ((n : ℕ) → is_among new n ≡ is_among had n) → AddsBetween by_root lo hi had new
     adds_none same = record { kept = λ n there. same n ∙ there; only = λ n here. inl (sym (same n) ∙ here) }
 
 -- an entry between two root keys is in the part between their first entries

@@ -5,7 +5,7 @@ use Rattle.std.specs.Ordering.{nat_cmp, ordering_then}
 use Rattle.std.specs.declared.cmp.Ordering.{Ordering}
 use Rattle.std.specs.BTreeSet.{BTreeSet, contains}
 
--- entries are in the order of their root keys, and of their arrival numbers where these are the same
+-- entries are in the order of their root keys, and of their arrival numbers if these are the same
 abbrev pub entry_cmp : ℕ × ℕ → ℕ × ℕ → Ordering
 entry_cmp x y = ordering_then (nat_cmp x.0 y.0) (nat_cmp x.1 y.1)
 
@@ -13,18 +13,22 @@ entry_cmp x y = ordering_then (nat_cmp x.0 y.0) (nat_cmp x.1 y.1)
 abbrev pub has_entry : BTreeSet (ℕ × ℕ) → ℕ → ℕ → Bool
 has_entry by_root root number = contains entry_cmp by_root (root, number)
 
--- the index has the root key with the arrival number or not, and the number is due or not, and else both sets have what they
--- had
-pub record SetsEntry (root number : ℕ) (stands is_due : Bool)
-    (old : BTreeSet (ℕ × ℕ)) (old_due : BTreeSet ℕ) (new : BTreeSet (ℕ × ℕ)) (new_due : BTreeSet ℕ) : Type 0 where
-  pub entries : (r n : ℕ) → has_entry new r n ≡ (if (root == r) && (number == n) then stands else has_entry old r n)
-  pub due : (n : ℕ) → contains nat_cmp new_due n ≡ (if number == n then is_due else contains nat_cmp old_due n)
+-- the number is one of these
+abbrev pub is_among : List ℕ → ℕ → Bool
+is_among numbers number = list_any (λ n. number == n) numbers
 
--- both sets have what they had
+-- the index has the root key with the arrival number or not, and the number is due or not;
+-- otherwise both sets are as they were
+pub record SetsEntry (root number : ℕ) (stands is_due : Bool)
+    (old : BTreeSet (ℕ × ℕ)) (old_due : List ℕ) (new : BTreeSet (ℕ × ℕ)) (new_due : List ℕ) : Type 0 where
+  pub entries : (r n : ℕ) → has_entry new r n ≡ (if (root == r) && (number == n) then stands else has_entry old r n)
+  pub due : (n : ℕ) → is_among new_due n ≡ (if number == n then is_due else is_among old_due n)
+
+-- both sets are as they were
 pub record HasSameEntries
-    (old : BTreeSet (ℕ × ℕ)) (old_due : BTreeSet ℕ) (new : BTreeSet (ℕ × ℕ)) (new_due : BTreeSet ℕ) : Type 0 where
+    (old : BTreeSet (ℕ × ℕ)) (old_due : List ℕ) (new : BTreeSet (ℕ × ℕ)) (new_due : List ℕ) : Type 0 where
   pub entries : (root number : ℕ) → has_entry new root number ≡ has_entry old root number
-  pub due : (number : ℕ) → contains nat_cmp new_due number ≡ contains nat_cmp old_due number
+  pub due : (number : ℕ) → is_among new_due number ≡ is_among old_due number
 
 -- the root key is from lo on and below hi
 abbrev pub is_between : ℕ → ℕ → ℕ → Bool
@@ -36,27 +40,23 @@ pub record IsNumberedBetween (by_root : BTreeSet (ℕ × ℕ)) (lo hi number : �
   pub stands : has_entry by_root root number ≡ true
   pub between : is_between lo hi root ≡ true
 
--- the number is one of these
-abbrev pub is_among : List ℕ → ℕ → Bool
-is_among numbers number = list_any (λ n. number == n) numbers
-
 -- the numbers are those that the set lacks of all root keys from lo on and below hi
-pub record LackBetween (by_root : BTreeSet (ℕ × ℕ)) (lo hi : ℕ) (set : BTreeSet ℕ) (numbers : List ℕ) : Type 0 where
-  pub lacking : (number : ℕ) → is_among numbers number ≡ true → contains nat_cmp set number ≡ false
+pub record LackBetween (by_root : BTreeSet (ℕ × ℕ)) (lo hi : ℕ) (had : List ℕ) (numbers : List ℕ) : Type 0 where
+  pub lacking : (number : ℕ) → is_among numbers number ≡ true → is_among had number ≡ false
   pub between : (number : ℕ) → is_among numbers number ≡ true → IsNumberedBetween by_root lo hi number
   pub all : (root number : ℕ) → has_entry by_root root number ≡ true → is_between lo hi root ≡ true
-      → (contains nat_cmp set number || is_among numbers number) ≡ true
+      → (is_among had number || is_among numbers number) ≡ true
 
--- the set has what it had, and else only arrival numbers of root keys from lo on and below hi
-pub record AddsBetween (by_root : BTreeSet (ℕ × ℕ)) (lo hi : ℕ) (old new : BTreeSet ℕ) : Type 0 where
-  pub kept : (number : ℕ) → contains nat_cmp old number ≡ true → contains nat_cmp new number ≡ true
-  pub only : (number : ℕ) → contains nat_cmp new number ≡ true
-      → (contains nat_cmp old number ≡ true) ⊎ IsNumberedBetween by_root lo hi number
+-- the set has what it had, and besides only arrival numbers of root keys from lo on and below hi
+pub record AddsBetween (by_root : BTreeSet (ℕ × ℕ)) (lo hi : ℕ) (old new : List ℕ) : Type 0 where
+  pub kept : (number : ℕ) → is_among old number ≡ true → is_among new number ≡ true
+  pub only : (number : ℕ) → is_among new number ≡ true
+      → (is_among old number ≡ true) ⊎ IsNumberedBetween by_root lo hi number
 
 -- the set has the arrival numbers of all root keys from lo on and below hi
-abbrev pub HasAllBetween : BTreeSet (ℕ × ℕ) → ℕ → ℕ → BTreeSet ℕ → Type 0
+abbrev pub HasAllBetween : BTreeSet (ℕ × ℕ) → ℕ → ℕ → List ℕ → Type 0
 HasAllBetween by_root lo hi numbers =
-    (root number : ℕ) → has_entry by_root root number ≡ true → is_between lo hi root ≡ true → contains nat_cmp numbers number ≡ true
+    (root number : ℕ) → has_entry by_root root number ≡ true → is_between lo hi root ≡ true → is_among numbers number ≡ true
 
 -- the number is the least that the index has with the root key
 pub record IsFirstOf (by_root : BTreeSet (ℕ × ℕ)) (root number : ℕ) : Type 0 where

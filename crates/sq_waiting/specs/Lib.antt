@@ -1,3 +1,4 @@
 pub mod Index
-pub mod Waiting
 pub mod Indexed
+pub mod Slots
+pub mod Waiting

@@ -1,14 +1,15 @@
--- Transactions that wait, in the order in which they came.
+-- Waiting transactions, in their order of arrival.
 use Rattle.std.specs.Prelude.{◌+◌, ◌==◌, ◌||◌, ◌&&◌, ◌++◌, ◌∷◌, [], ℕ, Bool, nat_le, if◌then◌else◌, List, map, find, length, Option, option_map}
 use Rattle.sq_schema.specs.TxnValue.{TxnValue}
 
--- a waiting transaction: its arrival number, and whether it is due, that is, looked at when one is taken up
+-- a waiting transaction: its arrival number, and whether it is due, that is, a candidate to be
+-- resumed
 pub record Arrival : Type 0 where
   pub number : ℕ
   pub txn : TxnValue
   pub is_due : Bool
 
--- the waiting transactions in the order in which they came, and the arrival number of the next
+-- the waiting transactions in their order of arrival, and the arrival number of the next
 pub record WaitingValue : Type 0 where
   pub arrivals : List Arrival
   pub next : ℕ
@@ -27,7 +28,7 @@ is_on root a = a.txn.root == root
 abbrev pub is_numbered : ℕ → Arrival → Bool
 is_numbered number a = number == a.number
 
--- it is due, and its arrival number isn't below this one
+-- it is due, and its arrival number is this one or greater
 abbrev pub is_due_from : ℕ → Arrival → Bool
 is_due_from number a = nat_le number a.number && a.is_due
 
@@ -45,15 +46,15 @@ abbrev pub numbered_from : ℕ → List Arrival → List Arrival
 numbered_from number [] = []
 numbered_from number (a ∷ arrivals) = record a { number = number } ∷ numbered_from (number + 1) arrivals
 
--- the greatest arrival number that there could be, which none gets
+-- the bound of arrival numbers, which none gets
 abbrev pub no_number : ℕ
 no_number = 18446744073709551615
 
--- all with arrival numbers from 0 on
+-- all renumbered from 0
 abbrev pub numbered_anew : WaitingValue → WaitingValue
 numbered_anew w = record { arrivals = numbered_from 0 w.arrivals; next = length w.arrivals }
 
--- before one more waits: where there is no number for it, all are numbered anew
+-- before one more waits: if no number is left for it, all are renumbered
 abbrev pub with_a_number_left : WaitingValue → WaitingValue
 with_a_number_left w = if w.next == no_number then numbered_anew w else w
 

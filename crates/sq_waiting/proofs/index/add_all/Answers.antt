@@ -1,10 +1,6 @@
 use Rattle.std.proofs.Common.{◌≡◌, ℕ, true, false, ◌||◌, not, Bool, List, [], ◌∷◌, take, zero, suc, Result, Ok, Err, refl, sym, ap, ◌∙◌}
 use Rattle.std.specs.Prelude.{◌&&◌, ◌==◌, OnErr}
-use Rattle.std.specs.Ordering.{nat_cmp}
-use Rattle.std.specs.List.{list_any}
 use Rattle.std.specs.Result.{is_ok}
-use Rattle.std.specs.BTreeMap.{is_at}
-use Rattle.std.specs.BTreeSet.{contains}
 use Rattle.std.proofs.lemmas.Bool.{true≢false}
 use Rattle.sq_waiting.specs.Index.{is_among}
 use Rattle.sq_waiting.proofs.index.add_all.Goals as goal
@@ -32,6 +28,6 @@ on_err (Err e) fails p = p
 pub returns-then-is_err-clause-err : goal.returns-then-is_err-clause-err
 returns-then-is_err-clause-err c = λ n.
     let among = is_among (take c.loop-at.at c.args.lacking.now) n in
-    let same = on_err c.insert.result c.if-is_err.ensures.negation c.insert.ensures.err in
-    c.remove_all.ensures n ∙ ap (λ ks. list_any (is_at (nat_cmp n)) ks && not among) same ∙ ap (λ b. b && not among) (c.loop-at.invariant n)
-    ∙ undone (contains nat_cmp c.args.numbers.now n) among (λ first. c.requires n (among_first c.loop-at.at c.args.lacking.now n first))
+    let same = on_err c.put.result c.if-is_err.ensures.negation c.put.ensures.err in
+    c.remove_all.ensures n ∙ ap (λ ns. is_among ns n && not among) same ∙ ap (λ b. b && not among) (c.loop-at.invariant n)
+    ∙ undone (is_among c.args.numbers.now n) among (λ first. c.requires n (among_first c.loop-at.at c.args.lacking.now n first))

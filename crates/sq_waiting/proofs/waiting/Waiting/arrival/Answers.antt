@@ -10,7 +10,7 @@ use Rattle.sq_waiting.proofs.waiting.Waiting.arrival.Goals as goal
 pub returns-clause-number : goal.returns-clause-number
 returns-clause-number c =
     let root = c.args.root in
-    first_arrival c.self.inside.txns c.self.inside.by_root c.self.inside.due c.self.inside.due_below c.self.inside.next c.self.invariant root c.first_of.result (subst (λ key. FirstOf c.self.inside.by_root key c.first_of.result) c.number.ensures.number c.first_of.ensures)
+    first_arrival c.self.inside.txns.entries c.self.inside.by_root c.self.inside.due c.self.inside.due_below c.self.inside.txns.next c.self.invariant root c.first_of.result (subst (λ key. FirstOf c.self.inside.by_root key c.first_of.result) c.number.ensures.number c.first_of.ensures)
     ∙ ap (λ (w : WaitingValue). option_map (λ (a : Arrival). a.number) (find (is_on root) w.arrivals)) c.self.view_is
 
 pub returns-clause-rises : goal.returns-clause-rises

@@ -15,16 +15,16 @@ on_err follows (Ok x) p = tt
 on_err follows (Err e) p = follows p
 
 pub invariant_of-self : goal.invariant_of-self
-invariant_of-self c = adds_indexed c.self.inside.txns c.self.inside.by_root c.self.inside.due c.self.inside.due_below c.self.inside.next c.self.invariant c.args.lo c.args.hi c.add_between.new.numbers c.add_between.ensures.adds
+invariant_of-self c = adds_indexed c.self.inside.txns.entries c.self.inside.by_root c.self.inside.due c.self.inside.due_below c.self.inside.txns.next c.self.invariant c.args.lo c.args.hi c.add_between.new.numbers c.add_between.ensures.adds
 
 pub returns-clause-ok : goal.returns-clause-ok
 returns-clause-ok c =
     on_ok (λ all.
-    adds_all c.self.inside.txns c.self.inside.by_root c.self.inside.due c.self.inside.due_below c.self.inside.next c.self.invariant c.args.lo c.args.hi c.add_between.new.numbers c.add_between.ensures.adds all
+    adds_all c.self.inside.txns.entries c.self.inside.by_root c.self.inside.due c.self.inside.due_below c.self.inside.txns.next c.self.invariant c.args.lo c.args.hi c.add_between.new.numbers c.add_between.ensures.adds all
     ∙ ap (with_due (λ a. is_between c.args.lo c.args.hi (a.txn).root)) c.self.view_is) c.add_between.result c.add_between.ensures.ok
 
 pub returns-clause-err : goal.returns-clause-err
 returns-clause-err c =
     on_err (λ same.
-    due_alike c.self.inside.txns c.self.inside.by_root c.self.inside.due c.self.inside.due_below c.self.inside.next c.self.invariant c.add_between.new.numbers same
+    due_alike c.self.inside.txns.entries c.self.inside.by_root c.self.inside.due c.self.inside.due_below c.self.inside.txns.next c.self.invariant c.add_between.new.numbers same
     ∙ c.self.view_is) c.add_between.result c.add_between.ensures.err
