@@ -1,5 +1,5 @@
 -- A partition enters a stage.
-use Rattle.std.proofs.Common.{◌≡◌, ℕ, Bool, true, false, ◌||◌, List, [], ◌∷◌, map, refl, ap, ◌∙◌}
+use Rattle.std.proofs.Common.{◌≡◌, ℕ, Bool, true, false, ◌||◌, List, [], ◌∷◌, map, refl, ap, subst, ◌∙◌}
 use Rattle.std.specs.Prelude.{◌&&◌, is_some}
 use Rattle.std.specs.List.{list_all}
 use Rattle.sq_schema.specs.TxnValue.{TxnValue}
@@ -43,3 +43,37 @@ module _ (stage : ℕ) (old new : WaitingValue) (all : new ≡ with_due (λ a. t
   was_entered {seen} view_is waiting_is numbering_is =
       (λ k. record seen { core = record seen.core { stage = stage; waiting = (same_txns ∙ waiting_is) k }; numbering = (same_numbering old new (more_by (λ a. true) all) ∙ numbering_is) k })
       ∙ ap (λ (v : PartCoreValue). record v { core = entered_core stage v.core }) view_is
+
+module _ (old new : WaitingValue) (all : new ≡ with_due (λ a. true) old) where
+  -- what it hands out when it is closed: the same transactions with the same numbers, all of them due
+  pub all_due : list_all (λ a. a.is_due) new.arrivals ≡ true
+  all_due = ap (λ (w : WaitingValue). list_all (λ (a : Arrival). a.is_due) w.arrivals) all ∙ each old.arrivals
+    where
+      or_true : (b : Bool) → (b || true) ≡ true
+      or_true true = refl
+      or_true false = refl
+
+      each : (arrivals : List Arrival) → list_all (λ (a : Arrival). a.is_due) (map (due_if (λ a. true)) arrivals) ≡ true
+      each [] = refl
+      each (a ∷ arrivals) = λ k. or_true a.is_due k && each arrivals k
+
+  module _ {seen now : PartCoreValue} (view_is : seen ≡ now) where
+    pub closed_txns : txns_of old.arrivals ≡ seen.core.waiting → txns_of new.arrivals ≡ now.core.waiting
+    closed_txns waiting_is = same_waiting old new (more_by (λ a. true) all) ∙ waiting_is ∙ ap (λ (v : PartCoreValue). v.core.waiting) view_is
+
+    pub closed_numbers : numbers_of old.arrivals ≡ seen.numbering.numbers → numbers_of new.arrivals ≡ now.numbering.numbers
+    closed_numbers numbers_are =
+        ap (λ (n : Numbering). n.numbers) (same_numbering old new (more_by (λ a. true) all)) ∙ numbers_are ∙ ap (λ (v : PartCoreValue). v.numbering.numbers) view_is
+
+    pub closed_kept : IsCore seen.core old.arrivals → IsCore now.core new.arrivals
+    closed_kept is =
+        subst (λ (v : PartCoreValue). IsCore v.core new.arrivals) view_is
+        (record {
+          outs = is.outs;
+          inboxes = is.inboxes;
+          given_up = is.given_up;
+          loaded = is.loaded;
+          ends = is.ends;
+          moving = is.moving;
+          due = ap (λ (w : WaitingValue). list_all (is_due_here seen.core) w.arrivals) all ∙ all_are_due seen.core old.arrivals;
+        })

@@ -15,3 +15,4 @@ pub mod Coming
 pub mod Readies
 pub mod Enters
 pub mod Families
+pub mod Tiles

@@ -1,11 +1,11 @@
--- A single partition, as it is kept.
+-- A single partition, as it is stored.
 use Rattle.std.specs.Prelude.{map}
 use Rattle.sq_waiting.specs.Waiting.{txns_of}
 use Rattle.sq_store.specs.StoreValue.{StoreValue}
 use Rattle.sq_exec.specs.declared.part_core.PartCore.TheInside.{Inside}
 use Rattle.sq_exec.specs.CoreValue.{CoreValue}
 
--- the partition that is kept so, whose store has these contents
+-- the partition that is stored so, whose store has these contents
 abbrev pub core_inside : {S : Type 0} → (S → StoreValue) → Inside S → CoreValue
 core_inside contents p =
     record {

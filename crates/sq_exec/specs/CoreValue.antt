@@ -12,10 +12,10 @@ use Rattle.sq_exec.specs.declared.run.Run.{Run}
 use Rattle.sq_exec.specs.GivenUp.{none_given_up}
 use Rattle.sq_exec.specs.OutLink.{OutLinkValue, new_out_link}
 
--- a partition: the plan before the move and what moves, how many bytes of families a chunk holds, whether the move has
--- started, and which stage runs; its families, and the transactions that wait in the order in which they came; for each
--- partition the end of the link to it, and the chunk that came from it; and for each segment the leaves that were given up,
--- and what was loaded
+-- a partition: the plan before the move and what moves, the limit of a chunk in bytes, whether the
+-- move has started, and the running stage; its families, and the waiting transactions in their
+-- order of arrival; for each partition the end of the link to it, and the chunk that came from it;
+-- and for each segment the leaves that were given up, and what was loaded
 pub record CoreValue : Type 0 where
   pub part : ℕ
   pub plan : PlanValue
@@ -35,7 +35,8 @@ pub record Numbering : Type 0 where
   pub numbers : List ℕ
   pub next : ℕ
 
--- a partition, with whether there is room for what the next Begin adds, and the arrival numbers of what waits
+-- a partition, with whether there is room for what the next Begin adds, and the arrival numbers of
+-- the waiting transactions
 pub record PartCoreValue : Type 0 where
   pub core : CoreValue
   pub has_room : Bool
@@ -63,7 +64,7 @@ opened_core o part store =
 abbrev pub folded_core : CoreValue → CoreValue
 folded_core core = record core { store = folded_store core.store }
 
--- a partition that knows which stage runs now
+-- a partition in this stage
 abbrev pub entered_core : ℕ → CoreValue → CoreValue
 entered_core stage core = record core { stage = stage }
 
@@ -74,7 +75,7 @@ out_at core dst = slice_index_or core.outs dst new_out_link
 abbrev pub with_out : CoreValue → ℕ → OutLinkValue → CoreValue
 with_out core dst out = record core { outs = slice_set core.outs dst out }
 
--- the chunk that came from a partition and isn't loaded
+-- the chunk that came from a partition and isn't loaded yet
 abbrev pub inbox_at : CoreValue → ℕ → Option ChunkValue
 inbox_at core src = slice_index_or core.inboxes src None
 

@@ -11,6 +11,6 @@ none_given_up = replicate LEAVES false
 abbrev pub is_given_up : List Bool → ℕ → Bool
 is_given_up leaves leaf = slice_index_or leaves leaf false
 
--- the leaves that are given up once a node more is begun
+-- the leaves that are given up once one more node is begun
 abbrev pub given_up_with : List Bool → ℕ → List Bool
 given_up_with leaves node = map (λ leaf. is_given_up leaves leaf || is_above node leaf) (range_with_len 0 LEAVES)

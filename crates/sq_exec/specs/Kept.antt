@@ -1,4 +1,4 @@
--- What holds of every partition.
+-- The invariant of every partition.
 use Rattle.std.specs.Prelude.{◌≡◌, Bool, true, ◌||◌, List, length, is_some}
 use Rattle.std.specs.List.{list_all}
 use Rattle.sq_ranges.specs.ReconValue.{leaf_at}
@@ -10,8 +10,9 @@ use Rattle.sq_exec.specs.Location.{is_coming_here}
 abbrev pub is_due_here : CoreValue → Arrival → Bool
 is_due_here core a = a.is_due || is_coming_here core (a.txn).root
 
--- each partition and each segment has its place, each segment goes from one partition to another, what waits moves, and all
--- of it whose rows aren't on their way here is due
+-- each partition and each segment has its place, each segment goes from one partition to another,
+-- the waiting transactions are on keys that move, and all of them whose rows aren't on their way
+-- here are due
 pub record IsCore (core : CoreValue) (arrivals : List Arrival) : Type 0 where
   pub outs : length core.outs ≡ core.plan.parts
   pub inboxes : length core.inboxes ≡ core.plan.parts

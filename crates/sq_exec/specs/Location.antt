@@ -21,8 +21,8 @@ location_in core root at segment =
       loaded = is_loaded (loaded_at core at.0) root;
     }
 
--- where a root key is that moves: its segment and leaf, the ends of the segment and its stage, and whether the key was
--- given up and loaded here; none where it doesn't move
+-- the location of a root key that moves: its segment and leaf, the ends of the segment and its
+-- stage, and whether the key was given up and loaded here; none if it doesn't move
 abbrev pub location : CoreValue → ℕ → Option Location
 location core root =
     option_and_then (λ at. option_map (location_in core root at) (slice_get core.recon.segments at.0)) (leaf_at core.recon root)
@@ -31,7 +31,7 @@ abbrev pub is_coming_from : CoreValue → Option Location → Bool
 is_coming_from core None = false
 is_coming_from core (Some at) = core.started && ((at.stage == core.stage) && ((at.dst == core.part) && not at.loaded))
 
--- the root key comes to this partition in the running stage and isn't loaded
+-- the root key moves to this partition in the running stage and isn't loaded yet
 abbrev pub is_coming_here : CoreValue → ℕ → Bool
 is_coming_here core root = is_coming_from core (location core root)
 
@@ -43,9 +43,9 @@ route_from core root (Some at) =
     else if (at.dst == core.part) && at.loaded then at.dst
     else at.src
 
--- the partition that transactions on the root key go to, as far as this one can know: its owner where it doesn't move,
--- the destination once its stage went, and else the source until it gave the key up, and the destination from then on
--- at the source, and once it loaded the key at the destination
+-- the partition that transactions on the root key go to, as far as this one can know: its owner if
+-- it doesn't move; the destination after its stage; and otherwise the source, until this partition
+-- gave the key up as its source or loaded it as its destination, and from then on the destination
 abbrev pub route : CoreValue → ℕ → ℕ
 route core root = route_from core root (location core root)
 

@@ -31,11 +31,13 @@ begun_in core seg node pull (Some segment) =
       given_up = slice_set core.given_up seg (given_up_with (given_up_at core seg) node);
     }
 
--- the partition once it begins a node: its keys are the last work of the link, and its leaves are given up
+-- the partition once it begins a node: its keys are the last work of the link, and its leaves are
+-- given up
 abbrev pub begun_core : CoreValue → ℕ → ℕ → ℕ → CoreValue
 begun_core core seg node pull = begun_in core seg node pull (slice_get core.recon.segments seg)
 
--- a chunk for a partition was cut: the end of that link and the store are what the cut leaves, and all else is as it was
+-- a chunk for a partition was cut: the end of that link and the store are as the cut leaves them,
+-- and all else is as it was
 pub record CutsFor (old : CoreValue) (dst : ℕ) (note : Note) (new : CoreValue) : Type 0 where
   pub out : OutLinkValue
   pub store : StoreValue
@@ -52,8 +54,8 @@ can_load_in core src chunk (Some segment) =
     && (lies_in chunk.note (extent core.recon.width segment chunk.note.node)
     && (not (is_met (loaded_at core chunk.note.seg) chunk.note) && has_none_of core.store chunk.families)))
 
--- the chunk is about a node of a segment that comes here from this partition, none of the keys that it covers is loaded,
--- and none of its families is here
+-- the chunk is about a node of a segment that moves here from this partition, none of the keys that
+-- it covers is loaded, and none of its families is here
 abbrev pub can_load : CoreValue → ℕ → ChunkValue → Bool
 can_load core src chunk = can_load_in core src chunk (slice_get core.recon.segments chunk.note.seg)
 
@@ -61,13 +63,14 @@ can_load core src chunk = can_load_in core src chunk (slice_get core.recon.segme
 abbrev pub may_load : CoreValue → ℕ → Bool
 may_load core src = option_map_or (can_load core src) (inbox_at core src) false
 
--- the chunk of an inbox with this note went into a store: its families are there, and the inbox is empty
+-- the chunk of an inbox with this note was moved to a store: its families are there, and the inbox
+-- is empty
 abbrev pub GivesChunk : Option ChunkValue → StoreValue → Note → Option ChunkValue → StoreValue → Type 0
 GivesChunk inbox store note emptied filled =
     (families : List FamilyValue) × (inbox ≡ Some (record { note = note; families = families })) × (emptied ≡ None)
     × (filled ≡ with_families store families)
 
--- why no chunk is loaded: none came; else memory ran out
+-- why no chunk is loaded: none came, or else memory ran out
 abbrev pub load_fault : CoreValue → ℕ → LoadFault
 load_fault core src = if is_some (inbox_at core src) then fault.Memory else fault.InboxEmpty
 
@@ -78,7 +81,8 @@ loaded_core core src chunk =
       loaded = slice_set core.loaded chunk.note.seg (runs_with (loaded_at core chunk.note.seg) chunk.note);
     }
 
--- the chunk that came from this partition was loaded: all of its families are here, and the keys that it covers are loaded
+-- the chunk that came from this partition was loaded: all of its families are here, and the keys
+-- that it covers are loaded
 pub record LoadsFrom (old : CoreValue) (src : ℕ) (note : Note) (new : CoreValue) : Type 0 where
   pub chunk : ChunkValue
   pub came : inbox_at old src ≡ Some chunk

@@ -6,12 +6,12 @@ use Rattle.sq_exec.specs.declared.outcome.Outcome.TheVariants.{Done, Moved, Wait
 use Rattle.sq_exec.specs.CoreValue.{Numbering, PartCoreValue}
 use Rattle.sq_exec.specs.Serving.{is_ready_here}
 
--- as many numbers, from this one on
+-- this many numbers, from this one on
 abbrev pub counted_from : ℕ → List ℕ → List ℕ
 counted_from number [] = []
 counted_from number (n ∷ numbers) = number ∷ counted_from (number + 1) numbers
 
--- one more waits, with the next number; where there is none, all are numbered anew from 0 before that
+-- one more waits, with the next number; if no number is left, all are first renumbered from 0
 abbrev pub with_arrival : Numbering → Numbering
 with_arrival n =
     if n.next == no_number then record { numbers = counted_from 0 n.numbers ++ length n.numbers ∷ []; next = length n.numbers + 1 }
@@ -33,7 +33,8 @@ pub record IsFirstReady (p : PartCoreValue) (number : ℕ) : Type 0 where
   pub first : position (is_ready_here p.core) p.core.waiting ≡ Some place
   pub found : slice_get p.numbering.numbers place ≡ Some number
 
--- the first waiting transaction that was ready took its arrival number with it, and all others kept theirs
+-- the first waiting transaction that was ready took its arrival number with it, and all others kept
+-- theirs
 pub record TakesNumber (old new : PartCoreValue) : Type 0 where
   pub place : ℕ
   pub first : position (is_ready_here old.core) old.core.waiting ≡ Some place

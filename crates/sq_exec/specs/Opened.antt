@@ -14,16 +14,17 @@ use Rattle.sq_exec.specs.CoreValue.{CoreValue, opened_core}
 abbrev pub opened_part : OpeningValue → ℕ → CoreValue
 opened_part o part = opened_core o part (with_families empty (opened_families o.old part o.table))
 
--- the family that a root key opens with that has these rows, if it has some
+-- the family that a root key with these rows opens with, if it has rows
 abbrev pub opened_at : RowList → ℕ → Option FamilyValue
 opened_at rows root = if not (length rows == 0) then Some (opened_family (root, rows)) else None
 
--- the store has the families of the root keys that the partition owns, by the owners and the families of root keys, and no
--- others
+-- the store has the families of the root keys that the partition owns, by these owners and families
+-- of root keys, and no others
 abbrev pub HasOwnedOf : (ℕ → ℕ) → (ℕ → Option FamilyValue) → ℕ → StoreValue → Type 0
 HasOwnedOf owners families part store = (root : ℕ) → get store root ≡ (if owners root == part then families root else None)
 
--- the store has the family of each root key with opening rows that the partition owns, as it opens, and no other
+-- the store has the family of each root key with opening rows that the partition owns, as it opens,
+-- and no other
 abbrev pub HasOwned : OpeningValue → ℕ → StoreValue → Type 0
 HasOwned o part store = HasOwnedOf (owner o.old) (λ root. opened_at (rows_in o.table root) root) part store
 

@@ -8,7 +8,8 @@ use Rattle.sq_exec.specs.declared.fault.CutFault.{CutFault}
 use Rattle.sq_exec.specs.declared.fault.CutFault.TheVariants as fault
 use Rattle.sq_exec.specs.Work.{WorkValue, next_work, work_at, work_after}
 
--- the notes of all chunks that were cut for the link, the open work in the order in which it was begun, and the chunk that isn't sent
+-- the notes of all chunks that were cut for the link, the open work in the order in which it was
+-- begun, and the chunk that isn't sent yet
 pub record OutLinkValue : Type 0 where
   pub notes : List Note
   pub work : List WorkValue
@@ -37,16 +38,16 @@ note_for ends out work end =
       last = end == work.hi;
     }
 
--- a chunk can be cut, but for memory
+-- a chunk can be cut, memory permitting
 abbrev pub may_cut : OutLinkValue → Bool
 may_cut out = is_none out.outbox && is_some (next_work out.work)
 
--- why no chunk is cut: the last one isn't sent, or there is no work; else memory ran out
+-- why no chunk is cut: the last one isn't sent, or there is no work, or else memory ran out
 abbrev pub cut_fault : OutLinkValue → CutFault
 cut_fault out = if is_some out.outbox then fault.OutboxFull else if is_none (next_work out.work) then fault.NothingToCut else fault.Memory
 
--- a chunk of the work at this place, which takes as many families as fit: its note, the end of the link with it, and the
--- store that it leaves
+-- a chunk of the work at this place, which takes as many families as fit: its note, the end of the
+-- link with it, and the store that it leaves
 abbrev pub cut_here : ℕ → Link → OutLinkValue → StoreValue → ℕ → Note × (OutLinkValue × StoreValue)
 cut_here limit ends out store at =
     let work = work_at out.work at in
@@ -63,7 +64,7 @@ cut_here limit ends out store at =
       ),
     )
 
--- a chunk of the work that is done next was cut, and came into the empty outbox
+-- a chunk of the next work was cut, and came into the empty outbox
 pub record IsCut (limit : ℕ) (ends : Link) (out : OutLinkValue) (store : StoreValue)
     (note : Note) (after : OutLinkValue) (left : StoreValue) : Type 0 where
   pub place : ℕ

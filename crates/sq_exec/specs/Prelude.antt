@@ -1,4 +1,5 @@
--- The words of this crate that contracts of other crates cite, passed on from one place. Declares nothing.
+-- The words of this crate that contracts of other crates cite, passed on from one place. Declares
+-- nothing.
 pub use Rattle.sq_exec.specs.Runs.{is_whole}
 pub use Rattle.sq_exec.specs.OutLink.{may_cut}
 pub use Rattle.sq_exec.specs.CoreValue.{CoreValue, entered_core, out_at, inbox_at, loaded_at}

@@ -12,11 +12,11 @@ run_has run key = nat_le run.lo key && nat_lt key run.hi
 abbrev pub meets : Note → Run → Bool
 meets note run = nat_lt (max run.lo note.lo) (min run.hi note.hi)
 
--- the chunk continues where the run ends
+-- the chunk continues at the end of the run
 abbrev pub goes_on : Note → Run → Bool
 goes_on note run = (run.node == note.node) && (nat_le run.lo run.hi && (run.hi == note.lo))
 
--- the run with the keys of a chunk that continues where it ends
+-- the run with the keys of a chunk that continues at its end
 abbrev pub run_with : Note → Run → Run
 run_with note run = record { node = run.node; lo = run.lo; hi = max run.hi note.hi; whole = run.whole || note.last }
 
@@ -28,7 +28,8 @@ abbrev pub grown : List Run → Note → Option ℕ → List Run
 grown runs note None = runs ++ run_of note ∷ []
 grown runs note (Some i) = slice_set runs i (run_with note (slice_index_or runs i (run_of note)))
 
--- the runs after a chunk was loaded: the first that it continues has its keys too, or it is a run of its own
+-- the runs after a chunk was loaded: the first that it continues has its keys too, or it is a run
+-- of its own
 abbrev pub runs_with : List Run → Note → List Run
 runs_with runs note = grown runs note (position (goes_on note) runs)
 

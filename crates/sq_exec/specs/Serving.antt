@@ -25,21 +25,23 @@ is_log_full store txn = nat_le MAX_LOG (log_length store txn.root)
 abbrev pub is_stuck : ℕ → ℕ → StoreValue → TxnValue → Bool
 is_stuck here who store txn = (who == here) && is_log_full store txn
 
--- a transaction that belongs to one partition is served at another: it runs where these are one, and else it is sent on;
--- with the store after it
+-- a transaction that belongs to one partition is served at another: it runs if these are the same,
+-- and is forwarded if not; with the store after it
 abbrev pub served : ℕ → ℕ → StoreValue → TxnValue → Outcome × StoreValue
 served here who store txn =
     if who == here then (Done (store_reply store txn), store_after store txn (store_reply store txn)) else (Moved who, store)
 
--- a transaction is served at the partition, which belongs to the one that transactions on its root key go to
+-- a transaction is served at the partition; it belongs to the partition that transactions on its
+-- root key go to
 abbrev pub served_here : CoreValue → TxnValue → Outcome × StoreValue
 served_here core txn = served core.part (route core txn.root) core.store txn
 
--- a transaction on the root key has to wait: one does already, or the rows come and aren't here
+-- a transaction on the root key has to wait: another one waits, or the rows are coming and aren't
+-- here yet
 abbrev pub must_wait : CoreValue → ℕ → Bool
 must_wait core root = waits_for core root || is_coming_here core root
 
--- why a transaction isn't taken
+-- why a transaction is refused
 abbrev pub submit_refusal : CoreValue → TxnValue → Option SubmitFault
 submit_refusal core txn =
     if must_wait core txn.root then if nat_le MAX_WAITING (length core.waiting) then Some submit.WaitFull else None
@@ -50,7 +52,7 @@ submit_refusal core txn =
 abbrev pub submit_takes_memory : CoreValue → TxnValue → Bool
 submit_takes_memory core txn = must_wait core txn.root || (route core txn.root == core.part)
 
--- the transaction waits behind all others, and the answer has its segment and leaf
+-- the transaction waits after all others, and the answer has its segment and leaf
 pub record IsMadeToWait (old : CoreValue) (txn : TxnValue) (outcome : Outcome) (new : CoreValue) : Type 0 where
   pub at : Location
   pub moves : location old txn.root ≡ Some at
@@ -66,22 +68,23 @@ abbrev pub IsTaken : Bool → CoreValue → TxnValue → Outcome → CoreValue �
 IsTaken true old txn outcome new = IsMadeToWait old txn outcome new
 IsTaken false old txn outcome new = IsServed old txn outcome new
 
--- a waiting transaction can go: its rows aren't on their way here, and where it would run the log has room
+-- a waiting transaction can go: its rows aren't on their way here, and if it runs here, its log has
+-- room
 abbrev pub is_ready_here : CoreValue → TxnValue → Bool
 is_ready_here core txn = not (is_coming_here core txn.root) && not (is_stuck core.part (route core txn.root) core.store txn)
 
--- why one doesn't go: its rows are on their way, or else the log is full
+-- why a transaction stays: its rows are on their way, or else the log is full
 abbrev pub stays_by : Bool → ResumeFault
 stays_by true = resume.NoneReady
 stays_by false = resume.LogFull
 
--- why neither of two goes: that the log is full outweighs rows that are on their way
+-- the graver reason why two stay: a full log outweighs rows on their way
 abbrev pub graver : ResumeFault → ResumeFault → ResumeFault
 graver fault resume.NoneReady = fault
 graver fault resume.LogFull = resume.LogFull
 graver fault resume.Memory = resume.Memory
 
--- why no waiting transaction goes
+-- why every waiting transaction stays
 abbrev pub resume_refusal : CoreValue → Option ResumeFault
 resume_refusal core =
     if list_all (λ txn. is_coming_here core txn.root) core.waiting then Some resume.NoneReady
@@ -96,7 +99,7 @@ first_ready_here core = option_and_then (slice_get core.waiting) (position (is_r
 abbrev pub resume_takes_memory : CoreValue → Bool
 resume_takes_memory core = option_map_or (λ txn. route core txn.root == core.part) (first_ready_here core) false
 
--- the first waiting transaction that is ready was served, and waits no more
+-- the first waiting transaction that is ready was served, and no longer waits
 pub record IsResumed (old : CoreValue) (resumed : Resumed) (new : CoreValue) : Type 0 where
   pub place : ℕ
   pub first : position (is_ready_here old) old.waiting ≡ Some place

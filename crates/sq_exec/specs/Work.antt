@@ -1,13 +1,17 @@
--- What the source of a link has to cut.
-use Rattle.std.specs.Prelude.{ℕ, Bool, ◌%◌, ◌==◌, if◌then◌else◌, List, [], ◌∷◌, position, remove, slice_set, slice_index_or, Option, Some, None}
+-- What the source of a link still has to cut.
+use Rattle.std.specs.Prelude.{ℕ, Bool, ◌%◌, ◌==◌, ◌&&◌, if◌then◌else◌, List, [], ◌∷◌, position, remove, slice_set, slice_index_or, Option, Some, None}
 
--- a begun node that isn't cut to its end: what is left of it is from rest up to hi
+-- a node that was begun and isn't cut to its end yet: its rest is from rest up to hi
 pub record WorkValue : Type 0 where
   pub seg : ℕ
   pub node : ℕ
   pub pull : ℕ
   pub rest : ℕ
   pub hi : ℕ
+
+-- the work is on this node of a segment's tree
+abbrev pub is_work_on : ℕ → ℕ → WorkValue → Bool
+is_work_on seg node work = (work.seg == seg) && (work.node == node)
 
 -- its pull is odd: a transaction waits for it
 abbrev pub is_reactive_work : WorkValue → Bool
@@ -18,7 +22,7 @@ or_front work (Some i) = Some i
 or_front [] None = None
 or_front (first ∷ rest) None = Some 0
 
--- where the work is that is done next: the first reactive one, or where there is none the first
+-- the place of the next work: the first reactive one, or without one the first of all
 abbrev pub next_work : List WorkValue → Option ℕ
 next_work work = or_front work (position is_reactive_work work)
 
@@ -32,7 +36,8 @@ work_at works i = slice_index_or works i no_work
 abbrev pub work_from : WorkValue → ℕ → WorkValue
 work_from work key = record { seg = work.seg; node = work.node; pull = work.pull; rest = key; hi = work.hi }
 
--- what is left after a chunk of the work at i: that work continues where the chunk ends, and is gone after its last key
+-- what is left after a chunk of the work at i: that work continues where the chunk ends, and is
+-- removed after its last key
 abbrev pub work_after : List WorkValue → ℕ → ℕ → List WorkValue
 work_after works i end =
     if end == (work_at works i).hi then remove works i else slice_set works i (work_from (work_at works i) end)

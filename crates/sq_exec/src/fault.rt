@@ -1,5 +1,5 @@
-// Why a call was refused, in the order in which the causes are looked at. Each variant has the number of the step's
-// refusal.
+// Why a call was refused, in the order in which the causes are tested. Each variant has the number
+// of the step's refusal.
 ghost use Rattle.std.specs.Prelude.{◌≡◌};
 ghost use Rattle.sq_exec.specs.Fault.{submit_fault_number, resume_fault_number, cut_fault_number, load_fault_number};
 
@@ -8,11 +8,11 @@ use sq_schema::OUT_OF_MEMORY;
 use std::alloc::AllocError;
 use thiserror::Error;
 
-/// Why a transaction wasn't taken.
+/// Why a transaction wasn't accepted.
 #[derive(Clone, Copy, Debug, PartialEq, Eq, Error)]
 #[error("{}", meaning(self.number()))]
 pub enum SubmitFault {
-    /// As many transactions wait as can.
+    /// The most transactions that may wait are waiting.
     WaitFull = 220,
     /// The log of the root key is full.
     LogFull = 221,
@@ -20,7 +20,7 @@ pub enum SubmitFault {
 }
 
 impl SubmitFault {
-    /// The number that a user sees.
+    /// Returns the number that a user sees.
     pub fn number(self) -> u16
         ensures { result ≡ submit_fault_number self }
     {
@@ -28,11 +28,11 @@ impl SubmitFault {
     }
 }
 
-/// Why no waiting transaction was taken up.
+/// Why no waiting transaction was resumed.
 #[derive(Clone, Copy, Debug, PartialEq, Eq, Error)]
 #[error("{}", meaning(self.number()))]
 pub enum ResumeFault {
-    /// The rows of all that wait are on their way.
+    /// The rows of all waiting transactions are still to come.
     NoneReady = 223,
     /// The logs of the root keys that are here are full.
     LogFull = 221,
@@ -40,7 +40,7 @@ pub enum ResumeFault {
 }
 
 impl ResumeFault {
-    /// The number that a user sees.
+    /// Returns the number that a user sees.
     pub fn number(self) -> u16
         ensures { result ≡ resume_fault_number self }
     {
@@ -52,15 +52,15 @@ impl ResumeFault {
 #[derive(Clone, Copy, Debug, PartialEq, Eq, Error)]
 #[error("{}", meaning(self.number()))]
 pub enum CutFault {
-    /// The last chunk isn't sent.
+    /// The last chunk hasn't been sent.
     OutboxFull = 210,
-    /// No node is begun that isn't cut to its end.
+    /// Every node that was begun is cut to its end.
     NothingToCut = 209,
     Memory = OUT_OF_MEMORY as isize,
 }
 
 impl CutFault {
-    /// The number that a user sees.
+    /// Returns the number that a user sees.
     pub fn number(self) -> u16
         ensures { result ≡ cut_fault_number self }
     {
@@ -72,13 +72,13 @@ impl CutFault {
 #[derive(Clone, Copy, Debug, PartialEq, Eq, Error)]
 #[error("{}", meaning(self.number()))]
 pub enum LoadFault {
-    /// No chunk came.
+    /// The inbox has no chunk.
     InboxEmpty = 215,
     Memory = OUT_OF_MEMORY as isize,
 }
 
 impl LoadFault {
-    /// The number that a user sees.
+    /// Returns the number that a user sees.
     pub fn number(self) -> u16
         ensures { result ≡ load_fault_number self }
     {

@@ -5,8 +5,8 @@ ghost use Rattle.sq_exec.specs.GivenUp.{none_given_up, is_given_up, given_up_wit
 use sq_tree::{LEAVES, Leaf, NodeId};
 use std::marker::Model;
 
-/// The leaves of a segment that its source gave up: those of each node that was begun. To a contract it is a list with
-/// an entry for each leaf.
+/// The leaves of a segment that its source gave up: those of each node that was begun. To a
+/// contract it is a list with an entry for each leaf.
 #[derive(Debug, Drop)]
 pub(crate) struct GivenUp {
     leaves: [bool; 32],
@@ -21,7 +21,7 @@ impl Model for GivenUp {
 }
 
 impl GivenUp {
-    /// None of the leaves.
+    /// Creates a set without leaves.
     pub(crate) fn new() -> GivenUp
         ensures { result ≡ none_given_up }
     {
@@ -30,14 +30,14 @@ impl GivenUp {
         }
     }
 
-    /// Whether the leaf was given up.
+    /// Returns true if `leaf` was given up.
     pub(crate) fn has(&self, leaf: Leaf) -> bool
         ensures { result ≡ is_given_up self.now leaf }
     {
         self.leaves[leaf.number() as usize]
     }
 
-    /// Gives up the leaves of a node.
+    /// Gives up the leaves of `node`.
     pub(crate) fn add(&mut self, node: NodeId)
         ensures { self.new ≡ given_up_with self.old node }
     {

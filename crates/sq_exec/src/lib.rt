@@ -1,5 +1,5 @@
-//! One partition: its families, the transactions that wait at it, and its ends of the links. And the partitions of an
-//! opening, each with the families of the root keys that it owns.
+//! One partition: its families, the transactions that wait at it, and its ends of the links. Also
+//! the partitions of an opening, each with the families of the root keys that it owns.
 #![tactic(auto)]
 
 mod fault;

@@ -11,9 +11,9 @@ use sq_store::FamilyStore;
 use std::alloc::{AllocError, Global};
 use std::marker::Model;
 
-/// The source's end of a link: the notes of all chunks that were cut for it, the nodes that were begun and aren't cut
-/// to their ends, and the chunk that isn't sent. To a contract it is an `OutLinkValue`, and whether there is room for
-/// one more piece of work.
+/// The source's end of a link: the notes of all chunks that were cut for it, the nodes that were
+/// begun and aren't cut to their ends yet, and the chunk to be sent. To a contract it is an
+/// `OutLinkValue`, with whether there is room for one more piece of work.
 #[derive(Debug, Drop)]
 pub struct OutLink {
     notes: Vec<Note>,
@@ -34,7 +34,7 @@ impl Model for OutLink {
 }
 
 impl OutLink {
-    /// The end of a link that nothing was begun for.
+    /// Creates the end of a link before any node was begun.
     pub(crate) fn new(alloc: Global) -> OutLink
         ensures { result.link ≡ new_out_link }
     {
@@ -45,21 +45,22 @@ impl OutLink {
         }
     }
 
-    /// The notes of all chunks that were cut for it, in order.
+    /// Returns the notes of all chunks that were cut for the link, in order.
     pub fn notes(&self) -> &[Note]
         ensures { result.now ≡ self.now.link.notes }
     {
         &self.notes
     }
 
-    /// The chunk that was cut and isn't sent.
+    /// Returns the chunk that was cut and isn't sent yet; `None` if there is none.
     pub fn outbox(&self) -> Option<&Chunk>
         ensures { option_copied result ≡ self.now.link.outbox }
     {
         self.outbox.as_ref()
     }
 
-    /// The notes of all chunks that were cut for it, and the chunk that isn't sent.
+    /// Returns the notes of all chunks that were cut for the link, and the chunk that isn't sent
+    /// yet.
     pub fn into_parts(self) -> (Vec<Note>, Option<Chunk>)
         ensures notes { result.0.items ≡ self.link.notes }
         ensures outbox { result.1 ≡ self.link.outbox }
@@ -67,7 +68,7 @@ impl OutLink {
         (self.notes, self.outbox)
     }
 
-    /// Takes room for one more piece of work.
+    /// Reserves room for one more piece of work.
     pub(crate) fn reserve_work(&mut self) -> Result<(), AllocError>
         ensures same { self.new.link ≡ self.old.link }
         ensures ok { OnOk result (self.new.has_room ≡ true) }
@@ -75,7 +76,7 @@ impl OutLink {
         self.work.reserve(1)
     }
 
-    /// Adds work, after all that there is.
+    /// Adds `work` after all other work.
     pub(crate) fn add_work(&mut self, work: Work)
         requires { self.old.has_room ≡ true }
         ensures { self.new.link ≡ record self.old.link { work = self.old.link.work ++ work ∷ [] } }
@@ -83,15 +84,15 @@ impl OutLink {
         self.work.push_reserved(work);
     }
 
-    /// Whether a chunk can be cut, but for memory.
+    /// Returns true if a chunk can be cut, memory permitting.
     pub(crate) fn may_cut(&self) -> bool
         ensures { result ≡ may_cut self.now.link }
     {
         self.outbox.is_none() && !self.work.is_empty()
     }
 
-    /// Cuts a chunk of the work that is done next out of the store of its source: the first family, and as many more
-    /// as fit with it into `limit` bytes. A refusal leaves all as it was.
+    /// Cuts a chunk of the next work out of the `store` of the source: the first family, and as
+    /// many more as fit with it into `limit` bytes. A refusal changes nothing.
     pub(crate) fn cut<S: FamilyStore>(
         &mut self,
         store: &mut S,
@@ -123,7 +124,7 @@ impl OutLink {
         Ok(note)
     }
 
-    // The note of a chunk of this work, but for its keys.
+    // Returns the note of a chunk of `work`, before its keys are known.
     fn note_base(&self, ends: Link, work: Work) -> Note
         ensures { result ≡ record (note_for ends self.now.link work work.rest) { last = false } }
     {
@@ -139,7 +140,7 @@ impl OutLink {
         }
     }
 
-    /// Takes the chunk that isn't sent.
+    /// Takes the chunk that isn't sent yet.
     pub(crate) fn take_outbox(&mut self) -> Option<Chunk>
         ensures chunk { result ≡ self.old.link.outbox }
         ensures link { self.new.link ≡ record self.old.link { outbox = None } }
@@ -148,7 +149,7 @@ impl OutLink {
         self.outbox.take()
     }
 
-    /// Puts a chunk back that couldn't be sent.
+    /// Puts back a chunk that couldn't be sent.
     pub(crate) fn put_outbox(&mut self, chunk: Chunk)
         ensures link { self.new.link ≡ record self.old.link { outbox = Some chunk } }
         ensures room { self.new.has_room ≡ self.old.has_room }

@@ -1,4 +1,4 @@
-// Outcomes of transactions.
+// The outcomes of transactions.
 use sq_plan::PartId;
 use sq_ranges::SegId;
 use sq_schema::{Reply, Txn};
@@ -9,16 +9,15 @@ use sq_tree::Leaf;
 pub enum Outcome {
     /// It ran, with this reply.
     Done(Reply),
-    /// It belongs to another partition.
+    /// It belongs to this other partition.
     Moved(PartId),
-    /// It waits for the rows of this leaf of a segment.
+    /// It waits for the rows of this leaf of this segment.
     Waits(SegId, Leaf),
 }
 
-/// A transaction that waits no more.
+/// A transaction that no longer waits.
 #[derive(Debug, Drop)]
 pub struct Resumed {
-    /// The transaction.
     pub txn: Txn,
     pub outcome: Outcome,
 }

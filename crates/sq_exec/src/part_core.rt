@@ -1,6 +1,7 @@
 // One partition.
 ghost use Rattle.std.specs.Prelude.{◌≡◌, ◌↔◌, ◌<◌, true, List, IsTrue, length, map};
 ghost use Rattle.std.specs.Option.{option_copied};
+ghost use Rattle.std.specs.List.{list_all};
 ghost use Rattle.sq_waiting.specs.Waiting.{Arrival, txns_of, numbers_of};
 ghost use Rattle.sq_exec.specs.CoreValue.{out_at, inbox_at, entered_core, folded_core};
 ghost use Rattle.sq_exec.specs.Kept.{IsCore};
@@ -19,8 +20,9 @@ mod moving;
 mod open;
 mod serving;
 
-/// One partition: its families, the transactions that wait at it, and its ends of the links. To a contract it is a
-/// `CoreValue`, whether there is room for what the next Begin adds, and the arrival numbers of what waits.
+/// One partition: its families, the transactions that wait at it, and its ends of the links. To a
+/// contract it is a `CoreValue`, with whether there is room for what the next Begin adds, and the
+/// arrival numbers of the waiting transactions.
 #[derive(Drop)]
 pub struct PartCore<S: FamilyStore> {
     part: PartId,
@@ -60,21 +62,22 @@ impl<S: FamilyStore> Model for PartCore<S> {
     ghost invariant = { λ p. IsCore (core_inside S.contents p) p.waiting.arrivals };
 }
 
-/// What a partition that is closed hands out.
+/// What a closed partition returns.
 #[derive(Debug, Drop)]
 pub struct CoreParts<S> {
     /// The families.
     pub store: S,
-    /// The transactions that wait, in the order in which they came.
+    /// The waiting transactions, in their order of arrival. All are due.
     pub waiting: Waiting,
-    /// For each partition the chunk that came from it and isn't loaded.
+    /// For each partition, the chunk that came from it and isn't loaded yet.
     pub inboxes: Vec<Option<Chunk>>,
-    /// For each partition the end of the link to it: the notes of all chunks that were cut, and the one that isn't sent.
+    /// For each partition, the end of the link to it: the notes of all chunks that were cut, and
+    /// the chunk that isn't sent yet.
     pub outs: Vec<OutLink>,
 }
 
 impl<S: FamilyStore> PartCore<S> {
-    /// The move has started.
+    /// Starts the move at this partition.
     pub fn start(&mut self)
         ensures core { self.new.core ≡ record self.old.core { started = true } }
         ensures room { self.new.has_room ≡ self.old.has_room }
@@ -83,7 +86,7 @@ impl<S: FamilyStore> PartCore<S> {
         self.started = true;
     }
 
-    /// The move enters a stage, whichever one it was in. It takes no memory.
+    /// Enters `stage` of the move, whatever stage it is in. It takes no memory.
     pub fn enter(&mut self, stage: u64)
         ensures { self.new ≡ record self.old { core = entered_core stage self.old.core } }
     {
@@ -91,7 +94,8 @@ impl<S: FamilyStore> PartCore<S> {
         self.stage = stage;
     }
 
-    /// Folds the logs of its families: each starts anew from its rows, and those without rows go. It takes no memory.
+    /// Folds the logs of the families: each family restarts from its rows, and families without
+    /// rows are dropped. It takes no memory.
     pub fn fold(&mut self)
         ensures core { self.new.core ≡ folded_core self.old.core }
         ensures room { self.new.has_room ≡ self.old.has_room }
@@ -100,14 +104,14 @@ impl<S: FamilyStore> PartCore<S> {
         self.store.fold();
     }
 
-    /// Which partition it is.
+    /// Returns the number of this partition.
     pub fn part(&self) -> PartId
         ensures { result ≡ self.now.core.part }
     {
         self.part
     }
 
-    /// How many partitions there are.
+    /// Returns the number of partitions.
     pub fn parts(&self) -> u8
         ensures parts { result ≡ self.now.core.plan.parts }
         ensures kept { (arrivals : List Arrival) × IsCore self.now.core arrivals }
@@ -115,14 +119,15 @@ impl<S: FamilyStore> PartCore<S> {
         self.plan.parts()
     }
 
-    /// Whether a transaction waits.
+    /// Returns true if a transaction waits.
     pub fn has_waiting(&self) -> bool
         ensures { IsTrue result ↔ (0 < length self.now.core.waiting) }
     {
         !self.waiting.is_empty()
     }
 
-    /// The chunk that came from a partition and isn't loaded. There is a place for one from each partition.
+    /// Returns the chunk that came from `src` and isn't loaded yet; `None` if there is none. There
+    /// is a place for one from each partition.
     pub fn inbox(&self, src: PartId) -> Option<&Chunk>
         ensures chunk { option_copied result ≡ inbox_at self.now.core src }
         ensures places { length self.now.core.inboxes ≡ self.now.core.plan.parts }
@@ -130,24 +135,27 @@ impl<S: FamilyStore> PartCore<S> {
         self.inboxes.get(usize::from(src.number()))?.as_ref()
     }
 
-    /// The chunk for a partition that was cut and isn't sent.
+    /// Returns the chunk for `dst` that was cut and isn't sent yet; `None` if there is none.
     pub fn outbox(&self, dst: PartId) -> Option<&Chunk>
         ensures { option_copied result ≡ (out_at self.now.core dst).outbox }
     {
         self.outs.get(usize::from(dst.number()))?.outbox()
     }
 
-    /// The families.
+    /// Returns the families.
     pub fn store(&self) -> &S
         ensures { S.contents result.now ≡ self.now.core.store }
     {
         &self.store
     }
 
-    /// What it holds, without a copy.
+    /// Closes the partition and returns what it holds, uncopied. All waiting transactions are made
+    /// due, even those whose rows haven't come, so that the caller takes them one after another in
+    /// their order of arrival.
     pub fn close(self) -> CoreParts<S>
         ensures store { S.contents result.store ≡ self.core.store }
         ensures waiting { txns_of result.waiting.arrivals ≡ self.core.waiting }
+        ensures due { list_all (λ a. a.is_due) result.waiting.arrivals ≡ true }
         ensures inboxes { result.inboxes.items ≡ self.core.inboxes }
         ensures outs { map (λ out. out.link) result.outs.items ≡ self.core.outs }
         ensures numbers { numbers_of result.waiting.arrivals ≡ self.numbering.numbers }
@@ -156,11 +164,12 @@ impl<S: FamilyStore> PartCore<S> {
     {
         let PartCore {
             store,
-            waiting,
+            mut waiting,
             inboxes,
             outs,
             ..
         } = self;
+        waiting.make_all_due();
         CoreParts {
             store,
             waiting,

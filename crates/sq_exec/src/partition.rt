@@ -6,14 +6,14 @@ ghost use Rattle.sq_exec.specs.Opened.{opened_part, HasOwned, IsOpenStore};
 use crate::part_core::PartCore;
 use sq_plan::PartId;
 use sq_ranges::Opening;
-use sq_runs::RunStore;
+use sq_slab::SlabStore;
 use std::alloc::{AllocError, Global};
 
-/// The partitions of the plan before the move, which hasn't started.
+/// Opens all partitions of the plan before the move, which hasn't started.
 pub fn open_partitions(
     alloc: Global,
     opening: &Opening,
-) -> Result<Vec<PartCore<RunStore>>, AllocError>
+) -> Result<Vec<PartCore<SlabStore>>, AllocError>
     ensures { IfOk result (λ cores. map (λ part. part.core) cores.items
         ≡ map (opened_part opening.now) (range_with_len 0 opening.now.old.parts)) }
 {
@@ -24,20 +24,20 @@ pub fn open_partitions(
     Ok(cores)
 }
 
-/// The families of the root keys that a partition owns before the move.
-pub fn open_store(alloc: Global, opening: &Opening, part: PartId) -> Result<RunStore, AllocError>
+/// Returns the families of the root keys that `part` owns before the move.
+pub fn open_store(alloc: Global, opening: &Opening, part: PartId) -> Result<SlabStore, AllocError>
     ensures { IfOk result (IsOpenStore opening.now part) }
 {
-    let store = RunStore::opened(alloc, opening.old_plan(), part, opening.table())?;
+    let store = SlabStore::opened(alloc, opening.old_plan(), part, opening.table())?;
     Ok(store)
 }
 
-/// A partition with the families of the root keys that it owns. Its move hasn't started.
+/// Opens partition `part` with the families of the root keys that it owns. Its move hasn't started.
 pub fn open_partition(
     alloc: Global,
     opening: &Opening,
     part: PartId,
-) -> Result<PartCore<RunStore>, AllocError>
+) -> Result<PartCore<SlabStore>, AllocError>
     ensures core { IfOk result (λ opened. opened.core ≡ opened_part opening.now part) }
     ensures families { IfOk result (λ opened. HasOwned opening.now part opened.core.store) }
 {

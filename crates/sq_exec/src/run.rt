@@ -6,42 +6,42 @@ use sq_chunk::Note;
 use sq_schema::Root;
 use sq_tree::NodeId;
 
-/// Root keys of a node that were loaded without a gap, from `lo` up to `hi`; none unless `lo` is below `hi`.
+/// Root keys of a node that were loaded without a gap, from `lo` up to, not including, `hi`; empty
+/// unless `lo` is below `hi`.
 #[derive(Clone, Copy, Debug)]
 pub(crate) struct Run {
-    /// The node.
     pub(crate) node: NodeId,
     /// The first key.
     pub(crate) lo: u64,
     /// The key after the last.
     pub(crate) hi: u64,
-    /// Whether the last chunk of the node is among what was loaded.
+    /// True if the last chunk of the node was loaded.
     pub(crate) whole: bool,
 }
 
 impl Run {
-    // Whether the root key is in it.
+    // Returns true if the run has the root key `key`.
     fn has_key(&self, key: u64) -> bool
         ensures { result ≡ run_has self.now key }
     {
         self.lo <= key && key < self.hi
     }
 
-    // Whether one of the keys that a chunk covers is in it.
+    // Returns true if the run has a key that `note` covers.
     fn meets(&self, note: &Note) -> bool
         ensures { result ≡ meets note.now self.now }
     {
         self.lo.max(note.lo) < self.hi.min(note.hi)
     }
 
-    // Whether a chunk continues where it ends.
+    // Returns true if the chunk of `note` continues at the end of the run.
     fn goes_on(&self, note: &Note) -> bool
         ensures { result ≡ goes_on note.now self.now }
     {
         self.node == note.node && self.lo <= self.hi && self.hi == note.lo
     }
 
-    // The run with the keys of a chunk that continues where it ends.
+    // Returns the run with the keys of a chunk that continues at its end.
     fn with(self, note: &Note) -> Run
         ensures { result ≡ run_with note.now self }
     {
@@ -53,7 +53,7 @@ impl Run {
     }
 }
 
-/// Whether a root key is loaded.
+/// Returns true if `root` is loaded.
 pub(crate) fn is_loaded(runs: &[Run], root: Root) -> bool
     ensures { result ≡ is_loaded runs.now root }
 {
@@ -61,21 +61,21 @@ pub(crate) fn is_loaded(runs: &[Run], root: Root) -> bool
     runs.iter().any(|run| run.has_key(key))
 }
 
-/// Whether one of the keys that a chunk covers is loaded.
+/// Returns true if a key that `note` covers is loaded.
 pub(crate) fn is_met(runs: &[Run], note: &Note) -> bool
     ensures { result ≡ is_met runs.now note.now }
 {
     runs.iter().any(|run| run.meets(note))
 }
 
-/// Whether the last chunk of a node is loaded.
+/// Returns true if the last chunk of `node` is loaded.
 pub(crate) fn is_whole(runs: &[Run], node: NodeId) -> bool
     ensures { result ≡ is_whole runs.now node }
 {
     runs.iter().any(|run| run.node == node && run.whole)
 }
 
-/// Adds what a chunk brings, where there is room for a run more.
+/// Adds the keys that `note` covers to `runs`, which have room for one more run.
 pub(crate) fn add(runs: &mut Vec<Run>, note: &Note)
     requires { vec_len runs.old < vec_capacity runs.old }
     ensures { runs.new.items ≡ runs_with runs.old.items note.now }
@@ -91,7 +91,7 @@ pub(crate) fn add(runs: &mut Vec<Run>, note: &Note)
     }
 }
 
-// Where the first run is that a chunk continues.
+// Returns the place of the first run that the chunk of `note` continues.
 fn place(runs: &[Run], note: &Note) -> Option<usize>
     ensures { result ≡ position (goes_on note.now) runs.now }
 {

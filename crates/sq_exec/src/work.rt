@@ -1,4 +1,4 @@
-// What the source of a link has to cut.
+// What the source of a link still has to cut.
 ghost use Rattle.std.specs.Prelude.{◌≡◌, ◌≤◌, ◌<◌, position, vec_len, vec_capacity, slice_index_or};
 ghost use Rattle.sq_exec.specs.Work.{is_reactive_work, next_work, no_work, work_after};
 
@@ -6,7 +6,8 @@ use sq_ranges::{Extent, SegId};
 use sq_tree::NodeId;
 use std::marker::Model;
 
-/// What is left of a begun node that isn't cut to its end. To a contract it is a `WorkValue`.
+/// The rest of a node that was begun and isn't cut to its end yet. To a contract it is a
+/// `WorkValue`.
 #[derive(Clone, Copy, Debug)]
 pub(crate) struct Work {
     seg: SegId,
@@ -35,7 +36,7 @@ impl Model for Work {
 }
 
 impl Work {
-    /// All of a node, whose keys are these.
+    /// Returns the work of a whole node, whose root keys are `keys`.
     pub(crate) fn new(seg: SegId, node: NodeId, pull: u32, keys: Extent) -> Work
         requires { keys.lo ≤ keys.hi }
         ensures { result ≡
@@ -49,7 +50,6 @@ impl Work {
         }
     }
 
-    /// The segment.
     pub(crate) fn seg(self) -> SegId
         ensures { result ≡ self.seg }
     {
@@ -62,7 +62,7 @@ impl Work {
         self.node
     }
 
-    /// The keys that aren't cut.
+    /// Returns the keys that are still to be cut.
     pub(crate) fn rest(self) -> Extent
         ensures from { result.lo ≡ self.rest }
         ensures upto { result.hi ≡ self.hi }
@@ -71,14 +71,14 @@ impl Work {
         self.rest
     }
 
-    /// Whether a transaction waits for it.
+    /// Returns true if its pull is odd: a transaction waits for the node.
     fn is_reactive(self) -> bool
         ensures { result ≡ is_reactive_work self }
     {
         self.pull % 2 == 1
     }
 
-    // What is left from this key on.
+    // Returns the rest of the work from `key` on.
     fn from(self, key: u64) -> Work
         requires { key ≤ self.hi }
         ensures { result ≡ record {
@@ -97,14 +97,15 @@ impl Work {
     }
 }
 
-// Where the first work is that a transaction waits for.
+// Returns the place of the first work that a transaction waits for.
 fn first_reactive(work: &[Work]) -> Option<usize>
     ensures { result ≡ position is_reactive_work work.now }
 {
     work.iter().position(|work| work.is_reactive())
 }
 
-/// Where the work is that is done next: the first for a reactive pull, or where there is none the first.
+/// Returns the place of the next work: the first for a reactive pull, or without one the first of
+/// all.
 #[tactic(auto, using(crate::proofs::Works::front_found, crate::proofs::Works::front_first, crate::proofs::Works::front_none))]
 pub(crate) fn next_work(work: &[Work]) -> Option<usize>
     ensures { result ≡ next_work work.now }
@@ -115,7 +116,7 @@ pub(crate) fn next_work(work: &[Work]) -> Option<usize>
     if work.is_empty() { None } else { Some(0) }
 }
 
-/// Takes the work at a place up to this key off the list: after its last key it is gone.
+/// Advances the work at `at` to the key `end`, and removes it if that is its last.
 pub(crate) fn go_on(works: &mut Vec<Work>, at: usize, end: u64)
     requires exists { at < vec_len works.old }
     requires within { end ≤ (slice_index_or works.old.items at no_work).hi }

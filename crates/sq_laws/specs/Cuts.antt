@@ -3,7 +3,8 @@ use Rattle.std.specs.Prelude.{◌≡◌, ℕ, List, [], ◌∷◌, ◌++◌}
 use Rattle.sq_schema.specs.Family.{FamilyValue}
 use Rattle.sq_store.specs.Counting.{chunk_of}
 
--- the families are cut into these chunks: each takes what a chunk takes of those that are left, until none is
+-- the families are cut into these chunks: each takes the families that fit of those that are left,
+-- until none are left
 abbrev pub AreCutInto : ℕ → List FamilyValue → List (List FamilyValue) → Type 0
 AreCutInto limit [] chunks = chunks ≡ []
 AreCutInto limit (family ∷ families) [] = ⊥

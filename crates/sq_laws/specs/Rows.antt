@@ -1,4 +1,4 @@
--- What rows a table has, by the rows that it was given, and by the lines of a header.
+-- Which rows a table has, from the rows that it was given, and from the lines of a header.
 use Rattle.std.specs.Prelude.{◌≡◌, ℕ, false, List, ◌++◌, codes, slice_get, Contains, Some, None, Ok}
 use Rattle.std.specs.List.{AllZip}
 use Rattle.sq_rows.specs.RowList.{row_at}
@@ -12,7 +12,7 @@ use Rattle.sq_ranges.specs.OpeningValue.{OpeningValue}
 use Rattle.sq_lines.specs.Pieces.{PieceValue, next_begins}
 use Rattle.sq_text.specs.Header.{HeaderValue, line_in, given_of, plans_of}
 
--- the opening is of these plans, sizes and rows, in which no fault is found
+-- the opening has these plans, sizes and rows, and no fault is found in them
 abbrev pub OpensWithoutFault : ℕ → PlanValue → PlanValue → Config → List GivenRow → OpeningValue → Type 0
 OpensWithoutFault tables old new config rows o =
     (opening_fault tables old new config rows ≡ None) × IsOpeningOf tables old new config rows o
@@ -21,7 +21,7 @@ OpensWithoutFault tables old new config rows o =
 abbrev pub HasRow : RowTable → GivenValue → Type 0
 HasRow table row = row_at (table row.root) row.key ≡ Some row.row
 
--- the table has these rows and no others, and no two of them have one place
+-- the table has exactly these rows, and no two of them have the same place
 pub record HasJust (rows : List GivenValue) (table : RowTable) : Type 0 where
   pub each : (row : GivenValue) → Contains rows row → HasRow table row
   pub no_other : (row : GivenValue) → HasRow table row → Contains rows row
@@ -32,8 +32,9 @@ pub record HasJust (rows : List GivenValue) (table : RowTable) : Type 0 where
 abbrev pub IsRowLine : PieceValue → GivenValue → Type 0
 IsRowLine piece row = (bytes : List ℕ) × (line_in piece ≡ Ok bytes) × (given_of bytes ≡ Ok row)
 
--- behind the plans and the sizes of an input come lines that spell the rows of this header, one each, up to the first piece
--- that doesn't begin as a row's line does; this is left
+-- after the plans and the sizes of an input come lines that spell the rows of this header, one per
+-- line, up to the first piece that doesn't begin as a row's line does; that piece and all after it
+-- are left
 pub record HasRowsOfLines (given : List PieceValue) (header : HeaderValue) (left : List PieceValue) : Type 0 where
   pub plans : HeaderValue
   pub behind : List PieceValue

@@ -25,12 +25,14 @@ use Rattle.sq_model.specs.Links.{has_last, family_count}
 use Rattle.sq_model.specs.Waiting.{waiting}
 use Rattle.sq_model.specs.Answers.{is_into, is_complete_segment}
 
--- the transaction ran at the partition, which runs those on its root key, on the rows that the one table had
+-- the transaction ran at the partition, which runs those on its root key, on the rows that the one
+-- table had
 pub record RanAt (o : OpeningValue) (t : Trace) (part : ℕ) (txn : TxnValue) (told : Reply) : Type 0 where
   pub here : runner o t txn.root ≡ Some part
   pub rows : told ≡ reply (now o t txn.root) txn
 
--- another partition runs transactions on the root key; or none does, and this is its owner by the new plan
+-- another partition runs transactions on the root key; or none does, and `to` is its owner by the
+-- new plan
 abbrev pub IsSentTo : OpeningValue → Trace → ℕ → ℕ → ℕ → Type 0
 IsSentTo o t part root to =
     ((runner o t root ≡ Some to) × (to ≢ part)) ⊎ ((runner o t root ≡ None) × (to ≡ destination o root))
@@ -55,7 +57,7 @@ SaysOfSubmit o t part txn given = ⊥
 abbrev pub CannotRun : OpeningValue → Trace → ℕ → TxnValue → Type 0
 CannotRun o t part txn = (is_coming o t part txn.root ≡ true) ⊎ (is_full o t txn.root ≡ true)
 
--- what the answer says where a waiting transaction is to run
+-- what the answer says if a waiting transaction is to run
 abbrev pub SaysOfResume : OpeningValue → Trace → ℕ → Answer → Type 0
 SaysOfResume o t part (Resumed txn told) =
     Contains (waiting o t part) txn × (is_coming o t part txn.root ≡ false) × RanAt o t part txn told
@@ -65,7 +67,8 @@ SaysOfResume o t part (Refused LogFull) = (txn : TxnValue) → Contains (waiting
 SaysOfResume o t part (Refused Memory) = Unit {0}
 SaysOfResume o t part given = ⊥
 
--- the chunk is the next one of its link, of a node that was begun, and none before it had one of its keys
+-- the chunk is the next one of its link, of a node that was begun, and no chunk before it had one
+-- of its keys
 pub record IsNextChunk (o : OpeningValue) (t : Trace) (src dst : ℕ) (note : Note) (families : ℕ) : Type 0 where
   pub source : note.src ≡ src
   pub destination : note.dst ≡ dst
@@ -76,7 +79,7 @@ pub record IsNextChunk (o : OpeningValue) (t : Trace) (src dst : ℕ) (note : No
   pub once : (root : ℕ) → covers note root ≡ true → is_covered (notes t) root ≡ false
   pub holds : families ≡ family_count o t note
 
--- the chunk is the first of its link that isn't loaded, and none of its keys is
+-- the chunk is the first of its link that isn't loaded, and none of its keys is loaded
 pub record IsNextLoad (o : OpeningValue) (t : Trace) (src dst : ℕ) (note : Note) (families : ℕ) : Type 0 where
   pub cut : Contains (notes t) note
   pub source : note.src ≡ src
@@ -85,7 +88,8 @@ pub record IsNextLoad (o : OpeningValue) (t : Trace) (src dst : ℕ) (note : Not
   pub once : (root : ℕ) → covers note root ≡ true → is_covered (loads t) root ≡ false
   pub holds : families ≡ family_count o t note
 
--- what it says that a step was done; the steps of transactions and of chunks have answers of their own
+-- what it means that a step was done; the steps of transactions and of chunks have answers of their
+-- own
 abbrev pub SaysDone : OpeningValue → Trace → Step → Type 0
 SaysDone o t (Prepare part) = (part < o.old.parts) × (is_started t ≡ false)
 SaysDone o t Start = (is_started t ≡ false) × ((part : ℕ) → part < o.old.parts → is_prepared t part ≡ true)
@@ -104,7 +108,7 @@ SaysDone o t Finish = (root : ℕ) → place o t root ≡ At (destination o root
 SaysDone o t (Fold part) = (part < o.old.parts) × (is_ended t ≡ true)
 SaysDone o t step = ⊥
 
--- what the answer to a step says; that another step was refused says nothing here
+-- what the answer to a step says; the refusal of any other step says nothing here
 abbrev pub SaysOfStep : OpeningValue → Trace → Step → Answer → Type 0
 SaysOfStep o t (Submit part txn) given = SaysOfSubmit o t part txn given
 SaysOfStep o t (Resume part) given = SaysOfResume o t part given

@@ -1,4 +1,4 @@
--- What the stages of a move are, in the words of a plan.
+-- The stages of a move, in the terms of a plan.
 use Rattle.std.specs.Prelude.{◌≡◌, ◌<◌, ℕ, true, false, length}
 use Rattle.sq_ranges.specs.ReconValue.{ReconValue, is_link, stage_on, stages}
 
@@ -7,13 +7,13 @@ pub record GoIn (recon : ReconValue) (src dst i : ℕ) : Type 0 where
   pub linked : is_link recon.ranges src dst ≡ true
   pub stage : stage_on recon src dst ≡ i
 
--- the stages of a move: they are numbered from 0
+-- the stages of a move, numbered from 0
 pub record DivideTheMove (recon : ReconValue) : Type 0 where
-  -- what goes from one partition to another goes in one of them
+  -- all that goes from one partition to another goes in one of them
   pub below : (src dst : ℕ) → is_link recon.ranges src dst ≡ true → stage_on recon src dst < stages recon
-  -- by "auto" a partition gives rows to one other in a stage, and not to two
+  -- with "auto" a partition gives rows to at most one other in a stage
   pub one_each : recon.auto ≡ true → (src dst other i : ℕ) → GoIn recon src dst i → GoIn recon src other i → dst ≡ other
-  -- rows go in each of them, if any do
+  -- rows go in each of them, if any go at all
   pub none_empty : 0 < length recon.ranges → (i : ℕ) → i < stages recon → (src dst : ℕ) × GoIn recon src dst i
-  -- without "auto" all goes at once
+  -- without "auto" all rows go at once
   pub at_once : recon.auto ≡ false → stages recon ≡ 1

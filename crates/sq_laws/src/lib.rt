@@ -1,6 +1,7 @@
-//! Laws of definitions that look like the program, in the words of those who run a move: which rows an opening has, how stages
-//! divide a move, how many chunks families make, what the answer to each step says, and that a refused step changes nothing.
-//! The functions do nothing: each states a law, which the checker proves.
+//! Laws that check definitions which resemble the program, in the terms of those who run a move:
+//! which rows an opening has, how stages divide a move, how many chunks families make, what the
+//! answer to each step says, and that a refused step changes nothing. The functions do nothing:
+//! each states a law, which the checker proves.
 #![tactic(auto)]
 
 ghost use Rattle.std.specs.Prelude.{◌≡◌, ◌≤◌, ℕ, max, List, map, length, Ok};
@@ -31,28 +32,31 @@ ghost use Rattle.sq_laws.specs.Rows.{OpensWithoutFault, HasJust, HasRowsOfLines}
 ghost use Rattle.sq_laws.specs.Says.{SaysOfStep};
 ghost use Rattle.sq_laws.specs.Stages.{DivideTheMove};
 
-/// An opening has the rows that it was given and no others: where no fault is found, each of them has a place of its own.
+/// An opening has exactly the rows that it was given: if no fault is found, each of them has a
+/// place of its own.
 pub fn an_opening_has_just_the_given_rows()
     ensures { (tables : ℕ) (old new : PlanValue) (config : Config) (rows : List GivenRow)
         (o : OpeningValue) → OpensWithoutFault tables old new config rows o
         → HasJust (map value_of rows) (rows_in o.table) }
 {}
 
-/// A header has the rows that its lines spell and no others, one a line, each at a place of its own, up to the first line
-/// that doesn't begin as a row's line does.
+/// A header has exactly the rows that its lines spell, one per line, each at a place of its own, up
+/// to the first line that doesn't begin as a row's line does.
 pub fn a_header_has_just_the_rows_of_its_lines()
     ensures { (tables : ℕ) (given left : List PieceValue) (header : HeaderValue)
         → header_of tables given ≡ Ok (header, left) → HasRowsOfLines given header left }
 {}
 
-/// The stages of a move: all that goes from one partition to another goes in one of them, and in none nothing goes. By
-/// "auto" a partition gives rows to one other in a stage at most; without it there is one stage.
+/// The stages of a move: all rows that go from one partition to another go in one stage, and in
+/// each stage some rows go, if any move at all. With "auto" a partition gives rows to at most one
+/// other in a stage; without it there is one stage.
 pub fn stages_divide_a_move()
     ensures { (recon : ReconValue) → DivideTheMove recon }
 {}
 
-/// A chunk that is cut out of a store takes the first family that is left, and as many more as fit (`takes`); cut so one
-/// after another, families make as many chunks as are counted before a move. Of no families one is cut, an empty one.
+/// A chunk that is cut from a store takes the first family that is left, and as many more as fit
+/// (`takes`). Families that are cut like this, one chunk after another, make as many chunks as are
+/// counted before a move. Of no families one chunk is cut, which is empty.
 pub fn chunks_are_cut_as_they_are_counted()
     ensures takes { (store : StoreValue) (lo hi limit : ℕ) → HoldsByRoot store → lo ≤ hi
         → families_between store lo (take_end store lo hi limit)
@@ -64,10 +68,11 @@ pub fn chunks_are_cut_as_they_are_counted()
         → (chunks : List (List FamilyValue)) × AreCutInto limit families chunks }
 {}
 
-/// Whatever the steps before: a transaction that is answered ran at the one partition that runs those on its root key, on
-/// the rows of the one table; one that waits has its rows on their way there, or waits behind another; a chunk is cut and
-/// loaded in its turn, with keys that none had before; a node is complete once its last chunk is loaded, a stage is left
-/// once each of its segments is complete, and the move ends once each root key is where the new plan has it.
+/// Whatever the steps before: a transaction that is answered ran at the one partition that runs
+/// those on its root key, on the rows of the one table; one that waits has its rows on their way
+/// there, or waits after another; a chunk is cut and loaded in its turn, with keys that no chunk
+/// had before; a node is complete once its last chunk is loaded, a stage is left once each of its
+/// segments is complete, and the move ends once each root key is where the new plan puts it.
 pub fn each_answer_says_what_was_so()
     ensures { (o : OpeningValue) (t : Trace) (step : Step) (given : Answer)
         → IsOpening o → IsLegal o t → IsAnswer o t step given → SaysOfStep o t step given }

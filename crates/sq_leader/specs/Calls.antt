@@ -11,7 +11,7 @@ pub data Call : Type 0 where
   Hear : (told : ReportValue) → Call
   Next : Call
 
--- the leader after a call: the next state, or where the call was refused the state as it was
+-- the leader after a call: the next state, or the state as it was if the call was refused
 abbrev pub state_after : {F : Type 0} → StageValue → Result StageValue F → StageValue
 state_after at (Ok next) = next
 state_after at (Err fault) = at
@@ -33,8 +33,8 @@ was_heard parts recon (Hear told ∷ calls) part stage =
     || was_heard parts recon calls part stage
 was_heard parts recon (Next ∷ calls) part stage = was_heard parts recon calls part stage
 
--- where the move can end after these calls, a report was heard for each segment: of the partition into which it moves, in the
--- segment's stage
+-- if the move can end after these calls, a report was heard for each segment: of the partition that
+-- it moves into, in the segment's stage
 abbrev pub EndsHeard : ℕ → ReconValue → List Call → Type 0
 EndsHeard parts recon calls =
     is_ok (answer_to_finish (after_calls parts recon calls)) ≡ true → (segment : Range) → Contains recon.segments segment

@@ -1,11 +1,12 @@
-// Why a call was refused, in the order in which the causes are looked at.
+// Why a call was refused, in the order in which the causes are tested.
 ghost use Rattle.std.specs.Prelude.{◌≡◌};
 ghost use Rattle.sq_leader.specs.Fault.{prepare_fault_number, start_fault_number, report_fault_number, stage_fault_number, next_fault_number, finish_fault_number};
 
 use sq_explain::meaning;
 use thiserror::Error;
 
-/// Why a partition didn't prepare. Each variant, here and below, has the number of the step's refusal.
+/// Why a partition couldn't prepare. Each variant, here and below, has the number of the step's
+/// refusal.
 #[derive(Clone, Copy, Debug, PartialEq, Eq, Error)]
 #[error("{}", meaning(self.number()))]
 pub enum PrepareFault {
@@ -13,7 +14,7 @@ pub enum PrepareFault {
 }
 
 impl PrepareFault {
-    /// The number that a user sees.
+    /// Returns the number that a user sees.
     pub fn number(self) -> u16
         ensures { result ≡ prepare_fault_number self }
     {
@@ -29,7 +30,7 @@ pub enum StartFault {
 }
 
 impl StartFault {
-    /// The number that a user sees.
+    /// Returns the number that a user sees.
     pub fn number(self) -> u16
         ensures { result ≡ start_fault_number self }
     {
@@ -37,7 +38,7 @@ impl StartFault {
     }
 }
 
-/// Why there is no report.
+/// Why no report was made.
 #[derive(Clone, Copy, Debug, PartialEq, Eq, Error)]
 #[error("{}", meaning(self.number()))]
 pub enum ReportFault {
@@ -47,7 +48,7 @@ pub enum ReportFault {
 }
 
 impl ReportFault {
-    /// The number that a user sees.
+    /// Returns the number that a user sees.
     pub fn number(self) -> u16
         ensures { result ≡ report_fault_number self }
     {
@@ -55,7 +56,7 @@ impl ReportFault {
     }
 }
 
-/// Why a report doesn't count.
+/// Why a report wasn't recorded.
 #[derive(Clone, Copy, Debug, PartialEq, Eq, Error)]
 #[error("{}", meaning(self.number()))]
 pub enum StageFault {
@@ -64,7 +65,7 @@ pub enum StageFault {
 }
 
 impl StageFault {
-    /// The number that a user sees.
+    /// Returns the number that a user sees.
     pub fn number(self) -> u16
         ensures { result ≡ stage_fault_number self }
     {
@@ -72,17 +73,17 @@ impl StageFault {
     }
 }
 
-/// Why the next stage doesn't run.
+/// Why the next stage wasn't entered.
 #[derive(Clone, Copy, Debug, PartialEq, Eq, Error)]
 #[error("{}", meaning(self.number()))]
 pub enum NextFault {
     LastStage = 225,
-    /// A partition into which a segment of the running stage moves hasn't reported.
+    /// A partition that a segment of the running stage moves into hasn't reported.
     NotFinished = 218,
 }
 
 impl NextFault {
-    /// The number that a user sees.
+    /// Returns the number that a user sees.
     pub fn number(self) -> u16
         ensures { result ≡ next_fault_number self }
     {
@@ -94,12 +95,12 @@ impl NextFault {
 #[derive(Clone, Copy, Debug, PartialEq, Eq, Error)]
 #[error("{}", meaning(self.number()))]
 pub enum FinishFault {
-    /// A stage follows, or a partition into which a segment moves hasn't reported.
+    /// A stage follows, or a partition that a segment moves into hasn't reported.
     NotFinished = 218,
 }
 
 impl FinishFault {
-    /// The number that a user sees.
+    /// Returns the number that a user sees.
     pub fn number(self) -> u16
         ensures { result ≡ finish_fault_number self }
     {

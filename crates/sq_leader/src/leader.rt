@@ -1,6 +1,5 @@
 // The states of the leader until the move starts.
 ghost use Rattle.std.specs.Prelude.{◌≡◌};
-ghost use Rattle.sq_leader.specs.Marks.{is_marked};
 ghost use Rattle.sq_leader.specs.Leader.{answer_to_first_prepare, answer_to_prepare, answer_to_start};
 
 use crate::fault::{PrepareFault, StartFault};
@@ -10,21 +9,22 @@ use sq_plan::Plan;
 use sq_ranges::Recon;
 use std::marker::Model;
 
-/// No partition has prepared. To a contract it is an `IdleValue`.
+/// The state before any partition has prepared. To a contract it is an `IdleValue`.
 #[derive(Debug, Drop)]
 pub struct Idle {
     parts: u8,
     recon: Recon,
 }
 
-/// Some partition has prepared, and the move hasn't started. To a contract it is a `PreparingValue`.
+/// The state after a partition has prepared, before the move starts. To a contract it is a
+/// `PreparingValue`.
 #[derive(Debug, Drop)]
 pub struct Preparing {
     prepared: Marks,
     recon: Recon,
 }
 
-/// The leader, in whichever state it is.
+/// The leader in any state.
 #[derive(Debug, Drop)]
 pub enum Leader {
     Idle(Idle),
@@ -33,11 +33,10 @@ pub enum Leader {
     Ended(Ended),
 }
 
-/// A call that was refused: the leader as it was, and why.
+/// A refused call: the leader as it was, and the fault.
 #[derive(Debug, Drop)]
 pub struct Refused<L, F> {
     pub leader: L,
-    /// Why.
     pub fault: F,
 }
 
@@ -62,7 +61,7 @@ impl Model for Preparing {
 }
 
 impl Idle {
-    /// The leader of a move from this plan, to which `recon` moves.
+    /// Creates the leader of a move from `plan`; `recon` is what moves.
     pub fn new(plan: &Plan, recon: Recon) -> Idle
         ensures { result ≡ record { parts = plan.now.parts; recon = recon } }
     {
@@ -72,14 +71,14 @@ impl Idle {
         }
     }
 
-    /// What is to move.
+    /// Returns what is to move.
     pub fn recon(&self) -> &Recon
         ensures { result.now ≡ self.now.recon }
     {
         &self.recon
     }
 
-    /// A partition has prepared. Refused where there is no such partition.
+    /// Records that partition `part` has prepared. Refused if there is no such partition.
     pub fn prepare(self, part: u64) -> Result<Preparing, Refused<Idle, PrepareFault>>
         ensures { result ≡ answer_to_first_prepare self part }
     {
@@ -99,21 +98,15 @@ impl Idle {
 }
 
 impl Preparing {
-    /// What is to move.
+    /// Returns what is to move.
     pub fn recon(&self) -> &Recon
         ensures { result.now ≡ self.now.recon }
     {
         &self.recon
     }
 
-    /// Whether the partition has prepared.
-    pub fn has_prepared(&self, part: u64) -> bool
-        ensures { result ≡ is_marked self.now.prepared part }
-    {
-        self.prepared.has(part)
-    }
-
-    /// A partition has prepared, which it may say again. Refused where there is no such partition.
+    /// Records that partition `part` has prepared, which it may report again. Refused if there is
+    /// no such partition.
     pub fn prepare(mut self, part: u64) -> Result<Preparing, Refused<Preparing, PrepareFault>>
         ensures { result ≡ answer_to_prepare self part }
     {
@@ -127,7 +120,7 @@ impl Preparing {
         Ok(self)
     }
 
-    /// Starts the move, with stage 0. Refused where a partition hasn't prepared.
+    /// Starts the move, in stage 0. Refused unless each partition has prepared.
     pub fn start(self) -> Result<Moving, Refused<Preparing, StartFault>>
         ensures { result ≡ answer_to_start self }
     {

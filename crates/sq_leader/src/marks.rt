@@ -1,4 +1,4 @@
-// Which partitions informed the leader.
+// Marks of the partitions that have prepared, or that have reported.
 ghost use Rattle.std.specs.Prelude.{◌≡◌, ◌≤◌, length};
 ghost use Rattle.sq_plan.specs.declared.plan.TheConstants.{MAX_PARTS};
 ghost use Rattle.sq_leader.specs.Marks.{none_marked, is_marked, with_mark, all_marked};
@@ -6,10 +6,11 @@ ghost use Rattle.sq_leader.specs.Marks.{none_marked, is_marked, with_mark, all_m
 use sq_plan::MAX_PARTS;
 use std::marker::Model;
 
-// How many partitions there are at most, as the length of an array.
+// The most partitions, as the length of an array.
 const FLAGS: usize = MAX_PARTS as usize;
 
-/// Which partitions informed the leader. To a contract it is a list with an entry for each partition.
+/// Marks of the partitions that have prepared, or that have reported. To a contract it is a list
+/// with an entry for each partition.
 #[derive(Debug, Drop)]
 pub(crate) struct Marks {
     parts: u8,
@@ -28,7 +29,7 @@ impl Model for Marks {
 }
 
 impl Marks {
-    /// None of this many partitions.
+    /// Creates the marks of `parts` partitions, none set.
     pub(crate) fn none(parts: u8) -> Marks
         requires { parts ≤ MAX_PARTS }
         ensures { result ≡ none_marked parts }
@@ -39,7 +40,7 @@ impl Marks {
         }
     }
 
-    /// How many partitions there are.
+    /// Returns the number of partitions.
     pub(crate) fn parts(&self) -> u8
         ensures parts { result ≡ length self.now }
         ensures bound { result ≤ MAX_PARTS }
@@ -47,14 +48,14 @@ impl Marks {
         self.parts
     }
 
-    /// Whether the partition did.
+    /// Returns true if partition `part` is marked.
     pub(crate) fn has(&self, part: u64) -> bool
         ensures { result ≡ is_marked self.now part }
     {
         part < u64::from(self.parts) && self.flags[part as usize]
     }
 
-    /// Whether each partition did.
+    /// Returns true if every partition is marked.
     pub(crate) fn has_all(&self) -> bool
         ensures { result ≡ all_marked self.now }
     {
@@ -63,7 +64,7 @@ impl Marks {
             .all(|flag| *flag)
     }
 
-    /// The partition did too. One that there isn't changes nothing.
+    /// Marks partition `part`. Changes nothing if there is no such partition.
     pub(crate) fn add(&mut self, part: u64)
         ensures { self.new ≡ with_mark self.old part }
     {

@@ -1,9 +1,8 @@
-// The states of the leader from the start of the move on.
+// The states of the leader after the start of the move.
 ghost use Rattle.std.specs.Prelude.{◌≡◌, ◌<◌, ◌≤◌, OnOk};
 ghost use Rattle.std.specs.List.{AllPass};
 ghost use Rattle.sq_plan.specs.declared.plan.TheConstants.{MAX_PARTS};
 ghost use Rattle.sq_ranges.specs.Prelude.{stages};
-ghost use Rattle.sq_leader.specs.Marks.{is_marked};
 ghost use Rattle.sq_leader.specs.Segments.{is_heard, have_reported};
 ghost use Rattle.sq_leader.specs.Leader.{first_stage, answer_to_report, following, answer_to_next, answer_to_finish};
 
@@ -14,7 +13,7 @@ use crate::report::Report;
 use sq_ranges::Recon;
 use std::marker::Model;
 
-/// The move is under way. To a contract it is a `StageValue`.
+/// The state while the move is under way. To a contract it is a `StageValue`.
 #[derive(Debug, Drop)]
 pub struct Moving {
     reported: Marks,
@@ -22,7 +21,8 @@ pub struct Moving {
     recon: Recon,
 }
 
-/// The move has ended. To a contract it is a `StageValue`: the last stage as it was.
+/// The state after the move has ended. To a contract it is a `StageValue`: the last stage as it
+/// was.
 #[derive(Debug, Drop)]
 pub struct Ended {
     last: Moving,
@@ -49,7 +49,7 @@ impl Model for Ended {
 }
 
 impl Moving {
-    // Stage 0 of a move of this many partitions. None has reported.
+    // Creates stage 0 of a move of `parts` partitions, none of which has reported.
     pub(crate) fn started(parts: u8, recon: Recon) -> Moving
         requires { parts ≤ MAX_PARTS }
         ensures { result ≡ first_stage parts recon }
@@ -61,14 +61,14 @@ impl Moving {
         }
     }
 
-    /// What moves.
+    /// Returns what moves.
     pub fn recon(&self) -> &Recon
         ensures { result.now ≡ self.now.recon }
     {
         &self.recon
     }
 
-    /// The running stage, one of those in which the ranges move.
+    /// Returns the running stage, one of those in which the ranges move.
     pub fn stage(&self) -> u64
         ensures stage { result ≡ self.now.stage }
         ensures within { result < stages self.now.recon }
@@ -76,15 +76,9 @@ impl Moving {
         self.stage
     }
 
-    /// Whether the partition has reported in the running stage.
-    pub fn has_reported(&self, part: u64) -> bool
-        ensures { result ≡ is_marked self.now.reported part }
-    {
-        self.reported.has(part)
-    }
-
-    /// Notes a report, which may come again and stays with the caller. A report of a partition that the leader doesn't
-    /// have changes nothing. Refused where it is a report of another stage than the running one.
+    /// Records `report`, which may be repeated and stays with the caller. A report of a partition
+    /// that the leader doesn't have changes nothing. Refused if the report is of another stage than
+    /// the running one.
     pub fn report(mut self, report: &Report) -> Result<Moving, Refused<Moving, StageFault>>
         ensures { result ≡ answer_to_report self report.now }
     {
@@ -98,11 +92,13 @@ impl Moving {
         Ok(self)
     }
 
-    /// Runs the next stage, in which none has reported. Refused for the first of these: the running stage is the last, and
-    /// a partition into which a segment of the running stage moves hasn't reported.
+    /// Enters the next stage, in which no partition has reported yet. Refused for the first of
+    /// these: the running stage is the last; a partition that a segment of the running stage moves
+    /// into hasn't reported.
     pub fn next(self) -> Result<Moving, Refused<Moving, NextFault>>
         ensures answer { result ≡ answer_to_next self }
-        // The next stage runs only where for each segment of this one the partition has reported into which it moves.
+        // The next stage is entered only if, for each segment of this one, the partition that it
+        // moves into has reported.
         ensures reported { OnOk result (AllPass (is_heard self) self.recon.segments) }
     {
         let Some(stage) = self.following() else {
@@ -124,11 +120,12 @@ impl Moving {
         })
     }
 
-    /// Ends the move. Refused where the running stage isn't the last, or a partition into which a segment of it moves
-    /// hasn't reported.
+    /// Ends the move. Refused unless the running stage is the last and every partition that a
+    /// segment of it moves into has reported.
     pub fn finish(self) -> Result<Ended, Refused<Moving, FinishFault>>
         ensures answer { result ≡ answer_to_finish self }
-        // The move ends only where for each segment of the last stage the partition has reported into which it moves.
+        // The move ends only if, for each segment of the last stage, the partition that it moves
+        // into has reported.
         ensures reported { OnOk result (AllPass (is_heard self) self.recon.segments) }
     {
         if self.following().is_some() || !self.have_reported() {
@@ -140,7 +137,7 @@ impl Moving {
         Ok(Ended { last: self })
     }
 
-    // The stage after the running one; `None` where that is the last.
+    // Returns the stage after the running one; `None` if that is the last.
     fn following(&self) -> Option<u64>
         ensures { result ≡ following self.now }
     {
@@ -151,7 +148,7 @@ impl Moving {
         }
     }
 
-    // Whether every partition into which a segment of the running stage moves has reported.
+    // Returns true if every partition that a segment of the running stage moves into has reported.
     fn have_reported(&self) -> bool
         ensures { result ≡ have_reported self.now }
     {
@@ -162,24 +159,17 @@ impl Moving {
 }
 
 impl Ended {
-    /// What moved.
+    /// Returns what moved.
     pub fn recon(&self) -> &Recon
         ensures { result.now ≡ self.now.recon }
     {
         self.last.recon()
     }
 
-    /// The last stage.
+    /// Returns the last stage.
     pub fn stage(&self) -> u64
         ensures { result ≡ self.now.stage }
     {
         self.last.stage()
-    }
-
-    /// Whether the partition has reported in the last stage.
-    pub fn has_reported(&self, part: u64) -> bool
-        ensures { result ≡ is_marked self.now.reported part }
-    {
-        self.last.has_reported(part)
     }
 }

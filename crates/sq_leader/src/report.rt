@@ -9,8 +9,8 @@ use sq_plan::{PartId, Plan};
 use sq_ranges::Recon;
 use std::marker::Model;
 
-/// A partition says that each segment that moves into it in a stage is whole there. To a contract it is a
-/// `ReportValue`.
+/// A partition's report that each segment that moves into it in a stage is whole there. To a
+/// contract it is a `ReportValue`.
 #[derive(Debug, Drop)]
 pub struct Report {
     part: PartId,
@@ -26,9 +26,10 @@ impl Model for Report {
 }
 
 impl Report {
-    /// The report of a partition in a stage, where each segment that moves into it in that stage is whole there:
-    /// `whole` has an entry for each segment by its number, and a segment without one isn't whole. Refused for the
-    /// first of these: the plan has no such partition, and a segment isn't whole.
+    /// Creates the report of partition `part` in `stage`, if each segment that moves into it in
+    /// that stage is whole there. `whole` has an entry for each segment by its number; a segment
+    /// without one isn't whole. Refused for the first of these: `plan` has no such partition; a
+    /// segment isn't whole.
     pub fn made(
         part: u64,
         plan: &Plan,
@@ -37,7 +38,8 @@ impl Report {
         whole: &[bool],
     ) -> Result<Report, ReportFault>
         ensures answer { result ≡ made_answer plan.now recon.now stage whole.now part }
-        // There is a report only where each segment into the partition in the stage is whole.
+        // A report is made only if each segment that moves into the partition in the stage is
+        // whole.
         ensures whole { OnOk result ((seg : ℕ) → IsTrue (moves_into recon.now stage part seg)
             → IsTrue (is_marked_complete whole.now seg)) }
     {
@@ -51,14 +53,14 @@ impl Report {
         Ok(Report { part, stage })
     }
 
-    /// The partition that reports.
+    /// Returns the partition that reports.
     pub fn part(&self) -> PartId
         ensures { result ≡ self.now.part }
     {
         self.part
     }
 
-    /// The stage in which it does.
+    /// Returns the stage that it reports.
     pub fn stage(&self) -> u64
         ensures { result ≡ self.now.stage }
     {
@@ -66,7 +68,7 @@ impl Report {
     }
 }
 
-// Whether every segment that moves into a partition in a stage is whole.
+// Returns true if every segment that moves into `part` in `stage` is whole.
 fn has_all(part: PartId, recon: &Recon, stage: u64, whole: &[bool]) -> bool
     ensures { result ≡ all_marked_complete recon.now stage whole.now part }
 {
@@ -81,7 +83,7 @@ fn has_all(part: PartId, recon: &Recon, stage: u64, whole: &[bool]) -> bool
     true
 }
 
-// Whether the segment of this number is marked as complete.
+// Returns true if segment number `seg` is marked as whole.
 fn is_complete(whole: &[bool], seg: usize) -> bool
     ensures { result ≡ is_marked_complete whole.now seg }
 {

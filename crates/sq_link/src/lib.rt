@@ -1,4 +1,5 @@
-//! Links: the way that chunks take from one partition to another, in order and whole, in every schedule of the two.
+//! Links: queues that carry chunks from one partition to another, in order and without loss, for
+//! every schedule of the two threads.
 #![tactic(auto)]
 
 mod link;

@@ -1,4 +1,4 @@
-// Links.
+// The link that two threads share.
 ghost use Rattle.std.specs.Prelude.{◌≡◌, ◌<◌, ◌≤◌, [], ◌∷◌, ◌++◌, length, IfOk, IfErr, IfSome, IfNone, OnOk, OnErr};
 ghost use Rattle.crossbeam_queue.specs.Fifo.{Held};
 ghost use Rattle.sq_link.specs.Order.{IsEndOf, ComesAfter};
@@ -12,7 +12,8 @@ use std::alloc::{AllocError, Global};
 use std::marker::Model;
 use std::sync::Wait;
 
-/// The way of chunks from one partition to another, which the two threads share by `&`. To a contract it is a `LinkValue`.
+/// A queue of chunks from one partition to another, which the two threads share by `&`. To a
+/// contract it is a `LinkValue`.
 #[derive(Drop)]
 pub struct SharedLink {
     pub(crate) ends: Link,
@@ -40,7 +41,7 @@ impl Model for SharedLink {
 }
 
 impl SharedLink {
-    /// An empty link from `src` to `dst` with room for `capacity` chunks, and its two ends.
+    /// Returns an empty link from `src` to `dst` with room for `capacity` chunks, and its two ends.
     pub fn open(
         alloc: Global,
         src: PartId,
@@ -67,21 +68,21 @@ impl SharedLink {
         Ok((link, LinkPass::new(sender), LinkPass::new(receiver)))
     }
 
-    /// The partitions between which it leads.
+    /// Returns the partitions that it leads from and to.
     pub fn ends(&self) -> Link
         ensures { result ≡ record { src = self.now.src; dst = self.now.dst } }
     {
         self.ends
     }
 
-    /// How many chunks it holds.
+    /// Returns how many chunks it holds at most.
     pub fn capacity(&self) -> u64
         ensures { result ≡ self.now.capacity }
     {
         self.queue.capacity() as u64
     }
 
-    /// Sends the chunk, or hands it back where the link was full at one moment of the call.
+    /// Sends `chunk`, or returns it if the link was full at one moment of the call.
     pub fn send<R: Wait>(&self, rt: &R, pass: &mut SendPass, chunk: Chunk) -> Result<(), Chunk>
         requires { pass.old.queue ≡ self.now.queue }
         ensures sent { OnOk result (pass.new
@@ -92,7 +93,8 @@ impl SharedLink {
         self.queue.push_as::<Sends, R>(rt, &mut pass.end, chunk)
     }
 
-    /// The chunk that was sent first of those not received; `None` where the link was empty at one moment of the call.
+    /// Returns the oldest chunk that was sent and not yet received, or `None` if the link was empty
+    /// at one moment of the call.
     pub fn recv<R: Wait>(&self, rt: &R, pass: &mut RecvPass) -> Option<Chunk>
         requires { pass.old.queue ≡ self.now.queue }
         ensures received { IfSome result (λ chunk. pass.new
@@ -103,7 +105,8 @@ impl SharedLink {
         self.queue.pop_as::<Receives, R>(rt, &mut pass.end)
     }
 
-    /// The chunks that were sent and not received, in order, in the room that `open` took.
+    /// Returns the chunks that were sent and not received, in order, in the room that
+    /// [`SharedLink::open`] allocated.
     pub fn close<R: Wait>(self, rt: &R, sender: SendPass, receiver: RecvPass) -> Vec<Chunk>
         requires sender { sender.queue ≡ self.queue }
         requires receiver { receiver.queue ≡ self.queue }

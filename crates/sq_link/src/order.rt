@@ -4,7 +4,8 @@ use crossbeam_queue::{Pass, RuledArrayQueue};
 use sq_chunk::Chunk;
 use std::collections::LinkedList;
 
-// What a pass knows: which ends of the link it has, what it sent and what it received. No value of it is made.
+// What a pass knows: which ends of the link it has, what it sent and what it received. No value of
+// this type is created.
 pub struct EndView {
     pub sends: bool,
     pub receives: bool,
@@ -16,7 +17,7 @@ pub type End = Pass<Chunk, EndView>;
 
 pub type LinkQueue = RuledArrayQueue<Chunk, EndView, InOrder>;
 
-// What was sent is what was received and then what the queue holds.
+// What was sent is what was received, followed by what the queue holds.
 pub struct InOrder;
 
 impl Protocol<Chunk, EndView> for InOrder {
@@ -28,7 +29,7 @@ impl Protocol<Chunk, EndView> for InOrder {
     ghost first = { ends true true [] [] };
 }
 
-// The two ends, from one pass into two and back.
+// The two ends: one pass is split into two, and two are joined into one.
 pub struct Ends;
 
 impl Split<EndView> for Ends {
@@ -49,7 +50,7 @@ impl Join<EndView> for Ends {
     ghost spent = { ends false false [] [] };
 }
 
-/// Sending: a push, and what a sender knows of a full queue.
+/// Sending: a push, and what the sender knows of a full queue.
 #[derive(Drop)]
 pub struct Sends;
 
@@ -66,7 +67,7 @@ impl Lesson<Chunk, EndView> for Sends {
     ghost fact = { λ v. IsEndOf v.sent };
 }
 
-/// Receiving: a pop, and what a receiver knows of what the queue holds.
+/// Receiving: a pop, and what the receiver knows of the queue's contents.
 #[derive(Drop)]
 pub struct Receives;
 

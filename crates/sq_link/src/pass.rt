@@ -7,14 +7,16 @@ use crate::order::{End, Receives, Sends};
 use sq_plan::PartId;
 use std::marker::{Model, PhantomData};
 
-/// What is done at an end of a link: `Sends` at the partition that it leads from, `Receives` at the one that it leads to.
+/// One side of a link: [`Sends`] at the partition that it leads from, [`Receives`] at the partition
+/// that it leads to.
 pub trait Side: Drop {
     ghost use Rattle.std.specs.Prelude.{◌≡◌, ℕ, List};
     ghost use Rattle.sq_chunk.specs.ChunkValue.{ChunkValue};
     ghost use Rattle.sq_link.specs.declared.order.EndView.{EndView};
     ghost use Rattle.sq_link.specs.Values.{LinkValue};
 
-    // What a pass of this end knows by which these chunks went, and the chunks that went by a pass that knows this.
+    // What a pass of this side knows after these chunks went by it, and the chunks that went by a
+    // pass that knows this.
     ghost knows: { List ChunkValue → EndView };
 
     ghost chunks: { EndView → List ChunkValue };
@@ -23,11 +25,11 @@ pub trait Side: Drop {
 
     ghost far: { LinkValue → ℕ };
 
-    /// The partition at this end of a link.
+    /// Returns the partition at this end of `link`.
     fn near(link: &SharedLink) -> PartId
         ensures { result ≡ near link.now };
 
-    /// The partition at the other end of a link.
+    /// Returns the partition at the other end of `link`.
     fn far(link: &SharedLink) -> PartId
         ensures { result ≡ far link.now };
 }
@@ -74,7 +76,8 @@ impl Side for Receives {
     }
 }
 
-/// The right to do this on a link, with the chunks that went by it, in order. It has no bytes. To a contract it is a `PassValue`.
+/// The right to act on side `S` of a link, with the chunks that went by it, in order. It takes no
+/// bytes. To a contract it is a `PassValue`.
 #[derive(Drop)]
 pub struct LinkPass<S: Side> {
     pub(crate) end: End,

@@ -33,23 +33,23 @@ use Rattle.sq_model.specs.Place.{destination, runner}
 use Rattle.sq_model.specs.Links.{has_last, open_items, next_item, next_note, family_count}
 use Rattle.sq_model.specs.Waiting.{waiting, has_to_wait, are_coming, first_ready}
 
--- the answer, where the partition is one of the plan's
+-- the answer, if the partition is one of the plan's
 abbrev pub at_partition : OpeningValue → ℕ → Answer → Answer
 at_partition o part answer = if nat_le o.old.parts part then Refused NoSuchPartition else answer
 
--- the answer, where the move is under way
+-- the answer, if the move is under way
 abbrev pub while_moving : Trace → Answer → Answer
 while_moving t answer = if not (is_moving t) then Refused NotMoving else answer
 
--- the segment of this number, where it is of the running stage
+-- the segment with this number, if it is of the running stage
 abbrev pub running : OpeningValue → Trace → ℕ → Option Range
 running o t seg = of_stage o.recon (stage t) (slice_get o.recon.segments seg)
 
--- the answer, where the running stage has such a segment
+-- the answer, if the running stage has such a segment
 abbrev pub in_segment : OpeningValue → Trace → ℕ → Answer → Answer
 in_segment o t seg answer = if is_none (running o t seg) then Refused NoSuchSegment else answer
 
--- the answer, where there is such a node
+-- the answer, if there is such a node
 abbrev pub at_node : ℕ → Answer → Answer
 at_node node answer = if not (is_node node) then Refused NoSuchNode else answer
 
@@ -57,7 +57,7 @@ at_node node answer = if not (is_node node) then Refused NoSuchNode else answer
 abbrev pub is_running_link : OpeningValue → Trace → ℕ → ℕ → Bool
 is_running_link o t src dst = is_link o.recon.ranges src dst && (stage_on o.recon src dst == stage t)
 
--- the answer, where one does
+-- the answer, if there is such a link
 abbrev pub on_link : OpeningValue → Trace → ℕ → ℕ → Answer → Answer
 on_link o t src dst answer = if not (is_running_link o t src dst) then Refused NoSuchLink else answer
 
@@ -74,7 +74,8 @@ start_answer o t =
     else if not (list_all (is_prepared t) (partitions o)) then Refused NotPrepared
     else Done
 
--- the transaction waits for the segment and the leaf of its root key, which has them: only a key that moves is waited for
+-- the transaction waits for the segment and the leaf of its root key; it has both, since only keys
+-- that move are waited for
 abbrev pub waits_at : ReconValue → TxnValue → Answer
 waits_at recon txn = let at = unwrap_or (leaf_at recon txn.root) (0, 0) in Waits txn.id at.0 at.1
 
@@ -86,7 +87,8 @@ wait_answer o t part txn =
 abbrev pub run_answer : OpeningValue → Trace → TxnValue → Answer
 run_answer o t txn = if is_full o t txn.root then Refused LogFull else Replied txn.id (reply (now o t txn.root) txn)
 
--- at the runner the transaction runs; elsewhere it is given the runner, or the destination where there is none
+-- at the runner the transaction runs; elsewhere the answer names the runner, or the destination if
+-- there is none
 abbrev pub routed : OpeningValue → Trace → ℕ → TxnValue → Option ℕ → Answer
 routed o t part txn None = Moved txn.id (destination o txn.root)
 routed o t part txn (Some who) = if who == part then run_answer o t txn else Moved txn.id who
@@ -97,7 +99,7 @@ submit_answer o t part txn =
     if has_to_wait o t part txn.root then wait_answer o t part txn else routed o t part txn (runner o t txn.root)
     )
 
--- the transaction that waits no more is answered
+-- the answer to the transaction that no longer waits
 abbrev pub resumed : OpeningValue → Trace → Option TxnValue → Answer
 resumed o t None = Refused LogFull
 resumed o t (Some txn) = Resumed txn (reply (now o t txn.root) txn)
@@ -190,25 +192,25 @@ load_answer o t src dst =
 abbrev pub is_complete_segment : Trace → ℕ → Bool
 is_complete_segment t seg = is_complete_reading (reading (status_of t seg) 1)
 
--- the segment of this number moves into the partition in the running stage
+-- the segment with this number moves into the partition in the running stage
 abbrev pub is_into : OpeningValue → Trace → ℕ → ℕ → Bool
 is_into o t part seg = moves_into o.recon (stage t) part seg
 
 abbrev pub segment_numbers : OpeningValue → List ℕ
 segment_numbers o = range_with_len 0 (length o.recon.segments)
 
--- each segment of the running stage into the partition is whole
+-- each segment that moves into the partition in the running stage is whole
 abbrev pub has_all : OpeningValue → Trace → ℕ → Bool
 has_all o t part = list_all (λ seg. not (is_into o t part seg) || is_complete_segment t seg) (segment_numbers o)
 
 abbrev pub report_answer : OpeningValue → Trace → ℕ → Answer
 report_answer o t part = while_moving t (at_partition o part (if has_all o t part then Done else Refused NotFinished))
 
--- a partition that no segment of the running stage goes into counts as reported
+-- a partition counts as reported if no segment moves into it in the running stage
 abbrev pub counts_reported : OpeningValue → Trace → ℕ → Bool
 counts_reported o t part = is_reported t part || not (list_any (is_into o t part) (segment_numbers o))
 
--- no stage comes after the running one
+-- no stage follows the running one
 abbrev pub is_last_stage : OpeningValue → Trace → Bool
 is_last_stage o t = stage t + 1 == stages o.recon
 
@@ -224,11 +226,11 @@ abbrev pub finish_answer : OpeningValue → Trace → Answer
 finish_answer o t =
     while_moving t (if is_last_stage o t && list_all (counts_reported o t) (partitions o) then Done else Refused NotFinished)
 
--- logs are folded only once nothing moves any more
+-- logs are folded only after the move has ended
 abbrev pub fold_answer : OpeningValue → Trace → ℕ → Answer
 fold_answer o t part = at_partition o part (if is_ended t then Done else Refused NotFinished)
 
--- the status of a node, and what it reads as
+-- the status of a node, and its reading
 abbrev pub status_answer : OpeningValue → Trace → ℕ → ℕ → Answer
 status_answer o t seg node = in_segment o t seg (at_node node (Reads (status_of t seg node) (reading (status_of t seg) node)))
 

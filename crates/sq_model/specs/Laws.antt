@@ -14,7 +14,8 @@ pub record FindsFullLog (o : OpeningValue) (t : Trace) (part root : ℕ) : Type 
   pub runs : runner o t root ≡ Some part
   pub full : is_full o t root ≡ true
 
--- a transaction on this root key has to wait at the partition, and as many wait there as can
+-- a transaction on this root key has to wait at the partition, and the most that may wait there are
+-- waiting
 pub record FindsCrowd (o : OpeningValue) (t : Trace) (part root : ℕ) : Type 0 where
   pub exists : part < o.old.parts
   pub waits : has_to_wait o t part root ≡ true

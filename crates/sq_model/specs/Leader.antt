@@ -1,4 +1,4 @@
--- How far the leader is, and what the partitions said to it.
+-- The phase of the leader, and what the partitions reported to it.
 use Rattle.std.specs.Prelude.{ℕ, Bool, true, false, ◌==◌, ◌||◌}
 use Rattle.sq_model.specs.declared.step.Step.{Step}
 use Rattle.sq_model.specs.declared.step.Step.TheVariants.{Prepare, Start, Report, Next, Finish}
@@ -35,7 +35,7 @@ is_ended_phase _ = false
 abbrev pub is_moving : Trace → Bool
 is_moving t = is_moving_phase (phase t)
 
--- the move was started
+-- the move has started
 abbrev pub is_started : Trace → Bool
 is_started t = is_started_phase (phase t)
 
@@ -47,7 +47,7 @@ abbrev pub prepares : ℕ → Step → Answer → Bool → Bool
 prepares part (Prepare which) Done before = (which == part) || before
 prepares part _ _ before = before
 
--- the partition prepared
+-- the partition has prepared
 abbrev pub is_prepared : Trace → ℕ → Bool
 is_prepared t part = by_steps (prepares part) false t
 
@@ -56,6 +56,6 @@ reports part (Report which) Done before = (which == part) || before
 reports part Next Done before = false
 reports part _ _ before = before
 
--- the partition reported in the running stage
+-- the partition has reported in the running stage
 abbrev pub is_reported : Trace → ℕ → Bool
 is_reported t part = by_steps (reports part) false t

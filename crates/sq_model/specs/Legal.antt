@@ -1,4 +1,4 @@
--- The traces whose answers are those that the definitions give.
+-- The traces whose answers are those that the definitions determine.
 use Rattle.std.specs.Prelude.{◌≡◌, ◌⊎◌, Bool, true, false, IsTrue, List, [], ◌∷◌}
 use Rattle.sq_ranges.specs.OpeningValue.{OpeningValue}
 use Rattle.sq_model.specs.declared.step.Step.{Step}
@@ -9,7 +9,8 @@ use Rattle.sq_model.specs.declared.answer.Refusal.TheVariants.{Memory}
 use Rattle.sq_model.specs.Trace.{Trace}
 use Rattle.sq_model.specs.Answers.{answer}
 
--- a step with this answer takes memory: a transaction that runs, waits or is resumed, and a Begin, a Cut, a Load or a Fold that is done
+-- a step with this answer takes memory: a transaction that runs, waits or is resumed, and a Begin,
+-- a Cut, a Load or a Fold that is done
 abbrev pub takes_memory : Step → Answer → Bool
 takes_memory (Submit part txn) (Replied id reply) = true
 takes_memory (Submit part txn) (Waits id seg leaf) = true
@@ -20,7 +21,7 @@ takes_memory (Load src dst) (WasLoaded note families) = true
 takes_memory (Fold part) Done = true
 takes_memory _ _ = false
 
--- the answer is the one that the trace determines, or, where the step takes memory, that it ran out
+-- the answer is the one that the trace determines, or, if the step takes memory, that it ran out
 abbrev pub IsAnswer : OpeningValue → Trace → Step → Answer → Type 0
 IsAnswer o t step given =
     (given ≡ answer o t step) ⊎ ((given ≡ Refused Memory) × IsTrue (takes_memory step (answer o t step)))
@@ -30,12 +31,12 @@ abbrev pub IsLegal : OpeningValue → Trace → Type 0
 IsLegal o [] = Unit {0}
 IsLegal o ((step, given) ∷ trace) = IsAnswer o trace step given × IsLegal o trace
 
--- the history after steps, one after another, where memory never runs out
+-- the history after steps, one after another, if memory never runs out
 abbrev pub after : OpeningValue → Trace → List Step → Trace
 after o t [] = t
 after o t (step ∷ steps) = after o ((step, answer o t step) ∷ t) steps
 
--- the answers to steps, one after another, where memory never runs out
+-- the answers to steps, one after another, if memory never runs out
 abbrev pub answers : OpeningValue → Trace → List Step → List Answer
 answers o t [] = []
 answers o t (step ∷ steps) = answer o t step ∷ answers o ((step, answer o t step) ∷ t) steps

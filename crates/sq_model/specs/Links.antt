@@ -2,6 +2,7 @@
 use Rattle.std.specs.Prelude.{ℕ, Bool, false, ◌-◌, ◌%◌, ◌==◌, ◌&&◌, not, List, [], ◌∷◌, find, filter, length, Option, Some, None, slice_get}
 use Rattle.std.specs.List.{list_any, range_with_len}
 use Rattle.sq_chunk.specs.declared.chunk.Note.{Note}
+pub use Rattle.sq_chunk.specs.ChunkValue.{is_about}
 use Rattle.sq_ranges.specs.declared.recon.Range.{Range}
 use Rattle.sq_ranges.specs.CutEnd.{end_of}
 use Rattle.sq_ranges.specs.OpeningValue.{OpeningValue}
@@ -9,10 +10,6 @@ use Rattle.sq_model.specs.Trace.{Trace, notes, cut_count}
 use Rattle.sq_model.specs.Nodes.{Item, items}
 use Rattle.sq_model.specs.Tables.{stands, size_of}
 use Rattle.sq_model.specs.Place.{extent_of}
-
--- the note is about this node
-abbrev pub is_about : ℕ → ℕ → Note → Bool
-is_about seg node note = (note.seg == seg) && (note.node == node)
 
 -- the node has its last note among these
 abbrev pub has_last : ℕ → ℕ → List Note → Bool
@@ -22,7 +19,8 @@ abbrev pub end_of_note : ℕ → Option Note → ℕ
 end_of_note lo None = lo
 end_of_note lo (Some note) = note.hi
 
--- how far a node is covered by these notes: to the end of its newest one, or not beyond its low end
+-- how far these notes cover a node: to the end of its newest one, or to its low end if there is
+-- none
 abbrev pub reached : OpeningValue → ℕ → ℕ → List Note → ℕ
 reached o seg node notes = end_of_note (extent_of o seg node).lo (find (is_about seg node) notes)
 
@@ -50,11 +48,11 @@ or_first items (Some item) = Some item
 or_first [] None = None
 or_first (item ∷ items) None = Some item
 
--- what is cut next: the first reactive item, or where there is none the first
+-- what is cut next: the first reactive item, or without one the first of all
 abbrev pub next_item : List Item → Option Item
 next_item items = or_first items (find is_reactive items)
 
--- the root keys that stand from lo up to hi, rising
+-- the root keys with a family from lo up to hi, rising
 abbrev pub standing : OpeningValue → Trace → ℕ → ℕ → List ℕ
 standing o t lo hi = filter (stands o t) (range_with_len lo (hi - lo))
 

@@ -9,7 +9,7 @@ use Rattle.sq_model.specs.declared.answer.Answer.{Answer}
 use Rattle.sq_model.specs.declared.answer.Answer.TheVariants.{Done}
 use Rattle.sq_model.specs.Trace.{Trace, by_steps}
 
--- the status of one node where another one's is set
+-- the status of one node after another one's is set
 abbrev pub set_if : ℕ → ℕ → Status → ℕ → ℕ → Status → Status
 set_if seg node new g n before = if (seg == g) && (node == n) then new else before
 

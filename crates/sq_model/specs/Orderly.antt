@@ -1,5 +1,5 @@
--- Each family of a reconfigured range is extracted at most once and loaded at most once, in the order that its link numbered it,
--- and nothing of a complete node moves.
+-- Each family of a reconfigured range is cut at most once and loaded at most once, in the order in
+-- which its link numbered it, and nothing of a complete node moves.
 use Rattle.std.specs.Prelude.{◌≡◌, ℕ, ◌≤◌, ◌==◌, true, false, List, [], ◌∷◌, ◌++◌, length, slice_get, Some}
 use Rattle.sq_tree.specs.Status.{is_complete}
 use Rattle.sq_chunk.specs.declared.chunk.Note.{Note}
@@ -23,8 +23,8 @@ abbrev pub AreNumbered : List Note → Type 0
 AreNumbered [] = Unit {0}
 AreNumbered (note ∷ notes) = (note.number ≡ length notes) × AreNumbered notes
 
--- the note continues where the notes of its node before it end, is last exactly if it ends where the node does, and no
--- last one came before it
+-- the note continues where the earlier notes of its node end, is last exactly if it ends where the
+-- node does, and no last one came before it
 pub record GoesOn (o : OpeningValue) (note : Note) (notes : List Note) : Type 0 where
   pub begins : note.lo ≡ reached o note.seg note.node notes
   pub rises : note.lo ≤ note.hi
@@ -43,7 +43,7 @@ AreDisjoint notes =
     (i j : ℕ) (one other : Note) (root : ℕ) → slice_get notes i ≡ Some one → slice_get notes j ≡ Some other
     → covers one root ≡ true → covers other root ≡ true → (one.seg ≡ other.seg) × (one.node ≡ other.node)
 
--- of two places in the list whose notes cover one root key both are the same place
+-- no two places in the list have notes that cover the same root key
 abbrev pub CoverOnce : List Note → Type 0
 CoverOnce notes =
     (i j root : ℕ) (one other : Note) → slice_get notes i ≡ Some one → slice_get notes j ≡ Some other

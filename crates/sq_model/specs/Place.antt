@@ -1,4 +1,4 @@
--- Where the family of a root key is, and who runs transactions on it.
+-- Where the family of a root key is, and which partition runs transactions on it.
 use Rattle.std.specs.Prelude.{ℕ, Bool, ◌==◌, ◌&&◌, not, nat_le, nat_lt, if◌then◌else◌, List, find, Option, Some, None, slice_get}
 use Rattle.std.specs.List.{list_any}
 use Rattle.sq_plan.specs.PlanValue.{owner}
@@ -12,7 +12,7 @@ use Rattle.sq_model.specs.Trace.{Trace, notes, loads, stage}
 use Rattle.sq_model.specs.Leader.{is_started}
 use Rattle.sq_model.specs.Nodes.{items}
 
--- who owned a root key before the move, and who owns it after
+-- the owner of a root key before the move, and its owner after
 abbrev pub source : OpeningValue → ℕ → ℕ
 source o root = owner o.old root
 
@@ -31,7 +31,7 @@ moves_in o i root = moves o root && (stage_on o.recon (source o root) (destinati
 abbrev pub is_covered : List Note → ℕ → Bool
 is_covered notes root = list_any (λ note. covers note root) notes
 
--- the keys of a node; none where there is no such segment
+-- the keys of a node; none if there is no such segment
 abbrev pub extent_in : ℕ → Option Range → ℕ → Extent
 extent_in width None node = record { lo = 0; hi = 0 }
 extent_in width (Some segment) node = extent width segment node
@@ -51,7 +51,8 @@ pub data Place : Type 0 where
   At : (part : ℕ) → Place
   Under_way : (note : Note) → Place
 
--- a key that no note covers is where it was; one that a note covers is under way in that chunk until this is loaded
+-- a key that no note covers is where it was; a key that a note covers is under way in that chunk
+-- until this is loaded
 abbrev pub cut_place : ℕ → Option Note → Place
 cut_place owner None = At owner
 cut_place owner (Some note) = Under_way note
@@ -64,7 +65,8 @@ loaded_place before (Some note) = At note.dst
 abbrev pub note_over : ℕ → List Note → Option Note
 note_over root notes = find (λ note. covers note root) notes
 
--- where the family of a root key is that was at this partition before chunks with these notes were cut and loaded
+-- where the family of a root key is, which was at this partition before chunks with these notes
+-- were cut and loaded
 abbrev pub place_from : ℕ → List Note → List Note → ℕ → Place
 place_from owner cut loaded root = loaded_place (cut_place owner (note_over root cut)) (note_over root loaded)
 
@@ -72,8 +74,9 @@ place_from owner cut loaded root = loaded_place (cut_place owner (note_over root
 abbrev pub place : OpeningValue → Trace → ℕ → Place
 place o t root = place_from (source o root) (notes t) (loads t) root
 
--- the partition that runs transactions on a root key that this one owned before these steps: this one until a node over the key
--- was begun, nobody from then until it is loaded, and then the destination
+-- the partition that runs transactions on a root key that this one owned before these steps: this
+-- one until a node over the key is begun, none from then until the key is loaded, and after that
+-- the destination
 abbrev pub runner_from : OpeningValue → Trace → ℕ → ℕ → Option ℕ
 runner_from o t owner root =
     if is_covered (loads t) root then Some (destination o root)
@@ -84,7 +87,7 @@ runner_from o t owner root =
 abbrev pub runner : OpeningValue → Trace → ℕ → Option ℕ
 runner o t root = runner_from o t (source o root) root
 
--- the root key comes to this partition in the running stage, and isn't loaded
+-- the root key moves to this partition in the running stage, and isn't loaded yet
 abbrev pub is_coming : OpeningValue → Trace → ℕ → ℕ → Bool
 is_coming o t part root =
     is_started t && (moves_in o (stage t) root && ((destination o root == part) && not (is_covered (loads t) root)))

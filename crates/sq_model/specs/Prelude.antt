@@ -1,4 +1,5 @@
--- The words of this crate that contracts of other crates cite, passed on from one place. Declares nothing.
+-- The words of this crate that contracts of other crates cite, passed on from one place. Declares
+-- nothing.
 pub use Rattle.sq_model.specs.Trace.{Trace, stage}
 pub use Rattle.sq_model.specs.Leader.{phase, is_moving_phase}
 pub use Rattle.sq_model.specs.Place.{extent_in}

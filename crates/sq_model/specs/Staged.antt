@@ -1,5 +1,5 @@
--- What the running stage alone says: the steps since the last Next that went, and who owned a root key as the stage
--- began.
+-- What the running stage alone determines: the steps since the last successful Next, and the owner
+-- of a root key as the stage began.
 use Rattle.std.specs.Prelude.{◌≡◌, ℕ, Bool, true, false, ◌&&◌, nat_lt, is_none, if◌then◌else◌, [], ◌∷◌, Option}
 use Rattle.sq_ranges.specs.ReconValue.{stage_on}
 use Rattle.sq_ranges.specs.OpeningValue.{OpeningValue}
@@ -17,15 +17,15 @@ abbrev pub anew : Step → Answer → Trace → Trace
 anew Next Done steps = []
 anew step answer steps = (step, answer) ∷ steps
 
--- the steps since the last Next that went
+-- the steps since the last successful Next
 abbrev pub since : Trace → Trace
 since = by_steps anew []
 
--- the root key moved in a stage before this one
+-- the root key moved in an earlier stage
 abbrev pub has_moved : OpeningValue → ℕ → ℕ → Bool
 has_moved o i root = moves o root && nat_lt (stage_on o.recon (source o root) (destination o root)) i
 
--- who owned a root key as the stage began: the new owner where it had moved, else the old one
+-- the owner of a root key as the stage began: the new owner if it had moved, otherwise the old one
 abbrev pub owner_in : OpeningValue → ℕ → ℕ → ℕ
 owner_in o i root = if has_moved o i root then destination o root else source o root
 
@@ -33,12 +33,12 @@ owner_in o i root = if has_moved o i root then destination o root else source o 
 abbrev pub place_in : OpeningValue → Trace → ℕ → Place
 place_in o t root = place_from (owner_in o (stage t) root) (notes (since t)) (loads (since t)) root
 
--- who runs transactions on it, by the running stage alone
+-- which partition runs transactions on it, by the running stage alone
 abbrev pub runner_in : OpeningValue → Trace → ℕ → Option ℕ
 runner_in o t root = runner_from o (since t) (owner_in o (stage t) root) root
 
--- the running stage alone says where each root key is and who runs it, and all that its own segments and links are
--- answered by
+-- the running stage alone determines where each root key is and which partition runs it, and all
+-- that the answers about its own segments and links depend on
 pub record TellsAlone (o : OpeningValue) (t : Trace) : Type 0 where
   pub place : (root : ℕ) → place o t root ≡ place_in o t root
   pub runner : (root : ℕ) → runner o t root ≡ runner_in o t root

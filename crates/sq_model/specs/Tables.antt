@@ -1,5 +1,5 @@
--- The unpartitioned table that the committed transactions were run on, and what each family keeps of it: the rows that its log
--- starts from, and its log.
+-- The table without partitions that the committed transactions ran on, and what each family keeps
+-- of it: the rows that its log starts from, and its log.
 use Rattle.std.specs.Prelude.{◌≡◌, ℕ, Bool, ◌==◌, nat_le, if◌then◌else◌, List, [], ◌∷◌, ◌++◌, length}
 use Rattle.sq_schema.specs.Effect.{RowTable, replay, replay_rows, only}
 use Rattle.sq_schema.specs.TxnValue.{TxnValue}
@@ -18,16 +18,19 @@ use Rattle.sq_model.specs.Place.{destination}
 abbrev pub opening_rows : OpeningValue → RowTable
 opening_rows o root = rows_in o.table root
 
--- the rows now: those of the opening after each transaction that committed, on one unpartitioned table
+-- the current rows: those of the opening after each committed transaction, on one table without
+-- partitions
 abbrev pub now : OpeningValue → Trace → RowTable
 now o t = replay (opening_rows o) (committed t)
 
--- A partition is folded only once the reconfiguration has ended, and then each root key is at its owner by the new plan.
+-- A partition is folded only after the reconfiguration has ended, and then each root key is at its
+-- owner in the new plan.
 abbrev pub folds : OpeningValue → Trace → Step → Answer → RowTable → RowTable
 folds o t (Fold part) Done bases root = if destination o root == part then now o t root else bases root
 folds o t _ _ bases root = bases root
 
--- the rows that a root key's log starts from: its rows at the last fold of its partition, or those of the opening
+-- the rows that a root key's log starts from: its rows at the last fold of its partition, or those
+-- of the opening
 abbrev pub base_of : OpeningValue → Trace → RowTable
 base_of o [] = opening_rows o
 base_of o ((step, answer) ∷ trace) = folds o trace step answer (base_of o trace)
@@ -36,19 +39,19 @@ base_of o ((step, answer) ∷ trace) = folds o trace step answer (base_of o trac
 abbrev pub log_of : OpeningValue → Trace → ℕ → List TxnValue
 log_of o t root = only root (unfolded t (destination o root))
 
--- the log of a root key holds as many transactions as it can
+-- the log of a root key is full
 abbrev pub is_full : OpeningValue → Trace → ℕ → Bool
 is_full o t root = nat_le MAX_LOG (length (log_of o t root))
 
--- the family of a root key that stands
+-- the family of a root key
 abbrev pub family_of : OpeningValue → Trace → ℕ → FamilyValue
 family_of o t root = record { root = root; base = base_of o t root; log = log_of o t root }
 
--- a root key stands whose log starts from some rows, or isn't empty
+-- a root key has a family if its log starts from some rows, or isn't empty
 abbrev pub stands : OpeningValue → Trace → ℕ → Bool
 stands o t root = family_stands (family_of o t root)
 
--- the transactions on a root key that committed are those that its base was made by, and then its log
+-- the committed transactions on a root key are those that made its base, followed by its log
 pub record IsFoldedRoot (o : OpeningValue) (t : Trace) (root : ℕ) : Type 0 where
   pub front : List TxnValue
   pub commits : only root (committed t) ≡ front ++ log_of o t root

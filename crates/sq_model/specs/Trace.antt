@@ -1,4 +1,5 @@
--- A trace is the steps so far with their answers, the newest first. What it says follows from the steps that went.
+-- A trace is the steps so far with their answers, the newest first. Its values follow from the
+-- successful steps.
 use Rattle.std.specs.Prelude.{ℕ, ◌+◌, ◌==◌, ◌&&◌, if◌then◌else◌, List, [], ◌∷◌, ◌++◌, filter, length}
 use Rattle.sq_schema.specs.TxnValue.{TxnValue}
 use Rattle.sq_schema.specs.declared.txn.Reply.TheVariants.{Committed}
@@ -11,7 +12,7 @@ use Rattle.sq_model.specs.declared.answer.Answer.TheVariants.{Done, Replied, Res
 abbrev pub Trace : Type 0
 Trace = List (Step × Answer)
 
--- the value of a trace, step by step: what each step with its answer makes of it, from this start
+-- the value of a trace, step by step: what each step with its answer turns it into, from this start
 abbrev pub by_steps : {A : Type 0} → (Step → Answer → A → A) → A → Trace → A
 by_steps each start [] = start
 by_steps each start ((step, answer) ∷ trace) = each step answer (by_steps each start trace)
@@ -20,7 +21,7 @@ abbrev pub enters : Step → Answer → ℕ → ℕ
 enters Next Done i = i + 1
 enters _ _ i = i
 
--- the running stage: how many Nexts went
+-- the running stage: the number of successful Nexts
 abbrev pub stage : Trace → ℕ
 stage = by_steps enters 0
 
@@ -29,7 +30,7 @@ commits (Submit at txn) (Replied id (Committed answers)) txns = txns ++ txn ∷ 
 commits (Resume at) (Resumed txn (Committed answers)) txns = txns ++ txn ∷ []
 commits _ _ txns = txns
 
--- the transactions that committed, in order
+-- the committed transactions, in order
 abbrev pub committed : Trace → List TxnValue
 committed = by_steps commits []
 
@@ -37,7 +38,8 @@ abbrev pub clears : ℕ → Step → Answer → List TxnValue → List TxnValue
 clears part (Fold which) Done txns = if part == which then [] else txns
 clears part _ _ txns = txns
 
--- the transactions that committed since the last fold of a partition, in order; all that did where it was never folded
+-- the transactions that committed since the last fold of a partition, in order; all committed ones
+-- if it was never folded
 abbrev pub unfolded : Trace → ℕ → List TxnValue
 unfolded t part = by_steps (λ step answer txns. clears part step answer (commits step answer txns)) [] t
 
@@ -69,7 +71,7 @@ cut_count t src dst = length (link src dst (notes t))
 abbrev pub load_count : Trace → ℕ → ℕ → ℕ
 load_count t src dst = length (link src dst (loads t))
 
--- one more, where a step of the one link is one of the other
+-- one more, if a step of the one link is one of the other
 abbrev pub one_more_on : ℕ → ℕ → ℕ → ℕ → ℕ → ℕ
 one_more_on src dst from to n = if (from == src) && (to == dst) then n + 1 else n
 
@@ -77,7 +79,7 @@ abbrev pub pushes : ℕ → ℕ → Step → Answer → ℕ → ℕ
 pushes src dst (Push from to) Done n = one_more_on src dst from to n
 pushes src dst _ _ n = n
 
--- how many chunks went onto a link
+-- how many chunks were pushed onto a link
 abbrev pub push_count : Trace → ℕ → ℕ → ℕ
 push_count t src dst = by_steps (pushes src dst) 0 t
 
@@ -85,6 +87,6 @@ abbrev pub pops : ℕ → ℕ → Step → Answer → ℕ → ℕ
 pops src dst (Pop from to) Done n = one_more_on src dst from to n
 pops src dst _ _ n = n
 
--- how many chunks came off a link
+-- how many chunks were popped off a link
 abbrev pub pop_count : Trace → ℕ → ℕ → ℕ
 pop_count t src dst = by_steps (pops src dst) 0 t

@@ -12,7 +12,8 @@ use Rattle.sq_model.specs.Trace.{Trace}
 use Rattle.sq_model.specs.Tables.{is_full}
 use Rattle.sq_model.specs.Place.{is_coming}
 
--- a waiting transaction can run: its rows aren't on their way, and the log of its root key isn't full
+-- a waiting transaction can run: its rows aren't on their way, and the log of its root key isn't
+-- full
 abbrev pub is_ready : OpeningValue → Trace → ℕ → TxnValue → Bool
 is_ready o t part txn = not (is_coming o t part txn.root) && not (is_full o t txn.root)
 
@@ -25,7 +26,7 @@ waits o t (Submit at txn) (Waits id seg leaf) part txns = if at == part then txn
 waits o t (Resume at) (Resumed txn reply) part txns = if at == part then without_ready o t part txns else txns
 waits o t _ _ part txns = txns
 
--- the transactions that wait at a partition, in the order in which they came
+-- the transactions that wait at a partition, in their order of arrival
 abbrev pub waiting : OpeningValue → Trace → ℕ → List TxnValue
 waiting o [] part = []
 waiting o ((step, answer) ∷ trace) part = waits o trace step answer part (waiting o trace part)
@@ -34,7 +35,7 @@ waiting o ((step, answer) ∷ trace) part = waits o trace step answer part (wait
 abbrev pub has_to_wait : OpeningValue → Trace → ℕ → ℕ → Bool
 has_to_wait o t part root = list_any (λ txn. txn.root == root) (waiting o t part) || is_coming o t part root
 
--- the rows of all that wait are on their way
+-- the rows of all waiting transactions are on their way
 abbrev pub are_coming : OpeningValue → Trace → ℕ → Bool
 are_coming o t part = list_all (λ txn. is_coming o t part txn.root) (waiting o t part)
 

@@ -1,4 +1,4 @@
--- Worked examples: what steps from one opening are answered.
+-- Worked examples: the answers to steps from one opening.
 use Rattle.std.specs.Prelude.{ℕ, ℤ, pos, true, false, ◌==◌, List, [], ◌∷◌, ◌++◌, Some, None}
 use Rattle.sq_schema.specs.declared.txn.Op.TheVariants as op
 use Rattle.sq_schema.specs.declared.txn.OpAnswer.TheVariants as op_answer
@@ -20,7 +20,7 @@ use Rattle.sq_model.specs.declared.answer.Answer.{Answer}
 use Rattle.sq_model.specs.declared.answer.Answer.TheVariants.{Done, Replied, Moved, Waits, Resumed, WasCut, WasLoaded, Reads, Refused}
 use Rattle.sq_model.specs.declared.answer.Refusal.TheVariants.{NotMoving, NoSuchSegment, NoSuchNode, NotFree, NotLive, IsLeaf, NotClaimed, WrongPull, NothingToCut, OutboxFull, OutboxEmpty, LinkFull, LinkEmpty, InboxEmpty, NotLoaded, AlreadyMoving, NotFinished, NoSuchPartition, NoneReady, NoSuchLink, NotPartial, NotPrepared}
 
--- one root row with a note, which makes its family larger
+-- one root row with a note, which enlarges its family
 abbrev pub noted_row : ℤ → List ℕ → RowList
 noted_row number note = (root_key, record { number = number; note = note }) ∷ []
 
@@ -65,7 +65,7 @@ get_row id root = record { id = id; root = root; ops = op.Get root_key ∷ [] }
 abbrev pub add_one : ℕ → ℕ → TxnValue
 add_one id root = record { id = id; root = root; ops = op.Add root_key (pos 1) ∷ [] }
 
--- what getting a row with this number and no note is answered
+-- the reply to getting a row with this number and no note
 abbrev pub found : ℤ → Reply
 found number = Committed (op_answer.Found (Some (record { number = number; note = [] })) ∷ [])
 
@@ -93,8 +93,8 @@ whole_path = begun ++ Claim 0 1 2 ∷ Begin 0 1 2 ∷ carried_to 1 ++ Complete 0
 abbrev pub whole_path_answers : List Answer
 whole_path_answers = begun_answers ++ Done ∷ Done ∷ carried_answers (noted 0 1 4 8) 1 ++ Done ∷ Done ∷ Done ∷ got 9 (pos 10) ∷ []
 
--- the shortest whole path, and then the logs are folded: those of partition 0, which has none, and twice those of
--- partition 1
+-- the shortest whole path, and then the logs are folded: those of partition 0, which has none, and
+-- twice those of partition 1
 abbrev pub folded_twice : List Step
 folded_twice = whole_path ++ Fold 0 ∷ Fold 1 ∷ Submit 1 (add_one 10 5) ∷ Submit 1 (get_row 11 6) ∷ Fold 1 ∷ Fold 2 ∷ []
 
@@ -103,14 +103,14 @@ folded_twice_answers =
     whole_path_answers ++ Done ∷ Done ∷ Replied 10 (Committed (op_answer.Number (pos 11) ∷ [])) ∷ got_none 11 ∷ Done
     ∷ Refused NoSuchPartition ∷ []
 
--- logs are folded only once the reconfiguration has ended
+-- logs are folded only after the reconfiguration has ended
 abbrev pub folded_early : List Step
 folded_early = Fold 0 ∷ Fold 2 ∷ begun ++ Fold 0 ∷ []
 
 abbrev pub folded_early_answers : List Answer
 folded_early_answers = Refused NotFinished ∷ Refused NoSuchPartition ∷ begun_answers ++ Refused NotFinished ∷ []
 
--- the source runs transactions until it gives the node up, and not from then on
+-- the source runs transactions until it gives the node up, and none after that
 abbrev pub given_up : List Step
 given_up = begun ++ Claim 0 1 2 ∷ Submit 0 (add_one 7 5) ∷ Begin 0 1 2 ∷ Submit 0 (add_one 8 5) ∷ Cut 0 1 ∷ []
 
@@ -125,7 +125,7 @@ begun_again = begun ++ Claim 0 1 2 ∷ Begin 0 1 4 ∷ Begin 0 1 2 ∷ Begin 0 1
 abbrev pub begun_again_answers : List Answer
 begun_again_answers = begun_answers ++ Done ∷ Refused WrongPull ∷ Done ∷ Refused NotClaimed ∷ Refused NotClaimed ∷ []
 
--- two families of 56 bytes, where a chunk holds 64
+-- two families of 56 bytes, with chunks of 64
 abbrev pub two_families : OpeningValue
 two_families = four_keys 64 1 ((4, row (pos 1)) ∷ (7, row (pos 2)) ∷ [])
 
@@ -139,7 +139,7 @@ two_chunks_answers =
     begun_answers ++ Done ∷ Done ∷ WasCut (noted 0 1 4 7) 1 ∷ Refused OutboxFull ∷ Done ∷ WasCut (noted 1 1 7 8) 1 ∷ Done
     ∷ WasLoaded (noted 0 1 4 7) 1 ∷ got_none 3 ∷ Waits 4 0 3 ∷ []
 
--- a family of 66 bytes and one of 56, where a chunk holds 64
+-- a family of 66 bytes and one of 56, with chunks of 64
 abbrev pub large_family : OpeningValue
 large_family =
     four_keys 64 1 ((5, noted_row (pos 1) (0 ∷ 1 ∷ 2 ∷ 3 ∷ 4 ∷ 5 ∷ 6 ∷ 7 ∷ 8 ∷ 9 ∷ [])) ∷ (6, row (pos 2)) ∷ [])
@@ -177,14 +177,15 @@ out_of_order_answers =
     ∷ Refused AlreadyMoving ∷ Refused AlreadyMoving ∷ Refused NoSuchLink ∷ Refused NothingToCut ∷ Refused OutboxEmpty
     ∷ Refused LinkEmpty ∷ Refused InboxEmpty ∷ Refused NoneReady ∷ Refused NoSuchPartition ∷ []
 
--- a transaction waits at the destination until its rows are loaded; one on a key that doesn't move is sent on
+-- a transaction waits at the destination until its rows are loaded; one on a key that doesn't move
+-- is forwarded
 abbrev pub waits_for_rows : List Step
 waits_for_rows = begun ++ Submit 1 (get_row 7 5) ∷ Submit 1 (get_row 8 9) ∷ Submit 0 (get_row 6 5) ∷ Submit 2 (get_row 5 5) ∷ []
 
 abbrev pub waits_for_rows_answers : List Answer
 waits_for_rows_answers = begun_answers ++ Waits 7 0 1 ∷ Moved 8 0 ∷ got 6 (pos 10) ∷ Refused NoSuchPartition ∷ []
 
--- nothing is complete, reported or finished before its rows are loaded
+-- nothing is completed, reported or finished before its rows are loaded
 abbrev pub too_soon : List Step
 too_soon =
     begun ++ Claim 0 1 2 ∷ Complete 0 1 2 ∷ Begin 0 1 2 ∷ Complete 0 1 2 ∷ Report 1 ∷ Report 0 ∷ Finish ∷ Claim 1 1 2
@@ -195,8 +196,8 @@ too_soon_answers =
     begun_answers ++ Done ∷ Refused NotPartial ∷ Done ∷ Refused NotLoaded ∷ Refused NotFinished ∷ Done ∷ Refused NotFinished
     ∷ Refused NoSuchSegment ∷ Refused NotLive ∷ Refused NoSuchNode ∷ []
 
--- transactions that wait run in the order in which they came, and not before their rows are loaded; one that comes while another
--- waits on its root key waits too
+-- waiting transactions run in their order of arrival, and not before their rows are loaded; one
+-- that comes while another waits on its root key waits too
 abbrev pub resumed_in_order : List Step
 resumed_in_order =
     begun ++ Submit 1 (get_row 7 5) ∷ Resume 1 ∷ Claim 0 1 3 ∷ Begin 0 1 3 ∷ carried_to 1 ++ Submit 1 (get_row 8 5) ∷ Resume 1
@@ -207,21 +208,21 @@ resumed_in_order_answers =
     begun_answers ++ Waits 7 0 1 ∷ Refused NoneReady ∷ Done ∷ Done ∷ carried_answers (noted 0 1 4 8) 1
     ++ Waits 8 0 1 ∷ Resumed (get_row 7 5) (found (pos 10)) ∷ Resumed (get_row 8 5) (found (pos 10)) ∷ Refused NoneReady ∷ []
 
--- a claimed node isn't split
+-- a claimed node can't be split
 abbrev pub claimed_whole : List Step
 claimed_whole = begun ++ Claim 0 1 2 ∷ Split 0 1 ∷ Status 0 1 ∷ []
 
 abbrev pub claimed_whole_answers : List Answer
 claimed_whole_answers = begun_answers ++ Done ∷ Refused NotFree ∷ Reads (status.Claimed 2) reads.NotStarted ∷ []
 
--- a split node isn't claimed, but its halves are
+-- a split node can't be claimed, but its halves can
 abbrev pub claimed_half : List Step
 claimed_half = begun ++ Split 0 1 ∷ Claim 0 1 2 ∷ Claim 0 2 2 ∷ Status 0 1 ∷ []
 
 abbrev pub claimed_half_answers : List Answer
 claimed_half_answers = begun_answers ++ Done ∷ Refused NotFree ∷ Done ∷ Reads status.Split reads.NotStarted ∷ []
 
--- nothing is claimed or split below a node that isn't split, and no leaf is split
+-- no node below an unsplit node can be claimed or split, and no leaf can be split
 abbrev pub split_too_low : List Step
 split_too_low = begun ++ Split 0 1 ∷ Claim 0 33 3 ∷ Split 0 33 ∷ Split 0 64 ∷ Split 0 16 ∷ Claim 1 1 2 ∷ []
 
@@ -229,7 +230,7 @@ abbrev pub split_too_low_answers : List Answer
 split_too_low_answers =
     begun_answers ++ Done ∷ Refused NotLive ∷ Refused IsLeaf ∷ Refused NoSuchNode ∷ Refused NotLive ∷ Refused NoSuchSegment ∷ []
 
--- the last leaf of the segment has no keys: its node moves in one chunk that is empty
+-- the last leaf of the segment has no keys: its node moves in one empty chunk
 abbrev pub empty_leaf : List Step
 empty_leaf =
     begun ++ Split 0 1 ∷ Split 0 3 ∷ Split 0 7 ∷ Split 0 15 ∷ Split 0 31 ∷ Claim 0 63 2 ∷ Begin 0 63 2
@@ -239,7 +240,8 @@ abbrev pub empty_leaf_answers : List Answer
 empty_leaf_answers =
     begun_answers ++ Done ∷ Done ∷ Done ∷ Done ∷ Done ∷ Done ∷ Done ∷ carried_answers (noted 0 63 8 8) 0 ++ Done ∷ []
 
--- what nodes read as: a split node as its halves do together, and one that isn't live as the live node above it
+-- the readings of nodes: a split node has the common one of its halves, and a node that isn't live
+-- that of the live node above it
 abbrev pub read_nodes : List Step
 read_nodes =
     Status 0 1 ∷ Status 1 1 ∷ Status 0 0 ∷ begun
@@ -255,7 +257,8 @@ read_nodes_answers =
 abbrev pub wide_link : OpeningValue
 wide_link = four_keys 64 4 three_rows
 
--- a reactive pull comes while an asynchronous one is under way: its node is cut next, and then the rest of the other
+-- a reactive pull comes while an asynchronous one is under way: its node is cut next, and then the
+-- rest of the other
 abbrev pub reactive_first : List Step
 reactive_first =
     begun ++ Split 0 1 ∷ Split 0 2 ∷ Split 0 4 ∷ Split 0 8 ∷ Claim 0 16 2 ∷ Begin 0 16 2 ∷ Cut 0 1 ∷ Claim 0 17 3 ∷ Begin 0 17 3

@@ -1,4 +1,5 @@
--- A worked example of a move in two stages: what its steps are answered, and where two root keys are at its end.
+-- A worked example of a move in two stages: the answers to its steps, and where two root keys are
+-- at its end.
 use Rattle.std.specs.Prelude.{ℕ, pos, true, List, [], ◌∷◌, ◌++◌}
 use Rattle.sq_schema.specs.declared.root.TheConstants.{ROOT_END}
 use Rattle.sq_chunk.specs.declared.chunk.Note.{Note}
@@ -13,7 +14,8 @@ use Rattle.sq_model.specs.declared.answer.Answer.TheVariants.{Done, Moved, Waits
 use Rattle.sq_model.specs.declared.answer.Refusal.TheVariants.{NoSuchSegment, NoSuchLink, NotFinished, LastStage}
 use Rattle.sq_model.specs.Worked.{row, get_row, found, got, carried_to, carried_answers}
 
--- partition 0 gives the keys 4 to 7 and 12 to 15 to partition 1 in the first stage, and the keys 8 to 11 to partition 2 in the second
+-- partition 0 sends the keys 4 to 7 and 12 to 15 to partition 1 in the first stage, and the keys 8
+-- to 11 to partition 2 in the second
 abbrev pub two_stages : OpeningValue
 two_stages =
     let moving : List Range = record { lo = 4; hi = 8; src = 0; dst = 1 } ∷ record { lo = 8; hi = 12; src = 0; dst = 2 }

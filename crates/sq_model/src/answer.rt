@@ -1,4 +1,4 @@
-// What steps are answered.
+// The answers to steps.
 use sq_chunk::Note;
 use sq_explain::meaning;
 use sq_plan::PartId;
@@ -10,24 +10,24 @@ use thiserror::Error;
 /// The answer to a step.
 #[derive(Debug, Drop)]
 pub enum Answer {
-    /// The step was done.
+    /// The step was executed.
     Done,
     /// The transaction ran.
     Replied {
-        /// The transaction's number.
+        /// The transaction's id.
         id: u64,
-        /// What it was answered.
+        /// The transaction's reply.
         reply: Reply,
     },
     /// Another partition runs transactions on this root key.
     Moved {
-        /// The transaction's number.
+        /// The transaction's id.
         id: u64,
         to: PartId,
     },
     /// The transaction waits for its rows.
     Waits {
-        /// The transaction's number.
+        /// The transaction's id.
         id: u64,
         /// The segment of its root key.
         seg: SegId,
@@ -37,34 +37,33 @@ pub enum Answer {
     /// A transaction that waited ran.
     Resumed {
         txn: Txn,
-        /// What it was answered.
+        /// The transaction's reply.
         reply: Reply,
     },
     /// A chunk was cut.
     WasCut {
-        /// What it covers.
+        /// What the chunk covers.
         note: Note,
-        /// How many families it holds.
+        /// How many families the chunk holds.
         families: u64,
     },
     /// A chunk was loaded.
     WasLoaded {
-        /// What it covers.
+        /// What the chunk covers.
         note: Note,
-        /// How many families it held.
+        /// How many families the chunk held.
         families: u64,
     },
-    /// A node has this status.
+    /// A node has this status and this reading.
     Reads {
         status: Status,
-        /// What the node reads as.
         reading: Reading,
     },
     /// The step was refused, and nothing changed.
     Refused(Refusal),
 }
 
-/// Why a step was refused. The table of `sq_explain` says what each means, by its number.
+/// Why a step was refused. The table of `sq_explain` says what each number means.
 #[derive(Clone, Copy, Debug, PartialEq, Eq, Error)]
 #[error("{}", meaning(self.number()))]
 pub enum Refusal {
@@ -101,7 +100,7 @@ impl Refusal {
     ghost use Rattle.std.specs.Prelude.{◌≡◌};
     ghost use Rattle.sq_model.specs.Refusal.{refusal_number};
 
-    /// The number that a user sees.
+    /// Returns the number that a user sees.
     pub fn number(self) -> u16
         ensures { result ≡ refusal_number self }
     {

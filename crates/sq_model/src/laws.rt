@@ -1,5 +1,5 @@
-// Laws of the definitions: worked examples, which the checker computes, two limits, what every legal history keeps, and that
-// each refusal has a meaning.
+// Laws of the definitions: worked examples, which the checker computes; two limits; what every
+// legal history keeps; and that each refusal has a meaning.
 ghost use Rattle.std.specs.Prelude.{◌≡◌, ◌≢◌, ℕ, [], length, Contains, false, true, Some, is_some, pos};
 ghost use Rattle.sq_explain.specs.Meanings.{meaning_of};
 ghost use Rattle.sq_schema.specs.Prelude.{TxnValue, rows_of};
@@ -27,7 +27,7 @@ pub fn moves_four_keys()
     ensures { answers one_row [] whole_path ≡ whole_path_answers }
 {}
 
-/// The source runs transactions until it gives a node up, and not from then on.
+/// The source runs transactions until it gives a node up, and none after that.
 pub fn gives_up_once_begun()
     ensures { answers one_row [] given_up ≡ given_up_answers }
 {}
@@ -42,12 +42,12 @@ pub fn cuts_by_size()
     ensures { answers two_families [] two_chunks ≡ two_chunks_answers }
 {}
 
-/// A family that is larger than a chunk goes alone.
+/// A family larger than a chunk moves alone.
 pub fn cuts_a_large_family()
     ensures { answers large_family [] large_chunk ≡ large_chunk_answers }
 {}
 
-/// A full link takes no chunk, and nothing is cut while one waits for the link.
+/// A full link takes no chunk, and nothing is cut while a chunk waits for the link.
 pub fn waits_for_the_link()
     ensures { answers three_families [] full_link ≡ full_link_answers }
 {}
@@ -57,32 +57,33 @@ pub fn refuses_out_of_order()
     ensures { answers one_row [] out_of_order ≡ out_of_order_answers }
 {}
 
-/// A transaction waits at the destination for its rows, and is sent on from a partition that it has nothing to do with.
+/// A transaction waits at the destination for its rows, and is forwarded by a partition that is
+/// neither its source nor its destination.
 pub fn waits_for_its_rows()
     ensures { answers one_row [] waits_for_rows ≡ waits_for_rows_answers }
 {}
 
-/// Nothing is complete, reported or finished before its rows are loaded.
+/// Nothing is completed, reported or finished before its rows are loaded.
 pub fn refuses_too_soon()
     ensures { answers one_row [] too_soon ≡ too_soon_answers }
 {}
 
-/// Transactions that wait run in the order in which they came, once their rows are loaded.
+/// Waiting transactions run in their order of arrival, once their rows are loaded.
 pub fn resumes_in_order()
     ensures { answers one_row [] resumed_in_order ≡ resumed_in_order_answers }
 {}
 
-/// A claimed node isn't split.
+/// A claimed node can't be split.
 pub fn splits_no_claimed_node()
     ensures { answers one_row [] claimed_whole ≡ claimed_whole_answers }
 {}
 
-/// A split node isn't claimed, but its halves are.
+/// A split node can't be claimed, but its halves can.
 pub fn claims_halves()
     ensures { answers one_row [] claimed_half ≡ claimed_half_answers }
 {}
 
-/// Nothing is claimed or split below a node that isn't split, and no leaf is split.
+/// No node below an unsplit node can be claimed or split, and no leaf can be split.
 pub fn splits_from_the_top()
     ensures { answers one_row [] split_too_low ≡ split_too_low_answers }
 {}
@@ -92,31 +93,32 @@ pub fn moves_an_empty_node()
     ensures { answers one_row [] empty_leaf ≡ empty_leaf_answers }
 {}
 
-/// A split node reads as its halves do together, and one that isn't live as the live node above it.
+/// A split node has the common reading of its halves, and a node that isn't live has that of the
+/// live node above it.
 pub fn reads_by_halves()
     ensures { answers one_row [] read_nodes ≡ read_nodes_answers }
 {}
 
-/// What a reactive pull asked for is cut before the rest of what an asynchronous one did.
+/// What a reactive pull asked for is cut before the rest of what an asynchronous pull asked for.
 pub fn cuts_reactive_first()
     ensures { answers wide_link [] reactive_first ≡ reactive_first_answers }
 {}
 
-/// A move in two stages: segments and links of the other stage are refused, a root key of it is still run by its source, and
-/// each stage ends once its reports came.
+/// A move in two stages: segments and links of the other stage are refused, a root key of the later
+/// stage is still run by its source, and each stage ends once its reports have come.
 pub fn moves_in_stages()
     ensures { answers two_stages [] in_stages ≡ in_stages_answers }
 {}
 
-/// Whatever the steps: the steps since the last Next that went say where each root key is, who runs it, and the
-/// statuses, notes and loads of the running stage, if a root key that moved in a stage before counts as its new
-/// owner's.
+/// Whatever the steps: those since the last successful Next determine where each root key is, which
+/// partition runs it, and the statuses, notes and loads of the running stage, if the new owner of a
+/// root key that moved in an earlier stage counts as its owner.
 pub fn tells_by_stage()
     ensures { (o : OpeningValue) (t : Trace) → IsOpening o → IsLegal o t → TellsAlone o t }
 {}
 
-/// Whatever the steps: those since the last Next that went are in order on their own, and no note of theirs is of a
-/// link of another stage.
+/// Whatever the steps: those since the last successful Next are in order on their own, and none of
+/// their notes is of a link of another stage.
 pub fn moves_in_order_by_stage()
     ensures order { (o : OpeningValue) (t : Trace) → IsOpening o → IsLegal o t
         → IsOrderly o (since t) }
@@ -125,15 +127,15 @@ pub fn moves_in_order_by_stage()
         → (link src dst (notes (since t)) ≡ []) × (link src dst (loads (since t)) ≡ []) }
 {}
 
-/// Whatever the steps: a transaction that waits at a partition and whose rows aren't on their way there is run by that
-/// partition.
+/// Whatever the steps: a transaction that waits at a partition, and whose rows aren't on their way
+/// there, is run by that partition.
 pub fn runs_waiters_where_they_wait()
     ensures { (o : OpeningValue) (t : Trace) (part : ℕ) (txn : TxnValue) → IsOpening o → IsLegal o t
         → Contains (waiting o t part) txn → is_coming o t part txn.root ≡ false
         → runner o t txn.root ≡ Some part }
 {}
 
-/// A family whose log was folded starts from its rows; one that has none goes.
+/// A family whose log was folded starts from its rows; a family without rows is dropped.
 pub fn folds_logs()
     ensures answers { answers one_row [] folded_twice ≡ folded_twice_answers }
     ensures family { family_of one_row (after one_row [] folded_twice) 5
@@ -141,55 +143,56 @@ pub fn folds_logs()
     ensures gone { stands one_row (after one_row [] folded_twice) 6 ≡ false }
 {}
 
-/// Logs are folded only once the reconfiguration has ended.
+/// Logs are folded only after the reconfiguration has ended.
 pub fn folds_only_at_the_end()
     ensures { answers one_row [] folded_early ≡ folded_early_answers }
 {}
 
-/// A log that is full takes no further transaction, whatever came before.
+/// A full log takes no further transaction, whatever came before.
 pub fn refuses_at_a_full_log()
     ensures { (o : OpeningValue) (t : Trace) (part : ℕ) (txn : TxnValue)
         → FindsFullLog o t part txn.root
         → answer o t (Step.Submit part txn) ≡ Answer.Refused Refusal.LogFull }
 {}
 
-/// However often logs were folded: the transactions on a root key that committed are those that the rows its log starts
-/// from were made by, and then its log; so its family's rows are those of the one table.
+/// However often logs were folded: the committed transactions on a root key are those that made the
+/// rows its log starts from, followed by its log. So its family's rows are those of the one table.
 pub fn folds_lose_nothing()
     ensures folded { (o : OpeningValue) (t : Trace) (root : ℕ) → IsFoldedRoot o t root }
     ensures rows { (o : OpeningValue) (t : Trace) (root : ℕ)
         → rows_of (family_of o t root) ≡ now o t root }
 {}
 
-/// Where as many wait as can, a further transaction isn't let in, whatever came before.
+/// If the most transactions that may wait are waiting, a further one is refused, whatever came
+/// before.
 pub fn refuses_a_crowd()
     ensures { (o : OpeningValue) (t : Trace) (part : ℕ) (txn : TxnValue)
         → FindsCrowd o t part txn.root
         → answer o t (Step.Submit part txn) ≡ Answer.Refused Refusal.WaitFull }
 {}
 
-/// Whatever the steps: of two places in the list of the notes that were cut both are the same place where they cover one
-/// root key, and so it is in the list of those that were loaded.
+/// Whatever the steps: for each root key, at most one of the notes that were cut covers it, and at
+/// most one of those that were loaded.
 pub fn moves_each_key_once()
     ensures cut { (o : OpeningValue) (t : Trace) → IsOpening o → IsLegal o t → CoverOnce (notes t) }
     ensures loaded { (o : OpeningValue) (t : Trace) → IsOpening o → IsLegal o t
         → CoverOnce (loads t) }
 {}
 
-/// Whatever the steps: each family of a range that moves is cut at most once and loaded at most once, in the order
-/// that its link numbered it, and nothing of a complete node moves.
+/// Whatever the steps: each family of a range that moves is cut at most once and loaded at most
+/// once, in the order in which its link numbered it, and nothing of a complete node moves.
 pub fn moves_in_order()
     ensures { (o : OpeningValue) (t : Trace) → IsOpening o → IsLegal o t → IsOrderly o t }
 {}
 
-/// Once the move has ended, the family of each root key is where the new plan has it.
+/// Once the move has ended, the family of each root key is where the new plan places it.
 pub fn ends_where_planned()
     ensures { (o : OpeningValue) (t : Trace) (root : ℕ) → IsOpening o → IsLegal o t
         → phase t ≡ Phase.Ended
         → place o t root ≡ At (destination o root) }
 {}
 
-/// The table of numbers has each refusal.
+/// The table of numbers has every refusal.
 pub fn each_refusal_has_a_meaning()
     ensures { (refusal : Refusal) → is_some (meaning_of (refusal_number refusal)) ≡ true }
 {}

@@ -1,4 +1,5 @@
-//! What a reconfiguration is to do, as definitions over its history: the list of steps and their answers.
+//! The rules of a reconfiguration, as definitions over its history: the list of steps and their
+//! answers.
 #![tactic(auto)]
 
 mod answer;

@@ -1,87 +1,88 @@
 // The steps of a reconfiguration, and its phases.
 use sq_schema::Txn;
 
-/// One step. Its numbers may be any: a wrong one is refused.
+/// One step. Its numbers may be any: wrong ones are refused.
 #[derive(Debug, Drop)]
 pub enum Step {
-    /// A partition prepares for the reconfiguration.
+    /// Prepares this partition for the reconfiguration.
     Prepare(u64),
-    /// The leader starts the move.
+    /// Starts the move, at the leader.
     Start,
-    /// A transaction is submitted at a partition.
+    /// Submits this transaction at this partition.
     Submit(u64, Txn),
-    /// The first transaction that waits at a partition and can run is run.
+    /// Runs the first waiting transaction at this partition that can run.
     Resume(u64),
-    /// A node of a segment is split, so that its halves are moved each for itself.
+    /// Splits a node of a segment, so that its halves move separately.
     Split {
         seg: u64,
         node: u64,
     },
-    /// A node of a segment is claimed for a pull.
+    /// Claims a node of a segment for a pull.
     Claim {
         seg: u64,
         node: u64,
         /// The pull: odd for a reactive one, even for an asynchronous one.
         pull: u32,
     },
-    /// The source gives a claimed node up.
+    /// Gives a claimed node up, at its source.
     Begin {
         seg: u64,
         node: u64,
-        /// The pull that claimed it.
+        /// The pull that claimed the node.
         pull: u32,
     },
-    /// The source cuts the next chunk for a destination.
+    /// Cuts the next chunk for a destination, at its source.
     Cut {
         src: u64,
         dst: u64,
     },
-    /// The chunk that was cut goes onto its link.
+    /// Pushes the chunk that was cut onto its link.
     Push {
         src: u64,
         dst: u64,
     },
-    /// The oldest chunk on the link reaches the destination.
+    /// Pops the oldest chunk off the link, at the destination.
     Pop {
         src: u64,
         dst: u64,
     },
-    /// The destination loads the chunk that came.
+    /// Loads the popped chunk, at the destination.
     Load {
         src: u64,
         dst: u64,
     },
-    /// A node that was loaded whole is completed.
+    /// Completes a node whose last chunk is loaded.
     Complete {
         seg: u64,
         node: u64,
-        /// The pull that began it.
+        /// The pull that began the node.
         pull: u32,
     },
-    /// A partition reports that all that moves to it is complete.
+    /// Reports that all that moves to this partition is complete.
     Report(u64),
-    /// The leader ends the running stage, and the next one runs.
+    /// Ends the running stage and enters the next one, at the leader.
     Next,
-    /// The leader ends the reconfiguration.
+    /// Ends the reconfiguration, at the leader.
     Finish,
-    /// A partition's logs are folded, once the reconfiguration has ended: each family starts anew from its rows.
+    /// Folds the logs of this partition, after the reconfiguration has ended: each family restarts
+    /// from its rows.
     Fold(u64),
-    /// A node of a segment is looked at, which changes nothing.
+    /// Reads the status of a node of a segment, which changes nothing.
     Status {
         seg: u64,
         node: u64,
     },
 }
 
-/// How far the leader is.
+/// The phase that the leader is in.
 #[derive(Clone, Copy, Debug, PartialEq, Eq)]
 pub enum Phase {
     /// No partition has prepared.
     Idle,
-    /// Some partition has prepared.
+    /// At least one partition has prepared.
     Preparing,
-    /// The move was started.
+    /// The move has started.
     Moving,
-    /// All is moved.
+    /// The move has ended.
     Ended,
 }

@@ -1,5 +1,5 @@
--- What a stage of a move begins with: the families that the partitions were given, with logs that may not be empty, and
--- the receipts that were written before.
+-- What a stage of a move begins with: the families of the partitions, with logs that may have
+-- transactions, and the receipts that were written before.
 use Rattle.std.specs.Prelude.{◌≡◌, ℕ, Bool, true, ◌++◌, ◌==◌, not, nat_lt, if◌then◌else◌, List, [], length, All, Contains, Option, Some, None, is_some, unwrap_or}
 use Rattle.sq_schema.specs.TxnValue.{TxnValue}
 use Rattle.sq_schema.specs.Family.{FamilyValue}
@@ -10,17 +10,17 @@ use Rattle.sq_status.specs.View.{one_if}
 use Rattle.sq_node_model.specs.NodeValue.{ReceiptValue}
 use Rattle.sq_node_model.specs.Receipts.{is_commit, times_named, IsToldBy}
 
--- which stage it is, the family that each root key was given, if it was given one, and the receipts so far
+-- the stage, the family that each root key began with, if it had one, and the receipts so far
 pub record BeganWith : Type 0 where
   pub stage : ℕ
   pub families : ℕ → Option FamilyValue
   pub receipts : List ReceiptValue
 
--- the root key was given a family
+-- the root key began with a family
 abbrev pub is_given : BeganWith → ℕ → Bool
 is_given began root = is_some (began.families root)
 
--- the family that a root key was given, which is an empty one where it was given none
+-- the family that a root key began with; an empty one if it had none
 abbrev pub given_family : BeganWith → ℕ → FamilyValue
 given_family began root = unwrap_or (began.families root) (absent root)
 
@@ -50,9 +50,9 @@ pub record GrowsFrom (first family : FamilyValue) : Type 0 where
   pub base : family.base ≡ first.base
   pub log : BeginsWith first.log family.log
 
--- what a stage may begin with: each family is its root key's and starts from the opening rows; each opening root was
--- given one; and the committed receipts so far name each position of the logs that were given once, and nothing else,
--- and say what was done there
+-- what a stage may begin with: each family is its root key's and starts from the opening rows; each
+-- opening root key has one; and the committed receipts so far name each position of these logs
+-- once, and no other, and record what was done there
 pub record CanBegin (o : OpeningValue) (began : BeganWith) : Type 0 where
   pub keyed : (root : ℕ) (family : FamilyValue) → began.families root ≡ Some family → IsOf root family
   pub base : (root : ℕ) (family : FamilyValue) → began.families root ≡ Some family → family.base ≡ opening_rows o root

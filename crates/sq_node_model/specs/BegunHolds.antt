@@ -1,4 +1,4 @@
--- What holds of the tree nodes that a partition began, and of the leaves that it gave up.
+-- The invariant of the tree nodes that a partition began, and of the leaves that it gave up.
 use Rattle.std.specs.Prelude.{◌≡◌, ℕ, ◌<◌, Bool, true, List, Contains}
 use Rattle.std.specs.List.{list_any}
 use Rattle.sq_tree.specs.declared.node.TheConstants.{LEAVES}
@@ -24,8 +24,8 @@ pub record IsBegunOver (o : OpeningValue) (status : ℕ → Status) (seg root n 
   pub within : is_within (extent_of o seg n) root ≡ true
   pub begun : is_begun (status n) ≡ true
 
--- the begun nodes are nodes of segments of the stage that leave the partition, no two of one segment have a key in common,
--- and just their leaves are given up
+-- the begun nodes are nodes of segments of the stage that leave the partition, no two of one
+-- segment share a key, and exactly their leaves are given up
 pub record BegunHolds (o : OpeningValue) (i part : ℕ) (begun : ℕ → List (ℕ × ℕ)) (given_up : ℕ → List Bool) : Type 0 where
   pub outward : (seg n : ℕ) → IsNamed (begun seg) n → (dst : ℕ) × (is_on_link_in o i part dst seg ≡ true)
   pub nodes : (seg n : ℕ) → IsNamed (begun seg) n → is_node n ≡ true

@@ -4,11 +4,13 @@ use Rattle.sq_chunk.specs.ChunkValue.{ChunkValue, covers}
 use Rattle.sq_model.specs.Links.{is_about}
 use Rattle.sq_node_model.specs.NodeValue.{NodeValue}
 
--- the chunks that were cut for a destination, the oldest first: those that were sent, and the one that isn't yet
+-- the chunks that were cut for a destination, the oldest first: those that were sent, and the one
+-- that isn't yet
 abbrev pub cut_to : NodeValue → ℕ → List ChunkValue
 cut_to node dst = node.sent dst ++ option_to_list (node.outs dst).outbox
 
--- the chunks from a source that were loaded, the oldest first: those that were received, but for the one in the inbox
+-- the chunks from a source that were loaded, the oldest first: those that were received, except the
+-- one in the inbox
 abbrev pub loaded_from : NodeValue → ℕ → List ChunkValue
 loaded_from node src =
     take (length (node.received src) - length (option_to_list (node.inboxes src))) (node.received src)

@@ -1,4 +1,4 @@
--- A partition, as the part of a node that moves what an opening says.
+-- A partition, as the part of a node that performs the move of an opening.
 use Rattle.std.specs.Prelude.{◌≡◌, ℕ, true, ◌==◌, if◌then◌else◌, List, [], length, Some, None}
 use Rattle.std.specs.FinMap.{get}
 use Rattle.sq_store.specs.StoreValue.{StoreValue}
@@ -18,8 +18,8 @@ use Rattle.sq_node_model.specs.BeganWith.{BeganWith}
 abbrev pub staged_core : OpeningValue → ℕ → ℕ → StoreValue → CoreValue
 staged_core o i part store = record (opened_core o part store) { stage = i }
 
--- the partition knows the plan and the moves of the opening, and which stage runs, and has a place for each partition and
--- for each segment
+-- the partition knows the plan and the moves of the opening and the running stage, and has a place
+-- for each partition and for each segment
 pub record IsCoreOf (o : OpeningValue) (i : ℕ) (core : CoreValue) : Type 0 where
   pub plan : core.plan ≡ o.old
   pub recon : core.recon ≡ o.recon
@@ -28,7 +28,7 @@ pub record IsCoreOf (o : OpeningValue) (i : ℕ) (core : CoreValue) : Type 0 whe
   pub given_up : length core.given_up ≡ length o.recon.segments
   pub loaded : length core.loaded ≡ length o.recon.segments
 
--- the store has the families that were given to the root keys that the partition owns, and no others
+-- the store has the families that the root keys the partition owns began with, and no others
 abbrev pub OpensWith : OpeningValue → BeganWith → ℕ → StoreValue → Type 0
 OpensWith o began part store = HasOwnedOf (owner_in o began.stage) began.families part store
 
@@ -41,8 +41,8 @@ pub record IsLoadable (core : CoreValue) (src : ℕ) (chunk : ChunkValue) : Type
 abbrev pub OverlapsLoaded : NodeValue → ChunkValue → Type 0
 OverlapsLoaded node chunk = (root : ℕ) × (covers chunk.note root ≡ true) × IsCovered (HasLoaded node) root
 
--- a chunk that came from the partition and isn't loaded doesn't belong here in this stage, or covers a root key that was
--- loaded
+-- a chunk that came from the partition and isn't loaded yet doesn't belong here in this stage, or
+-- covers a root key that was loaded
 abbrev pub HasNoneToLoad : OpeningValue → ℕ → NodeValue → ℕ → Type 0
 HasNoneToLoad o i node src =
     (chunk : ChunkValue) → node.inboxes src ≡ Some chunk → HasArrived o i src node.part chunk.note → OverlapsLoaded node chunk

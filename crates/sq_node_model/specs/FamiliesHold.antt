@@ -1,5 +1,5 @@
--- What holds of the families of a partition: which root keys have one, what each starts from, and which receipts were
--- written for its log.
+-- The invariant of the families of a partition: which root keys have one, what each starts from,
+-- and which receipts were written for its log.
 use Rattle.std.specs.Prelude.{◌≡◌, ◌⊎◌, ℕ, true, false, ◌&&◌, nat_lt, nat_le, List, length, Contains, Some, unwrap_or}
 use Rattle.std.specs.FinMap.{get}
 use Rattle.sq_schema.specs.Family.{FamilyValue}
@@ -13,7 +13,8 @@ use Rattle.sq_node_model.specs.Chunks.{IsCovered}
 use Rattle.sq_node_model.specs.Receipts.{is_commit, times_named, IsToldBy}
 pub use Rattle.sq_node_model.specs.BeganWith.{BeganWith, is_given, given_family, BeginsWith, IsOf, GrowsFrom}
 
--- the root key is where it was as the stage began: the partition owned it, and no chunk that was cut covers it
+-- the root key is where it was as the stage began: the partition owned it, and no chunk that was
+-- cut covers it
 pub record IsHome (o : OpeningValue) (i part : ℕ) (cut : ChunkValue → Type 0) (root : ℕ) : Type 0 where
   pub owned : owner_in o i root ≡ part
   pub uncut : (chunk : ChunkValue) → cut chunk → covers chunk.note root ≡ false
@@ -30,12 +31,12 @@ IsCarried chunk root family = family_in chunk.families root ≡ Some family
 abbrev pub IsStoredOrCut : (ChunkValue → Type 0) → StoreValue → ℕ → FamilyValue → Type 0
 IsStoredOrCut cut store root family = IsStored store root family ⊎ ((chunk : ChunkValue) × cut chunk × IsCarried chunk root family)
 
--- the family as the chunk brought it, which is an empty one where the chunk has none
+-- the family as the chunk brought it; an empty one if the chunk has none
 abbrev pub brought : ChunkValue → ℕ → FamilyValue
 brought chunk root = unwrap_or (family_in chunk.families root) (absent root)
 
--- a root key with a family is at home or was loaded; each root key at home that was given a family has one, and each root of
--- a loaded chunk
+-- a root key with a family is at home or was loaded; each root key at home that began with a family
+-- has one, and so does each root key of a loaded chunk
 pub record StoreHolds (o : OpeningValue) (began : BeganWith) (part : ℕ) (cut loaded : ChunkValue → Type 0)
     (store : StoreValue) : Type 0 where
   pub stored : (root : ℕ) (family : FamilyValue) → IsStored store root family
@@ -45,8 +46,8 @@ pub record StoreHolds (o : OpeningValue) (began : BeganWith) (part : ℕ) (cut l
   pub came : (root : ℕ) (chunk : ChunkValue) (family : FamilyValue) → loaded chunk → IsCarried chunk root family
       → (now : FamilyValue) × IsStored store root now
 
--- each family that is kept is its root key's; one that is at home, or was, continues what the root key was given; and
--- one that was loaded continues what was brought
+-- each family here is its root key's; one that is at home, or was, continues what the root key
+-- began with; and one that was loaded continues what was brought
 pub record FamiliesHold (o : OpeningValue) (began : BeganWith) (part : ℕ) (cut loaded : ChunkValue → Type 0)
     (store : StoreValue) : Type 0 where
   pub keyed : (root : ℕ) (family : FamilyValue) → IsStoredOrCut cut store root family → IsOf root family
@@ -57,14 +58,16 @@ pub record FamiliesHold (o : OpeningValue) (began : BeganWith) (part : ℕ) (cut
   pub grown : (root : ℕ) (chunk : ChunkValue) (family : FamilyValue) → loaded chunk → covers chunk.note root ≡ true
       → IsStored store root family → GrowsFrom (brought chunk root) family
 
--- the committed receipts of the root key name each position of the family's log past the first one's log once, and no other
+-- the committed receipts of the root key name each position of the family's log after the first
+-- one's log once, and no other
 abbrev pub NameGrowth : ℕ → List ReceiptValue → FamilyValue → FamilyValue → Type 0
 NameGrowth root receipts first family =
     (position : ℕ)
     → times_named root position receipts ≡ one_if (nat_le (length first.log) position && nat_lt position (length family.log))
 
--- the committed receipts name each position of a log that was written here once, and nothing else: what came after the given
--- part where the partition owned the root key, and what came after the brought part where it was loaded
+-- the committed receipts name each position of a log that was written here once, and nothing else:
+-- what came after the log that the root key began with if the partition owned it, and what came
+-- after the log that was brought if it was loaded
 pub record ReceiptsHold (o : OpeningValue) (began : BeganWith) (part : ℕ) (cut loaded : ChunkValue → Type 0)
     (store : StoreValue) (receipts : List ReceiptValue) : Type 0 where
   pub named_home : (root : ℕ) (family : FamilyValue) → IsStoredOrCut cut store root family → owner_in o began.stage root ≡ part

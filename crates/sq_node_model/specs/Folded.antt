@@ -12,7 +12,7 @@ use Rattle.sq_node_model.specs.declared.spot.Spot.TheVariants.{Store}
 use Rattle.sq_node_model.specs.Gathered.{GatheredValue}
 use Rattle.sq_node_model.specs.Spots.{family_at_spot, StandsAt}
 
--- a family whose log is folded: its base is its rows, and its log is empty; one without rows goes
+-- a family whose log is folded: its base is its rows, and its log is empty; none if it has no rows
 abbrev pub folded_family : FamilyValue → Option FamilyValue
 folded_family family = if length (rows_of family) == 0 then None else Some (record { root = family.root; base = rows_of family; log = [] })
 
@@ -24,7 +24,7 @@ folded_opening o table = record o { table = table }
 abbrev pub folded_gathered : GatheredValue → List StoreValue → GatheredValue
 folded_gathered g stores = record { stage = g.stage; stores = stores; links = g.links; statuses = g.statuses; receipts = []; left = g.left }
 
--- the table has the rows of the families that stand, and no others; and the stores have the families folded
+-- the table has the rows of all families, and no others; and the stores have the families folded
 pub record IsFolded (o : OpeningValue) (g : GatheredValue) (table : TableValue) (stores : List StoreValue) : Type 0 where
   pub rows : (spot : Spot) (root : ℕ) (family : FamilyValue) → StandsAt g spot root family
       → opening_rows (folded_opening o table) root ≡ rows_of family

@@ -13,7 +13,7 @@ use Rattle.sq_node_model.specs.Gathered.{GatheredValue}
 use Rattle.sq_node_model.specs.Spots.{gathered_status, family_at_spot}
 use Rattle.sq_node_model.specs.Placed.{IsPlaced}
 
--- the segment is complete: its node 1 reads complete
+-- the segment is complete: the reading of its node 1 is complete
 abbrev pub is_complete_in : GatheredValue → ℕ → Bool
 is_complete_in g seg = is_complete_reading (reading (gathered_status g seg) 1)
 
@@ -23,7 +23,8 @@ IsStageDone o g =
     (seg : ℕ) (segment : Range) → slice_get o.recon.segments seg ≡ Some segment → stage_in o.recon segment ≡ g.stage
     → is_complete_in g seg ≡ true
 
--- a stage of this opening's move is over: what was gathered of it is placed, and its segments are complete
+-- a stage of this opening's move is over: what was gathered of it is placed, and its segments are
+-- complete
 pub record IsStageOver (o : OpeningValue) (g : GatheredValue) : Type 0 where
   pub opening : IsOpening o
   pub placed : IsPlaced o g
@@ -37,11 +38,12 @@ next_began o g = record {
   receipts = g.receipts;
 }
 
--- a move that follows begins with the families where they are now, and with all receipts so far
+-- a following move begins with the families where they are now, and with all receipts so far
 abbrev pub onward_began : OpeningValue → GatheredValue → BeganWith
 onward_began o g = record (next_began o g) { stage = 0 }
 
--- another move follows a stage that is the last of its own: it goes from the plan that was reached, and has the same rows
+-- another move follows a stage that is the last of its own: it starts from the plan that was
+-- reached, and has the same rows
 pub record IsNextMove (o : OpeningValue) (g : GatheredValue) (next : OpeningValue) : Type 0 where
   pub last : g.stage + 1 ≡ stages o.recon
   pub plan : next.old ≡ o.new

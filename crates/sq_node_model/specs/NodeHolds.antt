@@ -1,5 +1,5 @@
--- What a node keeps between any two of its steps.
--- Each part of what holds is a type of its pieces alone, so that it is the same type after a step that leaves them alone.
+-- What a node keeps between any two of its steps. Each part of what holds is a type of its pieces
+-- alone, so that it is the same type after a step that leaves them alone.
 use Rattle.std.specs.Prelude.{ℕ, ◌<◌, Contains}
 use Rattle.sq_ranges.specs.OpeningValue.{OpeningValue}
 use Rattle.sq_node_model.specs.NodeValue.{NodeValue}

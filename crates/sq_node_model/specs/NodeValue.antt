@@ -8,18 +8,19 @@ use Rattle.sq_exec.specs.OutLink.{OutLinkValue}
 use Rattle.sq_exec.specs.CoreValue.{CoreValue, out_at, inbox_at, given_up_at, loaded_at}
 use Rattle.sq_status.specs.declared.view.View.{View}
 
--- what a transaction was answered: its id and its root key, how many transactions the log of the root key held before it, and
--- the reply
+-- the answer to a transaction: its id and its root key, how many transactions the log of the root
+-- key held before it, and the reply
 pub record ReceiptValue : Type 0 where
   pub id : ℕ
   pub root : ℕ
   pub position : ℕ
   pub reply : Reply
 
--- the partition, its families, and the receipts in the order in which they were written; by segment, the nodes of its tree
--- that were begun and completed here, each with its pull, the leaves that were given up, and what was loaded; by destination,
--- the end of the link to it, and the chunks that were sent; by source, the chunks that were received, and the one of them
--- that isn't loaded
+-- the partition, its families, and the receipts in the order in which they were written; by
+-- segment, the nodes of its tree that were begun and completed here, each with its pull, the leaves
+-- that were given up, and what was loaded; by destination, the end of the link to it, and the
+-- chunks that were sent; by source, the chunks that were received, and the one of them that isn't
+-- loaded yet
 pub record NodeValue : Type 0 where
   pub part : ℕ
   pub store : StoreValue
@@ -33,8 +34,8 @@ pub record NodeValue : Type 0 where
   pub received : ℕ → List ChunkValue
   pub inboxes : ℕ → Option ChunkValue
 
--- a node at work: its partition, the views of its seats by segment, what its ends of links sent and received by the
--- other partition, and its receipts
+-- a node at work: its partition, the views of its seats by segment, what its ends of links sent and
+-- received by the other partition, and its receipts
 pub record NodeAtWork : Type 0 where
   pub core : CoreValue
   pub views : ℕ → View

@@ -1,5 +1,5 @@
--- What holds of all that was gathered, whatever the threads did: each family is where the notes place it, once, and is
--- the replay of its log, which the receipts name.
+-- The properties of what was gathered, whatever the threads did: each family is in one place, where
+-- the notes place it, and is the replay of its log, which the receipts name.
 use Rattle.std.specs.Prelude.{◌≡◌, ℕ, true, nat_lt, length, map, drop, reverse, slice_get, Some, Contains}
 use Rattle.sq_schema.specs.Family.{FamilyValue}
 use Rattle.sq_tree.specs.Node.{is_node}
@@ -20,13 +20,15 @@ use Rattle.sq_node_model.specs.declared.spot.Spot.{Spot}
 use Rattle.sq_node_model.specs.Gathered.{GatheredLink, GatheredValue, HasEachLink}
 use Rattle.sq_node_model.specs.Spots.{AllGrown, loaded_count, cut_notes, loaded_notes, gathered_place, gathered_status, StandsAt, IsSpotOf}
 
--- there is a store for each partition, a link wherever a range moves in the stage, and a tree for each segment
+-- there is a store for each partition, a link for each pair of partitions between which a range
+-- moves in the stage, and a tree for each segment
 pub record HasEachPart (o : OpeningValue) (g : GatheredValue) : Type 0 where
   pub all_stores : length g.stores ≡ o.old.parts
   pub each_link : HasEachLink o g.stage g.links
   pub all_statuses : length g.statuses ≡ length o.recon.segments
 
--- the note goes along the link, and is about a node of the tree of one of its segments of the stage, which was begun
+-- the note goes along the link, and is about a node of the tree of one of its segments of the
+-- stage, which was begun
 pub record IsLinkNote (o : OpeningValue) (g : GatheredValue) (link : GatheredLink) (note : Note) : Type 0 where
   pub comes_from : note.src ≡ link.src
   pub goes_to : note.dst ≡ link.dst
@@ -34,8 +36,8 @@ pub record IsLinkNote (o : OpeningValue) (g : GatheredValue) (link : GatheredLin
   pub node : is_node note.node ≡ true
   pub begun : is_begun (gathered_status g note.seg note.node) ≡ true
 
--- the chunks under way are those of the last notes; the notes are numbered from 0, are the link's, and tile their nodes; and
--- each family of a chunk is of its note's keys
+-- the chunks under way are those of the last notes; the notes are numbered from 0, are the link's,
+-- and tile their nodes; and each family of a chunk is of its note's keys
 pub record IsLinkPlaced (o : OpeningValue) (g : GatheredValue) (link : GatheredLink) : Type 0 where
   pub way : map (λ chunk. chunk.note) link.under_way ≡ drop (loaded_count link) link.notes
   pub numbered : AreNumbered (reverse link.notes)
@@ -43,8 +45,9 @@ pub record IsLinkPlaced (o : OpeningValue) (g : GatheredValue) (link : GatheredL
   pub tiles : Tiles o (reverse link.notes)
   pub within : (chunk : ChunkValue) → Contains link.under_way chunk → are_within chunk.note.lo chunk.note.hi chunk.families ≡ true
 
--- all parts are there and fit together: notes of two nodes share no key, the trees grew from free ones, a complete node has
--- its last note loaded, and each family is where the notes place its root key
+-- all parts are there and fit together: notes of two nodes share no key, the trees grew from free
+-- ones, a complete node has its last note loaded, and each family is where the notes place its root
+-- key
 pub record FitTogether (o : OpeningValue) (g : GatheredValue) : Type 0 where
   pub parts : HasEachPart o g
   pub links : (i : ℕ) (link : GatheredLink) → slice_get g.links i ≡ Some link → IsLinkPlaced o g link
@@ -61,7 +64,7 @@ StandOnce g =
     (one other : Spot) (root : ℕ) (family again : FamilyValue) → StandsAt g one root family → StandsAt g other root again
     → one ≡ other
 
--- each opening root has a family
+-- each opening root key has a family
 abbrev pub AllStand : OpeningValue → GatheredValue → Type 0
 AllStand o g = (root : ℕ) → is_opened o root ≡ true → (spot : Spot) × (family : FamilyValue) × StandsAt g spot root family
 
@@ -75,13 +78,14 @@ NameEach g =
     (spot : Spot) (root : ℕ) (family : FamilyValue) → StandsAt g spot root family → (position : ℕ)
     → times_named root position g.receipts ≡ one_if (nat_lt position (length family.log))
 
--- each committed receipt names the transaction of its position in a family's log, and the reply that it had to have
+-- each committed receipt names the transaction at its position in a family's log, and the reply
+-- that it must have had
 abbrev pub AreTold : GatheredValue → Type 0
 AreTold g =
     (receipt : ReceiptValue) → Contains g.receipts receipt → is_commit receipt.reply ≡ true
     → (spot : Spot) × (family : FamilyValue) × StandsAt g spot receipt.root family × IsToldBy family receipt
 
--- each family that a root key was given stands, perhaps with a longer log
+-- each family that a root key began with is still there, perhaps with a longer log
 abbrev pub GoOn : BeganWith → GatheredValue → Type 0
 GoOn began g =
     (root : ℕ) (first : FamilyValue) → began.families root ≡ Some first

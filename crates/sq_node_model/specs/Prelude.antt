@@ -1,4 +1,5 @@
--- The words of this crate that contracts of other crates cite, passed on from one place. Declares nothing.
+-- The words of this crate that contracts of other crates cite, passed on from one place. Declares
+-- nothing.
 pub use Rattle.sq_node_model.specs.NodeValue.{ReceiptValue}
 pub use Rattle.sq_node_model.specs.Receipts.{is_commit}
 pub use Rattle.sq_node_model.specs.BeganWith.{BeganWith, first_began, CanBegin}

@@ -1,4 +1,4 @@
--- What receipts say of a family.
+-- What receipts record of a family.
 use Rattle.std.specs.Prelude.{◌≡◌, ℕ, Bool, true, false, ◌==◌, ◌&&◌, List, take, slice_get, Some, count_by}
 use Rattle.sq_schema.specs.TxnValue.{TxnValue}
 use Rattle.sq_schema.specs.declared.txn.Reply.{Reply}
@@ -19,7 +19,8 @@ names root position receipt = is_commit receipt.reply && ((receipt.root == root)
 abbrev pub times_named : ℕ → ℕ → List ReceiptValue → ℕ
 times_named root position receipts = count_by (names root position) receipts
 
--- the family's log has the receipt's transaction at its position, and the reply is the one that the log before it gives
+-- the family's log has the receipt's transaction at its position, and the log before it determines
+-- the reply
 pub record IsToldBy (family : FamilyValue) (receipt : ReceiptValue) : Type 0 where
   pub txn : TxnValue
   pub there : slice_get family.log receipt.position ≡ Some txn

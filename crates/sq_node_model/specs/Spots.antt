@@ -1,4 +1,4 @@
--- Where the families are of what was gathered, and where they should be.
+-- Where the gathered families are, and where they should be.
 use Rattle.std.specs.Prelude.{◌≡◌, ℕ, ◌-◌, List, [], length, take, slice_get, slice_index_or, Option, Some, option_and_then}
 use Rattle.std.specs.List.{flat_map}
 use Rattle.std.specs.FinMap.{get}
@@ -45,7 +45,7 @@ AllGrown statuses = (seg : ℕ) → IsGrown (status_at (slice_index_or statuses 
 abbrev pub chunk_in : GatheredValue → ℕ → ℕ → Option ChunkValue
 chunk_in g link chunk = option_and_then (λ at. slice_get at.under_way chunk) (slice_get g.links link)
 
--- the family that a root key has at a spot
+-- the family of a root key at a spot
 abbrev pub family_at_spot : GatheredValue → Spot → ℕ → Option FamilyValue
 family_at_spot g (Store part) root = option_and_then (λ store. get store root) (slice_get g.stores part)
 family_at_spot g (Chunk link chunk) root = option_and_then (λ found. family_in found.families root) (chunk_in g link chunk)

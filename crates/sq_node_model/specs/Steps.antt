@@ -26,7 +26,7 @@ node_begun node dst work =
 abbrev pub node_cut : NodeValue → ℕ → OutLinkValue → StoreValue → NodeValue
 node_cut node dst out store = record node { store = store; outs = put dst out node.outs }
 
--- the chunk of an outbox went onto its link
+-- the chunk of an outbox was pushed onto its link
 abbrev pub node_sent : NodeValue → ℕ → ChunkValue → NodeValue
 node_sent node dst chunk =
     record node {
@@ -34,7 +34,7 @@ node_sent node dst chunk =
       sent = put dst (node.sent dst ++ chunk ∷ []) node.sent;
     }
 
--- a chunk came off a link into the inbox
+-- a chunk was popped off a link into the inbox
 abbrev pub node_received : NodeValue → ℕ → ChunkValue → NodeValue
 node_received node src chunk =
     record node {
@@ -55,11 +55,12 @@ node_loaded node src chunk =
 abbrev pub node_completed : NodeValue → ℕ → ℕ → ℕ → NodeValue
 node_completed node seg n pull = record node { completed = put seg ((n, pull) ∷ node.completed seg) node.completed }
 
--- the receipt of a transaction that was answered so on these families
+-- the receipt of a transaction that had this reply on these families
 abbrev pub receipt_of : StoreValue → TxnValue → Reply → ReceiptValue
 receipt_of store txn reply = record { id = txn.id; root = txn.root; position = log_length store txn.root; reply = reply }
 
--- a transaction was answered so: where it committed it is at the end of its family's log, and it has its receipt either way
+-- a transaction had this reply: if it committed it is at the end of its family's log, and it has
+-- its receipt either way
 abbrev pub node_answered : NodeValue → TxnValue → Reply → NodeValue
 node_answered node txn reply =
     record node {
@@ -67,14 +68,15 @@ node_answered node txn reply =
       receipts = node.receipts ++ receipt_of node.store txn reply ∷ [];
     }
 
--- this is the outcome of a transaction that was submitted or resumed: it was answered, or nothing changed of what the
--- node keeps
+-- this is the outcome of a transaction that was submitted or resumed: it was answered, or what the
+-- node keeps didn't change
 abbrev pub node_served : NodeValue → TxnValue → Outcome → NodeValue
 node_served node txn (Done reply) = node_answered node txn reply
 node_served node txn (Moved who) = node
 node_served node txn (Waits seg leaf) = node
 
--- the receipts after this outcome of a transaction at a partition with these families: it has one where it ran
+-- the receipts after this outcome of a transaction at a partition with these families: it has one
+-- if it ran
 abbrev pub receipts_after : StoreValue → TxnValue → Outcome → List ReceiptValue → List ReceiptValue
 receipts_after store txn (Done reply) receipts = receipts ++ receipt_of store txn reply ∷ []
 receipts_after store txn (Moved who) receipts = receipts

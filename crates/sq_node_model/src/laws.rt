@@ -1,4 +1,4 @@
-// What each step of a node does to it, and that it keeps what holds of the node.
+// What each step of a node does to it, and that it keeps the invariants of the node.
 ghost use Rattle.std.specs.Prelude.{◌≡◌, ◌<◌, ℕ, Bool, List, length, true, false, Some, None, IfSome, Contains};
 ghost use mathlib.Core.Option.{some};
 ghost use lib.ListN.{get_elem?};
@@ -26,13 +26,13 @@ ghost use Rattle.sq_node_model.specs.AtWork.{Keeps, KeepsAlways, KeepsInStage, K
 ghost use Rattle.sq_node_model.specs.AtWork.{with_partition, with_views, DidNoMore, WonWord, WinsAs, WinsBegin, WinsBeginOutward, begun_value};
 ghost use Rattle.sq_node_model.specs.AtWork.{once_begun, once_sent, once_received, once_completed, once_served};
 
-/// The families of the opening rows are what a stage may begin with.
+/// A stage may begin with the families of the opening rows.
 pub fn an_opening_can_begin()
     ensures { (o : OpeningValue) → CanBegin o (first_began o) }
 {}
 
-/// A partition that opens with the families that the root keys it owns were given, and whose thread did nothing yet, is
-/// a node that keeps all of it.
+/// A partition that opens with the families of the root keys that it owns is a node that keeps all
+/// its invariants before any step of its thread.
 pub fn a_new_node_holds()
     ensures { (o : OpeningValue) (began : BeganWith) (part : ℕ) (store : StoreValue)
         → part < o.old.parts → CanBegin o began → OpensWith o began part store
@@ -45,8 +45,8 @@ pub fn a_look_keeps_a_node()
         → DidNoMore node.views now → KeepsAlways node (with_views node now) }
 {}
 
-/// A node begins a node of a segment's tree that leaves it where its seat won the word and its partition gives the keys
-/// up: what holds of it holds still.
+/// A node keeps its invariants as it begins a tree node that moves out of it: its seat wins the
+/// word, and its partition gives the keys up.
 pub fn a_begin_keeps_a_node()
     ensures step { (o : OpeningValue) (i : ℕ) (node : NodeAtWork) (word : WonWord) (segment : Range)
         → IsOpening o → WinsBegin o i node word segment
@@ -56,7 +56,7 @@ pub fn a_begin_keeps_a_node()
         → Keeps o began node (once_begun node word) }
 {}
 
-/// So it does where it cuts a chunk.
+/// A node keeps its invariants as it cuts a chunk.
 pub fn a_cut_keeps_a_node()
     ensures step { (node : NodeAtWork) (new : CoreValue) (dst : ℕ) (note : Note)
         → (cuts : CutsFor node.core dst note new)
@@ -67,7 +67,7 @@ pub fn a_cut_keeps_a_node()
         → Keeps o began node (with_partition node new) }
 {}
 
-/// So it does where it sends the chunk of an outbox.
+/// A node keeps its invariants as it sends the chunk of an outbox.
 pub fn a_send_keeps_a_node()
     ensures step { (node : NodeAtWork) (dst : ℕ) (chunk : ChunkValue)
         → (out_at node.core dst).outbox ≡ Some chunk
@@ -77,7 +77,7 @@ pub fn a_send_keeps_a_node()
         → KeepsAlways node (once_sent node dst chunk) }
 {}
 
-/// So it does where it receives a chunk into an empty inbox, whatever chunk it is.
+/// A node keeps its invariants as it receives a chunk, any chunk, into an empty inbox.
 pub fn a_receive_keeps_a_node()
     ensures step { (node : NodeAtWork) (src : ℕ) (chunk : ChunkValue)
         → src < length node.core.inboxes
@@ -87,7 +87,7 @@ pub fn a_receive_keeps_a_node()
         → KeepsAlways node (once_received node src chunk) }
 {}
 
-/// So it does where it loads a chunk that can be loaded.
+/// A node keeps its invariants as it loads a chunk that can be loaded.
 pub fn a_load_keeps_a_node()
     ensures step { (o : OpeningValue) (i : ℕ) (node : NodeAtWork) (new : CoreValue) (src : ℕ)
         → IsCoreOf o i node.core → (loads : LoadsOne node src new)
@@ -96,7 +96,7 @@ pub fn a_load_keeps_a_node()
         → LoadsOne node src new → KeepsAsReceiver src node (with_partition node new) }
 {}
 
-/// So it does where it completes a tree node whose last chunk it loaded.
+/// A node keeps its invariants as it completes a tree node whose last chunk it loaded.
 pub fn a_complete_keeps_a_node()
     ensures step { (node : NodeAtWork) (word : WonWord)
         → WinsAs Complete node word
@@ -107,7 +107,8 @@ pub fn a_complete_keeps_a_node()
         → KeepsAlways node (once_completed node word) }
 {}
 
-/// So it does where it takes a transaction: one that runs has its receipt, and one that waits or is sent on has none.
+/// A node keeps its invariants as it takes a transaction: one that runs gets a receipt, one that
+/// waits or is forwarded gets none.
 pub fn a_submit_keeps_a_node()
     ensures step { (node : NodeAtWork) (new : CoreValue) (waits : Bool) (txn : TxnValue)
         (outcome : Outcome)
@@ -118,7 +119,7 @@ pub fn a_submit_keeps_a_node()
         → KeepsInStage node (once_served node new txn outcome) }
 {}
 
-/// So it does where it resumes one that waited.
+/// A node keeps its invariants as it resumes a waiting transaction.
 pub fn a_resume_keeps_a_node()
     ensures step { (node : NodeAtWork) (new : CoreValue) (resumed : Resumed)
         → IsResumed node.core resumed new
@@ -135,13 +136,13 @@ pub fn what_belongs_here_can_be_loaded()
         → HasNoneToLoadFrom src node }
 {}
 
-/// A tree that threads share is one that splits and claims lead to from a free one.
+/// Splits and claims lead from a free tree to every tree that threads share.
 pub fn seats_grow_a_tree()
     ensures { (statuses : List Status) (views : List View) → IsTreeOf statuses views
         → IsGrown (status_at statuses) }
 {}
 
-/// What a seat began is begun, and no seat begins a tree node that it began before.
+/// A tree node that a seat began is begun, and no seat begins a tree node twice.
 pub fn a_seat_begins_once()
     ensures begun { (statuses : List Status) (views : List View) (v : View) (at n pull : ℕ)
         → IsTreeOf statuses views → get_elem? views at ≡ some v
@@ -150,7 +151,7 @@ pub fn a_seat_begins_once()
         → Contains v.begun (n, other) → ⊥ }
 {}
 
-/// No two begun nodes of a tree have a root key in common.
+/// No two begun nodes of a tree share a root key.
 pub fn begun_nodes_share_no_key()
     ensures { (o : OpeningValue) (status : ℕ → Status) (seg root n m : ℕ)
         → IsOpening o → IsGrown status → IsBegunOver o status seg root n

@@ -1,5 +1,5 @@
-//! What a node keeps: a partition, with what its thread did on the trees and links that it shares with others; and that
-//! what is gathered of all nodes is placed.
+//! What a node keeps: a partition, with what its thread did on the trees and links that it shares
+//! with others; and that what is gathered of all nodes is placed.
 #![tactic(auto)]
 
 pub mod gathered;

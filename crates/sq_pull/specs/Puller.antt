@@ -10,7 +10,7 @@ use Rattle.sq_pull.specs.Numbers.{reactive_pull}
 use Rattle.sq_pull.specs.Wins.{WinsValue, AddsWin, Sends}
 use Rattle.sq_pull.specs.Seats.{StepsAt, ClaimsLeaf}
 
--- a partition that pulls, and what it won
+-- a partition that pulls, and the claims that it won
 pub record PullerValue : Type 0 where
   pub part : ℕ
   pub wins : WinsValue
@@ -24,7 +24,7 @@ pub record RoomyPuller : Type 0 where
 abbrev pub next_reactive : PullerValue → ℕ
 next_reactive puller = reactive_pull puller.part puller.wins.count
 
--- the outcome of a reactive pull for a leaf of a segment: what it did to the puller and to the seats
+-- the outcome of a reactive pull for a leaf of a segment: how it changed the puller and the seats
 abbrev pub HasPulled : ReconValue → ℕ → ℕ → PullerValue → List SeatValue → PullerValue → List SeatValue → ReactivePull → Type 0
 HasPulled recon seg leaf old seats new after (Won n) =
     (old.wins.count < MAX_CLAIMS)

@@ -1,4 +1,4 @@
--- The seats of an owner, one for each segment, and what a step of it does to them.
+-- The seats of an owner, one for each segment, and how a step changes them.
 use Rattle.std.specs.Prelude.{◌≡◌, ℕ, ◌⊎◌, List, [], map, slice_get, slice_set, Some, Option}
 use Rattle.atomic_table.specs.Seated.{TableId}
 use Rattle.sq_tree.specs.declared.fault.SplitFault.{SplitFault}
@@ -9,11 +9,11 @@ use Rattle.sq_status.specs.declared.tree.walks.LeafClaim.{LeafClaim}
 use Rattle.sq_status.specs.Seat.{SeatValue, IsSameSeat}
 use Rattle.sq_status.specs.Walks.{WalkedLeaf, Searched, ClaimedOnly, claims_of_walk, claims_of_search}
 
--- each seat is of the tree of its segment
+-- each seat belongs to the tree of its segment
 abbrev pub AreSeatsOf : List TableId → List SeatValue → Type 0
 AreSeatsOf trees seats = map (λ (seat : SeatValue). seat.tree) seats ≡ trees
 
--- the seat of one segment made these steps, and no other seat made any
+-- the seat of segment `seg` performed these steps, and no other seat did anything
 pub record StepsAt (seg : ℕ) (steps : View → View → Type 0) (old new : List SeatValue) : Type 0 where
   pub before : SeatValue
   pub after : SeatValue
@@ -32,7 +32,7 @@ pub record ClaimsAny (pull : ℕ) (found : Option ℕ) (v w : View) : Type 0 whe
   pub search : Searched 1 pull v w found
   pub claims : ClaimedOnly v (claims_of_search pull found) w
 
--- a node was split, or it couldn't be. None was claimed
+-- a node was split, or it couldn't be; no node was claimed
 pub record TriesSplit (n : ℕ) (v w : View) : Type 0 where
   pub split : WonLive v n Split w ⊎ ((fault : SplitFault) × SplitRefused n v w fault)
   pub claims : ClaimedOnly v [] w

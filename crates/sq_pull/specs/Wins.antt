@@ -24,11 +24,11 @@ no_wins = record { count = 0; pending = [] }
 abbrev pub request_for : Range → ℕ → ℕ → ℕ → PendingRequest
 request_for segment seg n pull = record { src = segment.src; request = record { seg = seg; node = n; pull = pull } }
 
--- what is left of the requests, in their order, where any of them may have been sent
+-- the requests that are left, in order, after any of them may have been sent
 abbrev pub AreLeft : List PendingRequest → List PendingRequest → Type 0
 AreLeft before after = (stays : List Bool) × (length stays ≡ length before) × (after ≡ items_where_true stays before)
 
--- a claim of a node for a pull was won: it counts, and there is a request for it
+-- a claim of a node for a pull was won: it is counted, and there is a request for it
 pub record AddsWin (recon : ReconValue) (seg n pull : ℕ) (old new : WinsValue) : Type 0 where
   pub segment : Range
   pub there : slice_get recon.segments seg ≡ Some segment
@@ -46,6 +46,6 @@ pub record IsWonClaim (seats : List SeatValue) (request : Request) : Type 0 wher
   pub there : slice_get seats request.seg ≡ Some seat
   pub claimed : Contains seat.view.claimed (request.node, request.pull)
 
--- the requests that aren't sent are for claims that these seats won
+-- the unsent requests are for claims that these seats won
 abbrev pub AreWonClaims : List SeatValue → WinsValue → Type 0
 AreWonClaims seats wins = All (λ (pending : PendingRequest). IsWonClaim seats pending.request) wins.pending

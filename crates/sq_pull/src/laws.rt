@@ -1,9 +1,10 @@
-// What holds of the numbers of pulls.
+// Laws of pull numbers.
 ghost use Rattle.std.specs.Prelude.{◌≡◌, ◌≢◌, ℕ, ◌^◌, ◌%◌, ◌<◌};
 ghost use Rattle.sq_pull.specs.declared.numbers.TheConstants.{MAX_OWNERS, MAX_CLAIMS};
 ghost use Rattle.sq_pull.specs.Numbers.{reactive_pull, pump_pull};
 
-/// A pull number says whose claim it is, and which one of its owner: no two claims have one number.
+/// A pull number names the owner of its claim and which of the owner's claims it is: no two claims
+/// have the same number.
 pub fn each_claim_has_a_pull_of_its_own()
     ensures partitions { (part other won count : ℕ) → part < MAX_OWNERS → other < MAX_OWNERS
         → reactive_pull part won ≡ reactive_pull other count → (part ≡ other) × (won ≡ count) }
@@ -12,7 +13,8 @@ pub fn each_claim_has_a_pull_of_its_own()
     ensures apart { (part pump won count : ℕ) → reactive_pull part won ≢ pump_pull pump count }
 {}
 
-/// The pull of a partition is reactive, which means odd, and the pull of a pump is not. Both have 32 bits.
+/// The pull number of a partition is odd, which marks it as reactive, and that of a pump is even.
+/// Both fit in 32 bits.
 pub fn a_pull_is_odd_where_it_is_reactive()
     ensures odd { (part won : ℕ) → reactive_pull part won % 2 ≡ 1 }
     ensures even { (pump won : ℕ) → pump_pull pump won % 2 ≡ 0 }

@@ -1,5 +1,6 @@
-//! Pulls: claims of nodes of the split trees, each with a request to the partition that the node leaves. A claim is won
-//! by one exchange of one word, without a lock; only what touches a queue of requests may wait.
+//! Pulls: claims of nodes of the split trees, each with a request to the partition that the node
+//! leaves. A claim is won by one exchange of one word, without a lock; only operations on a request
+//! queue may wait.
 #![tactic(auto)]
 
 pub mod laws;

@@ -4,16 +4,18 @@ ghost use Rattle.sq_pull.specs.Numbers.{reactive_pull, pump_pull};
 
 use sq_plan::PartId;
 
-/// How many partitions may pull, and how many pumps there may be.
+/// The partitions that may pull have numbers below this, and so do the pumps.
 pub const MAX_OWNERS: u32 = 64;
 
-/// How many pumps a run has at most.
+/// The largest number of pumps in a run.
 pub const MAX_PUMPS: u32 = 16;
 
-/// How many claims a partition or a pump wins at most: up to here its pull numbers have 32 bits.
+/// The most claims that one partition or pump wins: up to this many, its pull numbers fit in 32
+/// bits.
 pub const MAX_CLAIMS: u32 = 33_554_432;
 
-/// The number of the reactive pull that a partition claims with next, where it has won this many claims. It is odd.
+/// Returns the number, which is odd, of the next reactive pull of partition `part`, which has won
+/// `won` claims.
 pub(crate) fn reactive_pull(part: PartId, won: u32) -> u32
     requires part { part < MAX_OWNERS }
     requires won { won < MAX_CLAIMS }
@@ -22,7 +24,8 @@ pub(crate) fn reactive_pull(part: PartId, won: u32) -> u32
     2 * (u32::from(part.number()) + MAX_OWNERS * won) + 1
 }
 
-/// The number of the asynchronous pull that a pump claims with next, where it has won this many claims. It is even.
+/// Returns the number, which is even, of the next asynchronous pull of pump `pump`, which has won
+/// `won` claims.
 pub(crate) fn pump_pull(pump: u32, won: u32) -> u32
     requires pump { pump < MAX_OWNERS }
     requires won { won < MAX_CLAIMS }

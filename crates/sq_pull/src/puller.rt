@@ -20,16 +20,17 @@ use std::sync::Wait;
 /// The outcome of a reactive pull.
 #[derive(Clone, Copy, Debug, PartialEq, Eq)]
 pub enum ReactivePull {
-    /// The leaf's node was claimed, and is asked for. This is the node.
+    /// The leaf's node was claimed and requested; this is the node.
     Won(NodeId),
-    /// A pull has the leaf already. These are the node and the status that was found.
+    /// A pull has the leaf already; this is the node that was found, with its status.
     Held(NodeId, Status),
-    /// The partition has won [`MAX_CLAIMS`] claims, and wins no more.
+    /// The partition has won [`MAX_CLAIMS`] claims and wins no more.
     Spent,
 }
 
-/// The reactive pulls of a partition, for transactions that need rows which aren't there yet: how many claims it won, and
-/// the requests for them that aren't sent. To a contract it is a `RoomyPuller`.
+/// The reactive pulls of a partition, for transactions that need rows which have not arrived: how
+/// many claims it won, and the requests for them that aren't sent yet. To a contract it is a
+/// `RoomyPuller`.
 #[derive(Debug, Drop)]
 pub struct Puller {
     part: PartId,
@@ -54,7 +55,7 @@ impl Model for Puller {
 impl Puller {
     ghost use Rattle.sq_pull.specs.Puller.{HasPulled};
 
-    /// The pulls of a partition that has won no claim.
+    /// Returns the pulls of partition `part`, which has won no claim.
     pub fn new(alloc: Global, part: PartId) -> Puller
         requires { part < MAX_OWNERS }
         ensures { result.puller ≡ record { part = part; wins = no_wins } }
@@ -65,14 +66,14 @@ impl Puller {
         }
     }
 
-    /// The requests that aren't sent, the oldest first.
+    /// Returns the requests that aren't sent yet, the oldest first.
     pub fn pending(&self) -> &[PendingRequest]
         ensures { result.now ≡ self.now.puller.wins.pending }
     {
         self.wins.pending()
     }
 
-    /// Takes room for one more request, so that the next reactive pull takes no memory.
+    /// Reserves room for one more request, so that the next reactive pull allocates nothing.
     pub fn reserve(&mut self) -> Result<(), AllocError>
         ensures same { self.new.puller ≡ self.old.puller }
         ensures ok { OnOk result (self.new.has_room ≡ true) }
@@ -81,10 +82,11 @@ impl Puller {
         self.wins.reserve()
     }
 
-    /// Claims the node of a leaf, and where the claim is won sends a request for it to the partition that the segment
-    /// leaves. A request whose queue is full stays pending.
+    /// Claims the node of `leaf` in segment `seg` and, if it wins the claim, sends a request for
+    /// the node to the partition that the segment leaves. If that queue is full, the request stays
+    /// pending.
     ///
-    /// Where there is no room for the request, nothing is claimed.
+    /// If memory for the request runs out, nothing is claimed.
     pub fn reactive<R: Wait>(
         &mut self,
         rt: &R,

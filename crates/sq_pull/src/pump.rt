@@ -21,16 +21,17 @@ use std::sync::Wait;
 /// The outcome of a pump's turn.
 #[derive(Clone, Copy, Debug, PartialEq, Eq)]
 pub enum PumpTurn {
-    /// A node of a segment was claimed, and is asked for.
+    /// A node of a segment was claimed and requested.
     Won(SegId, NodeId),
-    /// There was nothing to claim where the pump looked.
+    /// There was nothing to claim in the segment that the pump looked at, or no segment is left in
+    /// its round.
     Nothing,
-    /// The pump has won [`MAX_CLAIMS`] claims, and wins no more.
+    /// The pump has won [`MAX_CLAIMS`] claims and wins no more.
     Spent,
 }
 
-/// A pump: it claims nodes for asynchronous pulls, in one segment of the running stage after another, until each leaf
-/// has a pull. To a contract it is a `PumpValue`.
+/// A pump: it claims nodes for asynchronous pulls, one segment of the running stage after another,
+/// until each leaf has a pull. To a contract it is a `PumpValue`.
 #[derive(Drop)]
 pub struct Pump {
     number: u32,
@@ -62,8 +63,9 @@ impl Model for Pump {
 impl Pump {
     ghost use Rattle.sq_pull.specs.Pump.{new_pump, IsPump, StaysPump, LacksRoom, ClaimsNext, HasTurned, PutsOff, SplitsNext, OnlySends};
 
-    /// The pump of this number, which has won no claim. Its seats are of the segments in their order, and its round has
-    /// those of the stage. Where there is no memory for the round, the seats come back.
+    /// Returns pump `number`, which has won no claim. `seats` are those of the segments, in their
+    /// order, and its round has the segments of `stage`. If memory for the round runs out, `seats`
+    /// are returned.
     pub fn new(
         alloc: Global,
         recon: &Recon,
@@ -87,43 +89,43 @@ impl Pump {
         })
     }
 
-    /// Its number among the pumps.
+    /// Returns its number among the pumps.
     pub fn number(&self) -> u32
         ensures { result ≡ self.now.number }
     {
         self.number
     }
 
-    /// The requests that aren't sent, the oldest first.
+    /// Returns the requests that aren't sent yet, the oldest first.
     pub fn pending(&self) -> &[PendingRequest]
         ensures { result.now ≡ self.now.wins.pending }
     {
         self.wins.pending()
     }
 
-    /// Whether there is nothing left to do: each leaf of each segment of its stage had a pull when the pump looked there
-    /// last, and each request is sent.
+    /// Returns true if the pump has nothing left to do: each leaf of each segment of its stage had
+    /// a pull when the pump last looked there, and each request is sent.
     pub fn is_done(&self) -> bool
         ensures { IsTrue result ↔ (self.now.round ≡ []) × (self.now.wins.pending ≡ []) }
     {
         self.round.is_empty() && self.wins.pending().is_empty()
     }
 
-    /// The segment that the pump looks at next.
+    /// Returns the segment that the pump looks at next.
     pub fn next_segment(&self) -> Option<SegId>
         ensures { result ≡ slice_get self.now.round 0 }
     {
         self.round.front().copied()
     }
 
-    /// How many segments are left in the round.
+    /// Returns how many segments are left in the round.
     pub fn segments_left(&self) -> usize
         ensures { result ≡ length self.now.round }
     {
         self.round.len()
     }
 
-    /// Puts the next segment off: the others of the round come before it.
+    /// Moves the next segment to the end of the round.
     pub fn put_off(&mut self)
         ensures put_off { PutsOff self.old self.new }
         ensures pump { IsPump self.new }
@@ -133,8 +135,8 @@ impl Pump {
         }
     }
 
-    /// Splits a node of the next segment, where it is free and isn't a leaf, and its parent is split: then it is claimed by
-    /// parts. Where the round is empty this does nothing.
+    /// Splits `node` of the next segment if it is free and not a leaf, and its parent is split; it
+    /// is then claimed in parts. Does nothing if the round is empty.
     pub fn split_next(&mut self, shared: &Shared<'_>, node: NodeId)
         requires seats { AreSeatsOf shared.now.trees.now self.old.seats }
         ensures split { SplitsNext node self.old self.new }
@@ -145,10 +147,10 @@ impl Pump {
         }
     }
 
-    /// Claims a node of the next segment of the round, and then sends what is pending. A segment in which each leaf has
-    /// a pull already leaves the round for good.
+    /// Claims a node of the next segment of the round, and then sends what is pending. A segment in
+    /// which each leaf already has a pull leaves the round for good.
     ///
-    /// Where there is no room for a request, nothing is claimed or sent.
+    /// If memory for a request runs out, nothing is claimed or sent.
     pub fn turn<R: Wait>(&mut self, rt: &R, shared: &Shared<'_>) -> Result<PumpTurn, AllocError>
         requires seats { AreSeatsOf shared.now.trees.now self.old.seats }
         requires trees { length shared.now.trees.now ≡ length shared.now.recon.now.segments }
@@ -172,7 +174,7 @@ impl Pump {
         self.wins.send(rt, requests);
     }
 
-    /// Its seats, by segment, and the requests that aren't sent.
+    /// Returns its seats, by segment, and the requests that aren't sent.
     pub fn into_parts(self) -> (Vec<TreeSeat>, Vec<PendingRequest>)
         ensures seats { result.0.items ≡ self.seats }
         ensures pending { result.1.items ≡ self.wins.pending }
@@ -207,7 +209,7 @@ impl Pump {
     }
 }
 
-// The ones among the first segments that run in a stage, in their order.
+// Returns those of the first `count` segments that move in `stage`, in their order.
 fn stage_round(
     alloc: Global,
     recon: &Recon,

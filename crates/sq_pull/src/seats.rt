@@ -1,4 +1,4 @@
-// Claims by the seat of a segment, among those of an owner.
+// Claims through the seat of a segment, among the seats of an owner.
 ghost use Rattle.std.specs.Prelude.{◌<◌, length};
 ghost use Rattle.sq_pull.specs.Seats.{AreSeatsOf, StepsAt, ClaimsLeaf, ClaimsAny, TriesSplit, OnlyClaimed};
 
@@ -6,7 +6,7 @@ use sq_ranges::SegId;
 use sq_status::{LeafClaim, StatusTree, TreeSeat};
 use sq_tree::{Leaf, NodeId};
 
-/// Claims the node of a leaf of a segment.
+/// Claims the node of `leaf` in segment `seg` for `pull`.
 pub(crate) fn claim_leaf(
     trees: &[StatusTree],
     seats: &mut Vec<TreeSeat>,
@@ -24,7 +24,7 @@ pub(crate) fn claim_leaf(
     trees[at].claim_leaf(&mut seats[at], leaf, pull)
 }
 
-/// Claims any node of a segment that is free.
+/// Claims any free node of segment `seg` for `pull`.
 pub(crate) fn claim_any(
     trees: &[StatusTree],
     seats: &mut Vec<TreeSeat>,
@@ -41,7 +41,7 @@ pub(crate) fn claim_any(
     trees[at].claim_any(&mut seats[at], pull)
 }
 
-/// Splits a node of a segment, where it is free and isn't a leaf, and its parent is split.
+/// Splits `node` of segment `seg` if it is free and not a leaf, and its parent is split.
 pub(crate) fn split(trees: &[StatusTree], seats: &mut Vec<TreeSeat>, seg: SegId, node: NodeId)
     requires seats { AreSeatsOf trees.now seats.old.items }
     requires segment { seg < length trees.now }

@@ -1,4 +1,4 @@
-// What all that pull share.
+// What partitions and pumps share.
 use crate::request::Request;
 use crossbeam_queue::ArrayQueue;
 use sq_ranges::Recon;
@@ -7,10 +7,10 @@ use sq_status::StatusTree;
 /// What all partitions and pumps of a reconfiguration share.
 #[derive(Clone, Copy)]
 pub struct Shared<'a> {
-    /// What moves.
+    /// The reconfiguration.
     pub recon: &'a Recon,
     /// The split tree of each segment.
     pub trees: &'a [StatusTree],
-    /// The queue of requests to each partition.
+    /// The request queue of each partition.
     pub requests: &'a [ArrayQueue<Request>],
 }

@@ -10,8 +10,8 @@ use std::alloc::{AllocError, Global};
 use std::marker::Model;
 use std::sync::Wait;
 
-/// How many claims were won, and the requests for them that aren't sent, the oldest first. To a contract it is a
-/// `RoomyWins`.
+/// The number of claims won, and the requests for them that aren't sent yet, the oldest first. To a
+/// contract it is a `RoomyWins`.
 #[derive(Debug, Drop)]
 pub(crate) struct Wins {
     count: u32,
@@ -34,7 +34,7 @@ impl Model for Wins {
 }
 
 impl Wins {
-    /// Nothing was won.
+    /// Returns a count of 0, without requests.
     pub(crate) fn new(alloc: Global) -> Wins
         ensures { result.wins ≡ no_wins }
     {
@@ -44,14 +44,14 @@ impl Wins {
         }
     }
 
-    /// How many claims were won.
+    /// Returns how many claims were won.
     pub(crate) fn count(&self) -> u32
         ensures { result ≡ self.now.wins.count }
     {
         self.count
     }
 
-    /// Whether as many claims were won as there are pull numbers.
+    /// Returns true if all [`MAX_CLAIMS`] claims were won.
     pub(crate) fn is_spent(&self) -> bool
         ensures spent { IsTrue result ↔ (self.now.wins.count ≡ MAX_CLAIMS) }
         ensures some { result ≡ false → self.now.wins.count < MAX_CLAIMS }
@@ -59,21 +59,21 @@ impl Wins {
         self.count == MAX_CLAIMS
     }
 
-    /// The requests that aren't sent.
+    /// Returns the requests that aren't sent, the oldest first.
     pub(crate) fn pending(&self) -> &[PendingRequest]
         ensures { result.now ≡ self.now.wins.pending }
     {
         &self.pending
     }
 
-    /// The requests that aren't sent.
+    /// Returns the requests that aren't sent, the oldest first.
     pub(crate) fn into_pending(self) -> Vec<PendingRequest>
         ensures { result.items ≡ self.wins.pending }
     {
         self.pending
     }
 
-    /// Takes room for one more request.
+    /// Reserves room for one more request.
     pub(crate) fn reserve(&mut self) -> Result<(), AllocError>
         ensures same { self.new.wins ≡ self.old.wins }
         ensures ok { OnOk result (self.new.has_room ≡ true) }
@@ -104,7 +104,8 @@ impl Wins {
     }
 }
 
-// Sends a request to the queue of its partition. It comes back where that queue was full at one moment of the call.
+// Sends a request to its partition's queue, or returns it if that queue was full at one moment of
+// the call, or does not exist.
 fn send_one<R: Wait>(
     rt: &R,
     queues: &[ArrayQueue<Request>],

@@ -14,15 +14,15 @@ use std::alloc::AllocError;
 /// What the leader does after a stage.
 #[derive(Drop)]
 pub enum Led {
-    /// It moves on to the next stage.
+    /// It moved on to the next stage.
     Next(Moving),
     /// It ended the move: the stage was the last.
     Ended,
-    /// It waits: a segment of the stage isn't complete.
+    /// It waits: a segment of the stage is not complete.
     Missing,
 }
 
-/// Starts the move of an opening, for which each partition has prepared. None has reported then.
+/// Starts the move of `opening`, for which each partition has prepared and none has reported.
 pub fn start_move(opening: &Opening) -> Result<Moving, AllocError>
     ensures { IfOk result (λ moving. moving ≡ leading opening.now 0) }
 {
@@ -33,7 +33,7 @@ pub fn start_move(opening: &Opening) -> Result<Moving, AllocError>
     }
 }
 
-// The leader of a move from a plan once each of its partitions has prepared.
+// Returns the leader of a move from `plan` once each of its partitions has prepared.
 fn prepare_all(plan: &Plan, recon: Recon) -> Preparing
     ensures parts { length result.prepared ≡ plan.now.parts }
     ensures all { all_marked result.prepared ≡ true }
@@ -52,9 +52,9 @@ fn prepare_all(plan: &Plan, recon: Recon) -> Preparing
     preparing
 }
 
-/// Continues after the running stage where each segment of it is whole: to the next stage, or to the end of the move
-/// after the last one. `whole` has an entry for each segment by its number, and a segment without one isn't whole. Each
-/// partition reports first that may.
+/// Continues once each segment of the running stage is complete: to the next stage, or after the
+/// last stage to the end of the move. `whole` says of each segment, by its number, whether it is
+/// complete; a segment without an entry isn't. Each partition that may report does so first.
 pub fn lead_on(moving: Moving, opening: &Opening, whole: &[bool]) -> Led
     requires { moving ≡ leading opening.now moving.stage }
     ensures { Leads opening.now moving.stage (is_marked_complete whole.now) result }
@@ -68,7 +68,7 @@ pub fn lead_on(moving: Moving, opening: &Opening, whole: &[bool]) -> Led
     }
 }
 
-// Ends the move in its last stage, where each segment of it is whole.
+// Ends the move in its last stage, if each segment of the stage is complete.
 fn end_move(moving: Moving, opening: &Opening, whole: &[bool]) -> Led
     requires reported { HaveReported opening.now moving.stage whole.now moving }
     requires last { is_last moving ≡ true }
@@ -81,7 +81,7 @@ fn end_move(moving: Moving, opening: &Opening, whole: &[bool]) -> Led
     }
 }
 
-// The leader once each partition has reported that may.
+// Returns the leader after the report of each partition that may report.
 fn hear_reports(mut moving: Moving, opening: &Opening, whole: &[bool]) -> Moving
     requires { moving ≡ leading opening.now moving.stage }
     ensures heard { HaveReported opening.now moving.stage whole.now result }

@@ -1,5 +1,6 @@
-//! The leader of a run in threads, led by whoever gathers what each stage left: it starts the move, and after a stage
-//! it hears the reports that the partitions may make, and moves on to the next stage or ends the move.
+//! The leader of a run in threads. The thread that gathers what each stage left leads: it starts
+//! the move, and after a stage it hears the reports that the partitions may make, and moves on to
+//! the next stage or ends the move.
 #![tactic(auto)]
 
 mod leader;

@@ -1,4 +1,4 @@
--- What each call says of its seat's view, before and after: what it won, and what each of its refusals shows.
+-- How each call changes its seat's view: what it won, and what each of its refusals shows.
 use Rattle.std.specs.Prelude.{◌≡◌, ◌≢◌, ℕ, ◌<◌, ◌==◌, false, IsTrue, MatchBool}
 use Rattle.sq_tree.specs.declared.status.Status.{Status}
 use Rattle.sq_tree.specs.declared.status.Status.TheVariants.{Free, Split, Claimed, Partial}
@@ -14,7 +14,7 @@ use Rattle.sq_tree.specs.Node.{is_leaf, parent}
 use Rattle.sq_status.specs.declared.view.View.{View}
 use Rattle.sq_status.specs.Plays.{Found, Won}
 
--- the seat found the node's parent split. Node 1 has no parent and needs no look
+-- the seat found the node's parent split; node 1 has no parent and needs no look
 abbrev pub FoundLive : View → ℕ → View → Type 0
 FoundLive v n w = MatchBool (n == 1) (w ≡ v) (Found v (parent n) Split w)
 
@@ -22,7 +22,7 @@ FoundLive v n w = MatchBool (n == 1) (w ≡ v) (Found v (parent n) Split w)
 abbrev pub FoundNotLive : View → ℕ → View → Type 0
 FoundNotLive v n w = (1 < n) × ((found : Status) × (found ≢ Split) × Found v (parent n) found w)
 
--- the seat found the node live, and then brought it to this status
+-- the seat found the node live, and then brought it to status `st`
 abbrev pub WonLive : View → ℕ → Status → View → Type 0
 WonLive v n st w = (u : View) × FoundLive v n u × Won u n st w
 

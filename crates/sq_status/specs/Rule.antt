@@ -1,5 +1,5 @@
--- The rule of a tree that several seats share: what holds, between any two steps, of the statuses of its nodes and of the
--- views of all its seats.
+-- The rule of a tree that several seats share: what holds, between any two steps, of the statuses
+-- of its nodes and of the views of all its seats.
 use Rattle.std.specs.Prelude.{◌≡◌, ◌≢◌, ℕ, ◌+◌, ◌^◌, ◌<◌, ◌≤◌, true, List, map, length}
 use mathlib.Core.Option.{some}
 use lib.ListN.{get_elem?}
@@ -12,7 +12,7 @@ use Rattle.sq_tree.specs.Tree.{status_at}
 use Rattle.sq_status.specs.declared.view.View.{View}
 use Rattle.sq_status.specs.View.{one_if, times_won, HasSeen, HasNoLists, alive, total}
 
--- the second status is the first or comes after it
+-- `later` is the same status as `earlier` or comes after it
 abbrev pub IsPast : Status → Status → Type 0
 IsPast earlier later = is_past earlier later ≡ true
 
@@ -25,20 +25,22 @@ pub record IsSplitTree (statuses : List Status) : Type 0 where
   -- a node that isn't free has a split parent
   pub above : (n : ℕ) → 1 < n → status_at statuses n ≢ Free → status_at statuses (parent n) ≡ Split
 
--- the statuses are those of a split tree, and they are what the seats made of it and saw of it
+-- the statuses are those of a split tree, and they agree with what the seats did and saw
 pub record IsTreeOf (statuses : List Status) (views : List View) : Type 0 where
   pub shape : IsSplitTree statuses
-  -- over all seats a node was brought to a status once where it has that status or a later one, and else never
+  -- over all seats, a node was brought to a status once if it has that status or a later one, and
+  -- otherwise never
   pub once : (n : ℕ) (st : Status) → st ≢ Free → total (times_won n st) views ≡ one_if (is_past st (status_at statuses n))
-  -- a node is at or past all that a seat found there
+  -- a node is at or past every status that a seat found there
   pub looks : (seat : ℕ) (v : View) → get_elem? views seat ≡ some v → (n : ℕ) (st : Status) → HasSeen v n st
       → IsPast st (status_at statuses n)
   -- a joined seat has no lists
   pub joined : (seat : ℕ) (v : View) → get_elem? views seat ≡ some v → v.spent ≡ true → HasNoLists v
-  -- one seat at most is the first; besides it, as many seats aren't joined as it gave and hasn't taken
+  -- at most one seat is the first; besides it, there are as many unjoined seats as it gave and
+  -- hasn't taken
   pub seats : (seat : ℕ) (v : View) → get_elem? views seat ≡ some v → v.first ≡ true
       → (seat ≡ 0) × (total alive views + v.taken ≡ v.given + 1)
 
--- the same of the words
+-- the same for the words
 abbrev pub Kept : List ℕ → List View → Type 0
 Kept words views = (statuses : List Status) × (words ≡ map word_of statuses) × IsTreeOf statuses views

@@ -4,12 +4,12 @@ use Rattle.atomic_table.specs.Seated.{TableId}
 use Rattle.sq_status.specs.declared.view.View.{View}
 use Rattle.sq_status.specs.View.{SameRole}
 
--- the tree that a seat is of, and its view
+-- the tree that a seat belongs to, and its view
 pub record SeatValue : Type 0 where
   pub tree : TableId
   pub view : View
 
--- a seat before and after a step of its own
+-- a seat before and after one of its own steps
 pub record IsSameSeat (old new : SeatValue) : Type 0 where
   pub tree : new.tree ≡ old.tree
   pub role : SameRole old.view new.view

@@ -9,7 +9,7 @@ abbrev pub fresh : Bool → Bool → View
 fresh first spent =
     record { split = []; claimed = []; begun = []; completed = []; looked = []; first = first; spent = spent; given = 0; taken = 0 }
 
--- 1 where the test holds, else 0
+-- 1 if the test holds, else 0
 abbrev pub one_if : Bool → ℕ
 one_if test = if test then 1 else 0
 
@@ -81,7 +81,7 @@ entries v = length v.split + length v.claimed + length v.begun + length v.comple
 abbrev pub alive : View → ℕ
 alive v = one_if (not v.spent)
 
--- a number for each view, added up
+-- the sum of a number for each view
 abbrev pub total : (View → ℕ) → List View → ℕ
 total f [] = 0
 total f (v ∷ vs) = f v + total f vs

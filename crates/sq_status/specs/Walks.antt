@@ -1,4 +1,4 @@
--- What the calls show that go over several nodes.
+-- What calls show that visit several nodes.
 use Rattle.std.specs.Prelude.{◌≡◌, ℕ, ◌+◌, ◌-◌, ◌*◌, ◌<◌, ◌≤◌, ◌⊎◌, Bool, true, false, IsTrue, List, [], ◌∷◌, ◌++◌, length, Contains, Option, Some, None}
 use Rattle.sq_tree.specs.declared.status.Status.{Status}
 use Rattle.sq_tree.specs.declared.status.Status.TheVariants.{Free, Split, Claimed, Partial, Complete}
@@ -17,8 +17,8 @@ is_taken (Claimed pull) = true
 is_taken (Partial pull) = true
 is_taken (Complete pull) = true
 
--- the seat's lists have these splits and looks more, the newest first, and else nothing is new. Each is at or past all that
--- the seat knew of the node
+-- the seat's lists gained exactly these splits and looks, the newest first; each is at or past all
+-- that the seat knew of the node
 pub record Added (v : View) (splits : List ℕ) (looks : List (ℕ × Status)) (w : View) : Type 0 where
   pub after : w ≡ record v { split = splits ++ v.split; looked = looks ++ v.looked }
   pub splits_later : (n : ℕ) → Contains splits n → IsLater v n Free
@@ -28,19 +28,22 @@ pub record Added (v : View) (splits : List ℕ) (looks : List (ℕ × Status)) (
 abbrev pub IsPassedAt : ℕ → ℕ → ℕ → Type 0
 IsPassedAt leaf levels n = (k : ℕ) × (levels < k) × (k ≤ 5) × (n ≡ node_above leaf k)
 
--- each node more than `levels` levels above the leaf's own was split or found split, and no other node was
+-- each node more than `levels` levels above the leaf's own was split or found split, and no other
+-- node was
 pub record Passed (leaf levels : ℕ) (splits : List ℕ) (looks : List (ℕ × Status)) : Type 0 where
   pub each : (k : ℕ) → levels < k → k ≤ 5 → Contains splits (node_above leaf k) ⊎ Contains looks (node_above leaf k, Split)
   pub splits_only : (n : ℕ) → Contains splits n → IsPassedAt leaf levels n
   pub looks_only : (n : ℕ) (st : Status) → Contains looks (n, st) → IsPassedAt leaf levels n × (st ≡ Split)
   pub count : length splits + length looks + levels ≡ 5
 
--- from node 1 down to the node `levels` levels above the leaf's own, which isn't looked at yet
+-- the walk went from node 1 down to the node `levels` levels above the leaf's own, which it hasn't
+-- looked at yet
 abbrev pub WalkedTo : ℕ → ℕ → View → View → Type 0
 WalkedTo leaf levels v w =
     (splits : List ℕ) × (looks : List (ℕ × Status)) × Passed leaf levels splits looks × Added v splits looks w
 
--- a walk from node 1 to a leaf ends by a claim of the leaf's node, or at the first node that a pull has
+-- a walk from node 1 to a leaf ends with a claim of the leaf's node, or at the first node that a
+-- pull has
 abbrev pub WalkedLeaf : ℕ → ℕ → View → View → LeafClaim → Type 0
 WalkedLeaf leaf pull v w (claim.Claimed n) = (n ≡ LEAVES + leaf) × ((u : View) × WalkedTo leaf 0 v u × Won u n (Claimed pull) w)
 WalkedLeaf leaf pull v w (claim.Held n st) =
@@ -51,12 +54,12 @@ WalkedLeaf leaf pull v w (claim.Held n st) =
 abbrev pub HeldAbove : List (ℕ × Status) → ℕ → Type 0
 HeldAbove looks leaf = (n : ℕ) × (st : Status) × Contains looks (n, st) × IsTrue (is_taken st) × IsTrue (is_above n leaf)
 
--- how many nodes there are from n downward
+-- how many nodes there are from `n` downward
 abbrev pub nodes_under : ℕ → ℕ
 nodes_under n = 2 * span n - 1
 
--- a search from n downward, in order of the leaves, finds no node to claim where each leaf is under a node that is taken;
--- else it claims a node where that holds of each leaf before
+-- a search from `n` downward, in order of the leaves, finds no node to claim if each leaf is under
+-- a taken node; otherwise it claims a node, and each leaf before it is under a taken node
 abbrev pub Searched : ℕ → ℕ → View → View → Option ℕ → Type 0
 Searched n pull v w None =
     (looks : List (ℕ × Status)) × Added v [] looks w × (length looks ≤ nodes_under n)

@@ -1,5 +1,5 @@
-//! The split tree of one segment, shared by threads: 63 statuses, each one word that changes by single
-//! exchanges. No call waits, and there is no lock.
+//! The split tree of one segment, shared by threads: 63 statuses, each one word that changes by
+//! single exchanges. No call waits, and there is no lock.
 #![tactic(auto)]
 
 mod rule;

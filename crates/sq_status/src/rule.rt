@@ -33,7 +33,7 @@ impl Play<(), View> for Advance {
     ghost then = { Advanced };
 }
 
-/// A seat is shared out by the first seat, or joined into it.
+/// The first seat shares out a seat, or a seat is joined into it.
 pub struct Handing;
 
 impl Split<View> for Handing {

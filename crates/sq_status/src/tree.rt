@@ -20,8 +20,8 @@ use std::alloc::{AllocError, Global};
 use std::marker::Model;
 pub use walks::LeafClaim;
 
-/// The statuses of the 63 nodes of a segment, in words that threads share without a lock. A contract sees
-/// which tree it is.
+/// The statuses of the 63 nodes of a segment, in words that threads share without a lock. To a
+/// contract it is the identity of the tree.
 #[derive(Drop)]
 pub struct StatusTree {
     table: Table<(), View, (), TreeRule, Global>,
@@ -40,7 +40,8 @@ impl Model for StatusTree {
         × (t.table.shared.table_id.slots ≡ 0) };
 }
 
-/// The right to make steps on a tree. It has no bytes. A contract sees its tree and its view.
+/// The right to perform steps on a tree. It takes no bytes. To a contract it is its tree and its
+/// view.
 #[derive(Drop)]
 pub struct TreeSeat {
     seat: Seat<(), View>,
@@ -58,7 +59,7 @@ impl Model for TreeSeat {
 }
 
 impl StatusTree {
-    /// A tree whose nodes are all free, and its first seat.
+    /// Returns a tree whose nodes are all free, and its first seat.
     pub fn open(alloc: Global) -> Result<(StatusTree, TreeSeat), AllocError>
         ensures { IfOk result (λ t. (t.1.tree ≡ t.0) × (t.1.view ≡ fresh true false)) }
     {
@@ -78,7 +79,8 @@ impl StatusTree {
         TreeSeat { seat: given }
     }
 
-    /// Joins a seat that was shared out: the first seat has all that it did and saw.
+    /// Joins `other`, which was shared out, into `seat`: the first seat then has all that `other`
+    /// did and saw.
     pub fn join(&self, seat: &mut TreeSeat, other: TreeSeat)
         requires tree { (seat.old.tree ≡ self.now) × (other.tree ≡ self.now) }
         requires first { seat.old.view.first ≡ true }
@@ -91,8 +93,8 @@ impl StatusTree {
             .join_seat::<Handing>(&mut seat.seat, other);
     }
 
-    /// The statuses of all nodes, from node 1 on. Where each seat that was given was also taken, they are those that
-    /// the first seat's lists name.
+    /// Returns the statuses of all nodes, from node 1 on. If each seat that was shared out was
+    /// joined again, they are those that the first seat's lists name.
     pub fn close(self, seat: TreeSeat) -> [Status; NODES]
         requires tree { seat.tree ≡ self }
         ensures rule { (id : ℕ) × (views : List View) × IsTreeOf result views
@@ -109,7 +111,7 @@ impl StatusTree {
     }
 }
 
-// The statuses that a closed table's words are.
+// Returns the statuses that the words of a closed table stand for.
 fn statuses_of(closed: &Closed<(), Global>) -> [Status; NODES]
     requires full { IsFull closed.now.words × (slots_len closed.now.words ≡ NODES) }
     requires kept { (views : List View) × Kept (slots_items closed.now.words) views }

@@ -2,7 +2,8 @@
 use sq_tree::{NodeId, Status};
 use std::collections::LinkedList;
 
-/// What a seat of a tree has done and seen. It is in clauses and proofs alone: no value of it is made.
+/// What a seat of a tree has done and seen. It exists in contracts and proofs alone: no value of it
+/// is created.
 pub struct View {
     /// The nodes that the seat split, the newest first.
     pub split: LinkedList<NodeId>,

@@ -1,4 +1,4 @@
--- What holds of each step.
+-- The law of each step.
 use Rattle.std.specs.Prelude.{◌∷◌}
 use Rattle.sq_ranges.specs.OpeningValue.{OpeningValue}
 use Rattle.sq_ranges.specs.Opening.{IsOpening}
@@ -11,7 +11,7 @@ use Rattle.sq_transition.specs.Transition.{IsTransition}
 use Rattle.sq_transition.specs.Holds.{Holds}
 use Rattle.sq_transition.specs.Headline.{KeepsHeadline}
 
--- where the steps so far were answered legally and the world is the one that they lead to, the headline is kept by the next step
+-- if the steps so far were answered legally and lead to the world, the next step keeps the headline
 abbrev pub EachStepKeepsHeadline : Type 0
 EachStepKeepsHeadline =
     (o : OpeningValue) (t : Trace) (old new : WorldValue) (step : Step) (given : Answer) → IsOpening o → IsLegal o t

@@ -1,4 +1,5 @@
--- The headline: the history is legal and its moves are orderly, and the world is the one that it leads to.
+-- The headline: the history is legal and its moves are orderly, and the world is the one that it
+-- leads to.
 use Rattle.std.specs.Prelude.{◌≡◌, ℕ}
 use Rattle.sq_plan.specs.PlanValue.{owner}
 use Rattle.sq_ranges.specs.OpeningValue.{OpeningValue}
@@ -14,6 +15,6 @@ pub record KeepsHeadline (o : OpeningValue) (t : Trace) (w : WorldValue) : Type 
   pub orderly : IsOrderly o t
   pub holds : Holds o t w
 
--- each root key is at its owner by the new plan
+-- each root key is at its owner in the new plan
 abbrev pub IsAsPlanned : OpeningValue → Trace → Type 0
 IsAsPlanned o t = (root : ℕ) → place o t root ≡ At (owner o.new root)

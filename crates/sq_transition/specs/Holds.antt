@@ -1,6 +1,6 @@
--- What a world is, by its history: each store and each chunk under way is exactly its share of the committed transactions replayed
--- on one unpartitioned table.
--- Each part of what holds is a type of its fields alone, so that it is the same type after a step that changes nothing that it names.
+-- A world by its history: each store and each chunk under way is exactly its share of the committed
+-- transactions replayed on one table without partitions. Each part of what holds is a type of its
+-- fields alone, so that it is the same type after a step that changes nothing that it names.
 use Rattle.std.specs.Prelude.{◌≡◌, ℕ, Bool, true, false, ◌+◌, ◌==◌, ◌&&◌, ◌<◌, ◌≤◌, if◌then◌else◌, List, map, drop, reverse, length, slice_get, Option, Some, None, is_some}
 use Rattle.std.specs.List.{list_any}
 use Rattle.std.specs.FinMap.{get}
@@ -31,7 +31,7 @@ abbrev pub is_at : ℕ → Place → Bool
 is_at part (At other) = other == part
 is_at part (Under_way note) = false
 
--- the share of a part of the table: the families of the root keys that stand and are there
+-- the share of a part of the table: the families of the root keys that are there and have one
 abbrev pub share : OpeningValue → Trace → (ℕ → Bool) → ℕ → Option FamilyValue
 share o t here root = if stands o t root && here root then Some (family_of o t root) else None
 
@@ -58,7 +58,8 @@ work_of o notes item =
       hi = (extent_of o item.seg item.node).hi;
     }
 
--- a link has the notes and the open nodes that the history says, and holds the chunks that were cut and aren't loaded
+-- a link has the notes and the open nodes that the history determines, and holds the chunks that
+-- were cut and aren't loaded yet
 abbrev pub LinkHolds : OpeningValue → Trace → WholeLink → Type 0
 LinkHolds o t link_now =
     record {
@@ -81,8 +82,8 @@ PlansHold o w =
       config : w.config ≡ o.config;
     }
 
--- the leader leads the partitions of the opening and moves what moves; its phase is the history's, and so are its stage and who
--- prepared and who reported
+-- the leader leads the partitions of the opening and moves what moves; its phase is the history's,
+-- and so are its stage and the partitions that have prepared and reported
 abbrev pub LeaderHolds : OpeningValue → Trace → WorldValue → Type 0
 LeaderHolds o t w =
     record {
@@ -98,7 +99,7 @@ LeaderHolds o t w =
 abbrev pub is_leaf_begun : Trace → ℕ → ℕ → Bool
 is_leaf_begun t seg leaf = list_any (λ item. (item.seg == seg) && is_above item.node leaf) (items t)
 
--- a chunk of the segment was loaded that covers the root key
+-- a loaded chunk of the segment covers the root key
 abbrev pub is_key_loaded : Trace → ℕ → ℕ → Bool
 is_key_loaded t seg root = list_any (λ note. (note.seg == seg) && covers note root) (loads t)
 
@@ -106,11 +107,12 @@ is_key_loaded t seg root = list_any (λ note. (note.seg == seg) && covers note r
 abbrev pub leaves_from : OpeningValue → ℕ → ℕ → Type 0
 leaves_from o part seg = (range : Range) × (slice_get o.recon.segments seg ≡ Some range) × (range.src ≡ part)
 
--- the segment comes to the partition
+-- the segment moves to the partition
 abbrev pub comes_into : OpeningValue → ℕ → ℕ → Type 0
 comes_into o part seg = (range : Range) × (slice_get o.recon.segments seg ≡ Some range) × (range.dst ≡ part)
 
--- a partition knows who it is, what moves and whether the move was started, and has a place for each partition and each segment
+-- a partition knows its number, what moves and whether the move has started, and has a place for
+-- each partition and each segment
 abbrev pub IsSetFor : OpeningValue → Trace → ℕ → CoreValue → Type 0
 IsSetFor o t part core =
     record {
@@ -126,7 +128,8 @@ IsSetFor o t part core =
       loaded : length core.loaded ≡ length o.recon.segments;
     }
 
--- a partition gave up the leaves that begun nodes cover, and loaded the root keys that the loaded chunks cover
+-- a partition gave up the leaves that begun nodes cover, and loaded the root keys that the loaded
+-- chunks cover
 abbrev pub MovesHold : OpeningValue → Trace → ℕ → CoreValue → Type 0
 MovesHold o t part core =
     record {
@@ -136,7 +139,8 @@ MovesHold o t part core =
       whole : (seg node : ℕ) → comes_into o part seg → is_whole (loaded_at core seg) node ≡ has_last seg node (loads t);
     }
 
--- a partition has its share of the table, those wait at it that the history says, and it gave up and loaded what the history says
+-- a partition has its share of the table, its waiting transactions are those of the history, and it
+-- gave up and loaded what the history determines
 abbrev pub CoreHolds : OpeningValue → Trace → ℕ → CoreValue → Type 0
 CoreHolds o t part core =
     record {
@@ -146,7 +150,7 @@ CoreHolds o t part core =
       moves : MovesHold o t part core;
     }
 
--- there is each partition, and what the history says of it holds
+-- each partition exists and holds what the history determines
 abbrev pub PartitionsHold : OpeningValue → Trace → WorldValue → Type 0
 PartitionsHold o t w =
     record {
@@ -154,7 +158,7 @@ PartitionsHold o t w =
       each : (part : ℕ) → part < o.old.parts → CoreHolds o t part (core_at w part);
     }
 
--- each node has the status that the history says
+-- each node has the status that the history determines
 abbrev pub SegmentsHold : OpeningValue → Trace → WorldValue → Type 0
 SegmentsHold o t w =
     record {
@@ -162,7 +166,7 @@ SegmentsHold o t w =
       statuses : (seg node : ℕ) → seg < length o.recon.segments → status_in w seg node ≡ status_of t seg node;
     }
 
--- there is one link from a partition to another where a range moves, and no other
+-- there is one link from a partition to another if a range moves there, and no other
 abbrev pub LinksHold : OpeningValue → Trace → WorldValue → Type 0
 LinksHold o t w =
     record {

@@ -34,7 +34,7 @@ prepare_result w part =
     else (Done, record w { leader = after_prepare w.leader part })
     )
 
--- a partition that heard of the start of the move
+-- a partition that has started the move
 abbrev pub started_core : CoreValue → CoreValue
 started_core core = record core { started = true }
 
@@ -48,7 +48,7 @@ start_result w =
 abbrev pub is_segment_into : WorldValue → ℕ → ℕ → Bool
 is_segment_into w part seg = goes_into (running_range w seg) part
 
--- the segment of this number is complete by its tree
+-- the segment with this number is complete, according to its tree
 abbrev pub is_complete_by_tree : WorldValue → ℕ → Bool
 is_complete_by_tree w seg = is_complete_reading (reading (status_in w seg) 1)
 
@@ -93,7 +93,7 @@ finish_result w =
     else refuse w NotFinished
     )
 
--- the logs of a partition are folded once the reconfiguration has ended
+-- the logs of a partition are folded after the reconfiguration has ended
 abbrev pub fold_result : WorldValue → ℕ → StepResult
 fold_result w part =
     if_partition w part (

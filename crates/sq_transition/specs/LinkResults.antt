@@ -13,7 +13,7 @@ use Rattle.sq_model.specs.declared.answer.Refusal.TheVariants.{NoSuchLink, Nothi
 use Rattle.sq_transition.specs.WorldValue.{WorldValue, core_at, with_core, link_index, queue_at, with_queue, running_stage}
 use Rattle.sq_transition.specs.LeaderResults.{StepResult, refuse, if_moving}
 
--- where there is such a link, which the running stage has
+-- the result, if there is such a link and the running stage has it
 abbrev pub result_at_link : WorldValue → (ℕ → StepResult) → Option ℕ → StepResult
 result_at_link w result None = refuse w NoSuchLink
 result_at_link w result (Some i) = result i
@@ -25,7 +25,8 @@ if_link w src dst result =
     else result_at_link w result (link_index w src dst)
     )
 
--- a chunk of the work at this place, cut for another partition: its note, and the partition that it leaves
+-- a chunk of the work at this place, cut for another partition: its note, and the partition that it
+-- leaves
 abbrev pub cut_core : CoreValue → ℕ → ℕ → Note × CoreValue
 cut_core core dst at =
     let cut = cut_here core.limit (link_to core dst) (out_at core dst) core.store at in

@@ -1,4 +1,5 @@
--- The words of this crate that contracts of other crates cite, passed on from one place. Declares nothing.
+-- The words of this crate that contracts of other crates cite, passed on from one place. Declares
+-- nothing.
 pub use Rattle.sq_transition.specs.WorldValue.{QueueValue, WorldValue, link_index, running_stage, running_range, source_of, destination_of, link_of, option_list, under_way}
 pub use Rattle.sq_transition.specs.Leading.{phase_of}
 pub use Rattle.sq_transition.specs.LeaderResults.{prepare_result, started_core, start_result, report_result, next_result, finish_result, fold_result}

@@ -1,4 +1,4 @@
--- What a transaction that is submitted, or that waited, does to a world.
+-- What a submitted transaction, or one that waited, does to a world.
 use Rattle.std.specs.Prelude.{ℕ, Bool, false, if◌then◌else◌, [], ◌∷◌, ◌++◌, remove, position, slice_index_or, unwrap_or, Option, Some, None}
 use Rattle.std.specs.Option.{option_map_or}
 use Rattle.sq_schema.specs.TxnValue.{TxnValue}
@@ -27,8 +27,8 @@ use Rattle.sq_transition.specs.LeaderResults.{StepResult, refuse, if_partition}
 abbrev pub is_root_given_up : WorldValue → ℕ → Bool
 is_root_given_up w root = option_map_or (λ at. is_begun (status_in w at.0 (covering (status_in w at.0) at.1))) (leaf_at w.recon root) false
 
--- where a transaction is sent on to: once the source gave its root key up to the destination, which a third partition can't know,
--- and else to where the partition says
+-- where a transaction is forwarded to: the destination once the source gave its root key up, which
+-- a third partition can't know, and otherwise where the partition says
 abbrev pub sent_to : WorldValue → ℕ → ℕ → ℕ
 sent_to w root who = if is_root_given_up w root then owner w.new root else who
 
@@ -49,7 +49,7 @@ submit_refused submit.WaitFull = WaitFull
 submit_refused submit.LogFull = LogFull
 submit_refused submit.Memory = Memory
 
--- a transaction that isn't refused waits behind all others, or is served
+-- a transaction that isn't refused waits after all others, or is served
 abbrev pub taken : WorldValue → ℕ → TxnValue → Option SubmitFault → StepResult
 taken w part txn (Some fault) = refuse w (submit_refused fault)
 taken w part txn None =
@@ -68,7 +68,7 @@ resume_refused resume.Memory = Memory
 abbrev pub no_txn : TxnValue
 no_txn = record { id = 0; root = 0; ops = [] }
 
--- the first waiting transaction that is ready, which is at this place, runs and waits no more
+-- the first waiting transaction that is ready, which is at this place, runs and no longer waits
 abbrev pub resumed_at : WorldValue → ℕ → Option ℕ → StepResult
 resumed_at w part None = refuse w (resume_refused (unwrap_or (resume_refusal (core_at w part)) resume.NoneReady))
 resumed_at w part (Some place) =

@@ -37,6 +37,6 @@ abbrev pub IsResult : Step → WorldValue → StepResult → Answer → WorldVal
 IsResult step old result answer new =
     ((answer, new) ≡ result) ⊎ ((answer ≡ Refused Memory) × IsTrue (takes_memory step result.0) × (new ≡ old))
 
--- the step is answered with this, and leaves this world
+-- the step has this answer and leaves this world
 abbrev pub IsTransition : WorldValue → Step → Answer → WorldValue → Type 0
 IsTransition old step answer new = IsResult step old (step_result old step) answer new

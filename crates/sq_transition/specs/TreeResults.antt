@@ -26,7 +26,7 @@ if_node w node result = if not (is_node node) then refuse w NoSuchNode else resu
 abbrev pub with_node : WorldValue → ℕ → ℕ → Status → WorldValue
 with_node w seg node new = with_tree w seg (with_status (tree_at w seg) node new)
 
--- where the step was done the world changes, else it stays
+-- if the step was done the world changes, otherwise it stays
 abbrev pub if_done : Answer → WorldValue → WorldValue → StepResult
 if_done Done old new = (Done, new)
 if_done answer old new = (answer, old)
@@ -43,7 +43,7 @@ claim_result w seg node pull =
     if_done (claim_answered (claim_answer (status_in w seg) node pull)) w (with_node w seg node (status.Claimed pull))
     )))
 
--- the world in which a node was begun: its source has all of it to cut
+-- the world in which a node was begun: all of it is to be cut at its source
 abbrev pub with_begun : WorldValue → ℕ → ℕ → ℕ → WorldValue
 with_begun w seg node pull =
     let src = source_of w seg in

@@ -1,4 +1,4 @@
--- The state of a world, without where it lies in memory.
+-- The state of a world, apart from where it is stored.
 use Rattle.std.specs.Prelude.{ℕ, false, ◌==◌, ◌&&◌, List, [], slice_get, slice_set, slice_index_or, position, Option, Some, None, ◌∷◌, ◌++◌}
 use Rattle.std.specs.Option.{option_map_or}
 use Rattle.std.specs.FinMap.{empty}
@@ -15,14 +15,14 @@ use Rattle.sq_exec.specs.OutLink.{OutLinkValue}
 use Rattle.sq_exec.specs.CoreValue.{CoreValue, out_at, inbox_at}
 use Rattle.sq_transition.specs.Leading.{stage_of}
 
--- the queue of a link: the chunks that went onto it and didn't come off, the oldest first
+-- the queue of a link: the chunks that were pushed and haven't been popped, the oldest first
 pub record QueueValue : Type 0 where
   pub src : ℕ
   pub dst : ℕ
   pub chunks : List ChunkValue
 
--- a world: the plans, what moves between them and the sizes; the leader; the partitions; for each segment the statuses
--- of its nodes from node 1 on; and the queues between the partitions
+-- a world: the plans, what moves between them and the sizes; the leader; the partitions; for each
+-- segment the statuses of its nodes from node 1 on; and the queues between the partitions
 pub record WorldValue : Type 0 where
   pub tables : ℕ
   pub old : PlanValue
@@ -86,7 +86,7 @@ with_queue w i chunks = record w { queues = slice_set w.queues i (record (queue_
 abbrev pub range_of : WorldValue → ℕ → Option Range
 range_of w seg = slice_get w.recon.segments seg
 
--- the stage that runs
+-- the running stage
 abbrev pub running_stage : WorldValue → ℕ
 running_stage w = stage_of w.leader
 
@@ -101,7 +101,8 @@ source_of w seg = option_map_or (λ range. range.src) (range_of w seg) 0
 abbrev pub destination_of : WorldValue → ℕ → ℕ
 destination_of w seg = option_map_or (λ range. range.dst) (range_of w seg) 0
 
--- a link as a whole: the source's end of it, the queue, and the chunk that came and isn't loaded
+-- a link as a whole: the source's end of it, the queue, and the chunk that was popped and isn't
+-- loaded yet
 pub record WholeLink : Type 0 where
   pub src : ℕ
   pub dst : ℕ
@@ -124,11 +125,11 @@ link_of w queue =
 abbrev pub link_value : WorldValue → ℕ → WholeLink
 link_value w i = link_of w (queue_at w i)
 
--- a chunk as a list, which is empty where there is none
+-- a chunk as a list, which is empty without a chunk
 abbrev pub option_list : Option ChunkValue → List ChunkValue
 option_list None = []
 option_list (Some chunk) = chunk ∷ []
 
--- the chunks of a link that were cut and not loaded, the oldest first
+-- the chunks of a link that were cut and aren't loaded yet, the oldest first
 abbrev pub under_way : WholeLink → List ChunkValue
 under_way link = option_list link.inbox ++ (link.queue ++ option_list link.out.outbox)

@@ -1,4 +1,4 @@
-// What holds of each step.
+// Laws of each step.
 ghost use Rattle.std.specs.Prelude.{◌≡◌, ℕ};
 ghost use Rattle.std.specs.FinMap.{get};
 ghost use Rattle.sq_ranges.specs.Prelude.{OpeningValue};
@@ -8,15 +8,16 @@ ghost use Rattle.sq_model.specs.Trace.{Trace};
 ghost use Rattle.sq_transition.specs.EachStep.{EachStepKeepsHeadline};
 ghost use Rattle.sq_transition.specs.Holds.{ChunkHolds, CoreHolds};
 
-/// Each step leads from a world of its history to one of the longer history: where the steps so far were answered
-/// legally and the world is the one that they lead to, the next step is answered legally too, all moves stay orderly,
-/// and the world after it is again the one that the steps lead to.
+/// Each step leads from a world of its history to one of the longer history: if the answers so far
+/// were legal and the world is the one that the steps lead to, then the next answer is legal too,
+/// all moves stay orderly, and the world after it is again the one that the steps lead to.
 pub fn each_step_keeps_the_headline()
     ensures { EachStepKeepsHeadline }
 {}
 
-/// What one history says of a chunk and of a partition is all that they hold: two chunks of it that have one note are
-/// one chunk, and two partitions of it of one number have the same families and the same transactions that wait.
+/// A history determines all that a chunk and a partition hold: two of its chunks with the same note
+/// are one chunk, and two of its partitions with the same number have the same families and the
+/// same waiting transactions.
 pub fn a_history_tells_what_each_holds()
     ensures chunks { (o : OpeningValue) (t : Trace) (one other : ChunkValue) → ChunkHolds o t one
         → ChunkHolds o t other

@@ -1,4 +1,4 @@
--- What each step of a tree answers: the first refusal that there is cause for, or done.
+-- The answer to each step of a tree: the first refusal that applies, or done.
 use Rattle.std.specs.Prelude.{ℕ, not, ◌==◌, if◌then◌else◌, Result, Ok, Err}
 use Rattle.sq_tree.specs.declared.status.Status.{Status}
 use Rattle.sq_tree.specs.declared.fault.SplitFault.{SplitFault}

@@ -1,4 +1,5 @@
--- The nodes of a segment's split tree: 1 to 63, where 2n and 2n + 1 are the halves of n, and the nodes 32 to 63 are the leaves 0 to 31.
+-- The nodes of a segment's split tree: 1 to 63, where 2n and 2n + 1 are the halves of n, and the
+-- nodes 32 to 63 are the leaves 0 to 31.
 use Rattle.std.specs.Prelude.{ℕ, Bool, ◌+◌, ◌-◌, ◌*◌, ◌/◌, ◌^◌, nat_lt, nat_le, ◌&&◌, if◌then◌else◌}
 use Rattle.sq_tree.specs.declared.node.TheConstants.{NODES, LEAVES}
 

@@ -1,4 +1,5 @@
--- The words of this crate that contracts of other crates cite, passed on from one place. Declares nothing.
+-- The words of this crate that contracts of other crates cite, passed on from one place. Declares
+-- nothing.
 pub use Rattle.sq_tree.specs.Answer.{split_answer, claim_answer, begin_answer, complete_answer}
 pub use Rattle.sq_tree.specs.Node.{is_node, is_leaf, parent, span, is_above, is_under}
 pub use Rattle.sq_tree.specs.Reading.{is_complete_reading}

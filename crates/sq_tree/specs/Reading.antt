@@ -1,4 +1,4 @@
--- What a node reads as.
+-- The reading of a node.
 use Rattle.std.specs.Prelude.{Bool, true, false}
 use Rattle.sq_tree.specs.declared.status.Reading.{Reading}
 use Rattle.sq_tree.specs.declared.status.Reading.TheVariants.{Complete}

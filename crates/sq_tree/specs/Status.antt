@@ -1,4 +1,4 @@
--- Statuses, their words, and what a node reads as.
+-- Statuses, their words, and the readings of nodes.
 use Rattle.std.specs.Prelude.{ℕ, zero, suc, Bool, true, false, ◌+◌, ◌*◌, ◌==◌, ◌||◌, if◌then◌else◌}
 use Rattle.sq_tree.specs.declared.status.Status.{Status}
 use Rattle.sq_tree.specs.declared.status.Status.TheVariants.{Free, Split, Claimed, Partial, Complete}
@@ -14,7 +14,7 @@ word_of (Claimed p) = 2 + 8 * p
 word_of (Partial p) = 3 + 8 * p
 word_of (Complete p) = 4 + 8 * p
 
--- the pull that a status names; 0 where it names none
+-- the pull that a status names; 0 if it names none
 abbrev pub pull_of : Status → ℕ
 pull_of Free = 0
 pull_of Split = 0
@@ -30,7 +30,8 @@ before (Claimed p) = Free
 before (Partial p) = Claimed p
 before (Complete p) = Partial p
 
--- the second status is the first or comes after it: free comes before all, and claimed, partial, complete of one pull come in this order
+-- the second status is the first or comes after it: free comes before all, and claimed, partial,
+-- complete of one pull come in this order
 abbrev pub is_past : Status → Status → Bool
 is_past Free _ = true
 is_past Split Split = true
@@ -71,17 +72,17 @@ is_begun (Partial p) = true
 is_begun (Complete p) = true
 is_begun _ = false
 
--- a node is live that is the whole segment, or a half of a split node
+-- a node is live if it is the whole segment or a half of a split node
 abbrev pub is_live : (ℕ → Status) → ℕ → Bool
 is_live status n = (n == 1) || is_split (status (parent n))
 
--- what two halves read as together
+-- the common reading of two halves
 abbrev pub both : Reading → Reading → Reading
 both reads.Complete reads.Complete = reads.Complete
 both reads.NotStarted reads.NotStarted = reads.NotStarted
 both _ _ = reads.Partial
 
--- what a live node with this status reads as, where `below` has what its halves read as
+-- the reading of a live node with this status; `below` has the readings of its halves
 abbrev pub reading_of : (ℕ → Reading) → ℕ → Status → Reading
 reading_of below n Free = reads.NotStarted
 reading_of below n (Claimed p) = reads.NotStarted
@@ -89,7 +90,7 @@ reading_of below n (Partial p) = reads.Partial
 reading_of below n (Complete p) = reads.Complete
 reading_of below n Split = both (below (2 * n)) (below (2 * n + 1))
 
--- what a live node reads as whose leaves are at most `depth` halvings below it
+-- the reading of a live node whose leaves are at most `depth` halvings below it
 abbrev pub reading_within : ℕ → (ℕ → Status) → ℕ → Reading
 reading_within zero status n = reading_of (λ _. reads.Partial) n (status n)
 reading_within (suc depth) status n = reading_of (reading_within depth status) n (status n)
@@ -99,11 +100,11 @@ abbrev pub live_within : ℕ → (ℕ → Status) → ℕ → ℕ
 live_within zero status n = n
 live_within (suc steps) status n = if is_live status n then n else live_within steps status (parent n)
 
--- what a node reads as. One that isn't live reads as the nearest live node above it
+-- the reading of a node; a node that isn't live has that of the nearest live node above it
 abbrev pub reading : (ℕ → Status) → ℕ → Reading
 reading status n = reading_within 5 status (live_within 5 status n)
 
--- the live node above a leaf that isn't split, looked for from n downward in at most `steps` steps
+-- the live node above a leaf that isn't split, found from n downward in at most `steps` steps
 abbrev pub covering_within : ℕ → (ℕ → Status) → ℕ → ℕ → ℕ
 covering_within zero status leaf n = n
 covering_within (suc steps) status leaf n =

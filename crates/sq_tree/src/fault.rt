@@ -1,5 +1,5 @@
-// Why a step of a tree was refused, in the order in which the causes are looked at. Their numbers are those of the steps'
-// refusals.
+// Why a step of a tree was refused, in the order in which the causes are tested. The numbers are
+// those of the steps' refusals.
 ghost use Rattle.std.specs.Prelude.{◌≡◌};
 ghost use Rattle.sq_tree.specs.Fault.{split_fault_number, claim_fault_number, begin_fault_number, complete_fault_number};
 
@@ -8,16 +8,16 @@ use crate::status::Status;
 /// Why a node wasn't split.
 #[derive(Clone, Copy, Debug, PartialEq, Eq)]
 pub enum SplitFault {
-    /// A leaf has no halves.
+    /// It is a leaf, which has no halves.
     IsLeaf,
     /// Its parent isn't split.
     NotLive,
-    /// It isn't free. This is what was found.
+    /// It isn't free, but has this status.
     NotFree(Status),
 }
 
 impl SplitFault {
-    /// The number that a user sees.
+    /// Returns the number that a user sees.
     pub fn number(self) -> u16
         ensures { result ≡ split_fault_number self }
     {
@@ -34,12 +34,12 @@ impl SplitFault {
 pub enum ClaimFault {
     /// Its parent isn't split.
     NotLive,
-    /// It isn't free. This is what was found.
+    /// It isn't free, but has this status.
     NotFree(Status),
 }
 
 impl ClaimFault {
-    /// The number that a user sees.
+    /// Returns the number that a user sees.
     pub fn number(self) -> u16
         ensures { result ≡ claim_fault_number self }
     {
@@ -60,7 +60,7 @@ pub enum BeginFault {
 }
 
 impl BeginFault {
-    /// The number that a user sees.
+    /// Returns the number that a user sees.
     pub fn number(self) -> u16
         ensures { result ≡ begin_fault_number self }
     {
@@ -81,7 +81,7 @@ pub enum CompleteFault {
 }
 
 impl CompleteFault {
-    /// The number that a user sees.
+    /// Returns the number that a user sees.
     pub fn number(self) -> u16
         ensures { result ≡ complete_fault_number self }
     {

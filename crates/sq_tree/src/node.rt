@@ -4,10 +4,11 @@ ghost use Rattle.sq_tree.specs.Node.{is_node, is_leaf, parent, span, first_leaf,
 
 use std::marker::Model;
 
-/// How many nodes a tree has. They are numbered from 1.
+/// The number of nodes in a tree. They are numbered from 1.
 pub const NODES: usize = 63;
 
-/// How many leaves a tree has. They are numbered from 0, in key order, and leaf `i` is node `LEAVES + i`.
+/// The number of leaves in a tree. They are numbered from 0, in key order; leaf `i` is node
+/// `LEAVES + i`.
 pub const LEAVES: u64 = 32;
 
 /// A node of a segment's split tree, by its number from 1. To a contract it is the number.
@@ -45,10 +46,10 @@ impl Model for Leaf {
 }
 
 impl NodeId {
-    /// The node that is the whole segment.
+    /// The node that covers the whole segment.
     pub const WHOLE: NodeId = NodeId(1);
 
-    /// All nodes, in the order of their numbers.
+    /// Returns all nodes, in the order of their numbers.
     pub fn all() -> [NodeId; NODES]
         ensures { EachIndex result (λ index. slice_index result index ≡ index + 1) }
     {
@@ -59,7 +60,7 @@ impl NodeId {
         nodes
     }
 
-    /// The node of this number; `None` unless it is one of 1 to 63.
+    /// Returns the node with this `number`; `None` unless that is from 1 to 63.
     pub fn new(number: u64) -> Option<NodeId>
         ensures { SomeIff result (IsTrue (is_node number)) number }
     {
@@ -70,7 +71,7 @@ impl NodeId {
         }
     }
 
-    /// Its number, from 1 to 63.
+    /// Returns the number, from 1 to 63.
     pub fn number(self) -> u64
         ensures number { result ≡ self }
         ensures bound { IsTrue (is_node self) }
@@ -78,7 +79,7 @@ impl NodeId {
         u64::from(self.0)
     }
 
-    /// The place of the node in a list of all nodes.
+    /// Returns the place of the node in a list of all nodes.
     pub fn index(self) -> usize
         ensures place { result + 1 ≡ self }
         ensures bound { result < NODES }
@@ -86,14 +87,14 @@ impl NodeId {
         usize::from(self.0) - 1
     }
 
-    /// Whether it has no halves.
+    /// Returns true if the node is a leaf, which has no halves.
     pub fn is_leaf(self) -> bool
         ensures { result ≡ is_leaf self }
     {
         self.number() >= LEAVES
     }
 
-    /// The half with the lower leaves.
+    /// Returns the half with the lower leaves.
     pub fn low_half(self) -> NodeId
         requires { is_leaf self ≡ false }
         ensures half { result ≡ 2 * self }
@@ -102,7 +103,7 @@ impl NodeId {
         NodeId(2 * self.0)
     }
 
-    /// The half with the higher leaves.
+    /// Returns the half with the higher leaves.
     pub fn high_half(self) -> NodeId
         requires { is_leaf self ≡ false }
         ensures half { result ≡ 2 * self + 1 }
@@ -111,7 +112,7 @@ impl NodeId {
         NodeId(2 * self.0 + 1)
     }
 
-    /// The half that covers a leaf, where the node itself covers it.
+    /// Returns the half that covers `leaf`, if the node itself covers it.
     pub fn half_above(self, leaf: Leaf) -> NodeId
         requires { is_leaf self ≡ false }
         ensures half { result ≡ (if is_above (2 * self) leaf then 2 * self else 2 * self + 1) }
@@ -125,7 +126,7 @@ impl NodeId {
         }
     }
 
-    /// The node that it is a half of.
+    /// Returns the node that this one is a half of.
     pub fn parent(self) -> NodeId
         requires { self ≢ 1 }
         ensures parent { result ≡ parent self }
@@ -135,7 +136,7 @@ impl NodeId {
         NodeId(self.0 / 2)
     }
 
-    /// How many leaves it covers.
+    /// Returns the number of leaves that the node covers.
     pub fn span(self) -> u64
         ensures { result ≡ span self }
     {
@@ -149,7 +150,7 @@ impl NodeId {
         }
     }
 
-    /// The first leaf that it covers.
+    /// Returns the first leaf that the node covers.
     pub fn first_leaf(self) -> Leaf
         ensures first { result ≡ first_leaf self }
         ensures within { result + span self ≤ LEAVES }
@@ -157,7 +158,7 @@ impl NodeId {
         Leaf((self.number() * self.span() - LEAVES) as u8)
     }
 
-    /// Whether it covers a leaf.
+    /// Returns true if the node covers `leaf`.
     pub fn is_above(self, leaf: Leaf) -> bool
         ensures { result ≡ is_above self leaf }
     {
@@ -167,7 +168,7 @@ impl NodeId {
 }
 
 impl Leaf {
-    /// The leaf of this number; `None` from [`LEAVES`] on.
+    /// Returns the leaf with this `number`; `None` if that is [`LEAVES`] or more.
     pub fn new(number: u64) -> Option<Leaf>
         ensures { SomeIff result (number < LEAVES) number }
     {
@@ -178,7 +179,7 @@ impl Leaf {
         }
     }
 
-    /// Its number, from 0 to 31.
+    /// Returns the number, from 0 to 31.
     pub fn number(self) -> u64
         ensures number { result ≡ self }
         ensures bound { result < LEAVES }
@@ -186,7 +187,7 @@ impl Leaf {
         u64::from(self.0)
     }
 
-    /// The node that is this leaf.
+    /// Returns the node of this leaf.
     pub fn node(self) -> NodeId
         ensures leaf { result ≡ LEAVES + self }
         ensures node { IsTrue (is_node result) }
@@ -194,7 +195,8 @@ impl Leaf {
         NodeId(LEAVES as u8 + self.0)
     }
 
-    /// The node `levels` levels above the leaf's own. Five levels above it is the whole segment.
+    /// Returns the node `levels` levels above the leaf's own. Five levels above it is the whole
+    /// segment.
     pub fn node_above(self, levels: u32) -> NodeId
         requires { levels ≤ 5 }
         ensures { result ≡ node_above self levels }

@@ -1,4 +1,4 @@
-// A split tree that one thread keeps.
+// A split tree of a single thread.
 ghost use Rattle.std.specs.Prelude.{◌≡◌, ◌↔◌, ℕ, ◌<◌, ◌≤◌, ◌-◌, ◌^◌, ◌*◌, true, false, IsTrue, List, length, is_ok, if◌then◌else◌};
 ghost use Rattle.sq_tree.specs.declared.status.Status.{Status};
 ghost use Rattle.sq_tree.specs.declared.node.TheConstants.{LEAVES};
@@ -12,7 +12,7 @@ use crate::node::{Leaf, NODES, NodeId};
 use crate::status::{Reading, Status};
 use std::marker::Model;
 
-/// The split tree of one segment: the status of each node. It takes no memory.
+/// The split tree of one segment: the status of each node. It takes no memory of its own.
 #[derive(Debug, Drop)]
 pub struct PlainTree {
     statuses: [Status; NODES],
@@ -27,7 +27,7 @@ impl Model for PlainTree {
 }
 
 impl PlainTree {
-    /// The tree in which each node is free.
+    /// Creates a tree with all nodes free.
     pub fn new() -> Self
         ensures free { (n : ℕ) → status_at result n ≡ Status.Free }
         ensures nodes { length result ≡ NODES }
@@ -37,7 +37,7 @@ impl PlainTree {
         }
     }
 
-    /// The status of a node.
+    /// Returns the status of `node`.
     pub fn status(&self, node: NodeId) -> Status
         ensures status { result ≡ status_at self.now node }
         ensures grown { IsGrown (status_at self.now) }
@@ -45,8 +45,8 @@ impl PlainTree {
         self.statuses[node.index()]
     }
 
-    /// Splits a free node, so that its halves are live. Refused are, in this order: a leaf, a node that isn't
-    /// live, and one that isn't free. A refusal changes nothing.
+    /// Splits a free `node`, so that its halves are live. Refused, in this order: a leaf, a node
+    /// that isn't live, and a node that isn't free. A refusal changes nothing.
     pub fn split(&mut self, node: NodeId) -> Result<(), SplitFault>
         ensures answer { result ≡ split_answer (status_at self.old) node }
         ensures after { self.new ≡
@@ -67,8 +67,8 @@ impl PlainTree {
         }
     }
 
-    /// Claims a free node for a pull. Refused are, in this order: a node that isn't live, and one that isn't
-    /// free. A refusal changes nothing.
+    /// Claims a free `node` for `pull`. Refused, in this order: a node that isn't live, and a node
+    /// that isn't free. A refusal changes nothing.
     pub fn claim(&mut self, node: NodeId, pull: u32) -> Result<(), ClaimFault>
         ensures answer { result ≡ claim_answer (status_at self.old) node pull }
         ensures after { self.new ≡ (if is_ok result then with_status self.old node
@@ -86,8 +86,9 @@ impl PlainTree {
         }
     }
 
-    /// Gives a node that this pull claimed up to it: the node is partial. Refused are, in this order: a
-    /// node that isn't claimed, and one that another pull claimed. A refusal changes nothing.
+    /// Gives `node` up to `pull`, which claimed it: the node becomes partial. Refused, in this
+    /// order: a node that isn't claimed, and a node that another pull claimed. A refusal changes
+    /// nothing.
     pub fn begin(&mut self, node: NodeId, pull: u32) -> Result<(), BeginFault>
         ensures answer { result ≡ begin_answer (status_at self.old) node pull }
         ensures after { self.new ≡ (if is_ok result then with_status self.old node
@@ -103,8 +104,8 @@ impl PlainTree {
         }
     }
 
-    /// Completes a node that this pull began. Refused are, in this order: a node that isn't partial, and one
-    /// that another pull began. A refusal changes nothing.
+    /// Completes `node`, which `pull` began. Refused, in this order: a node that isn't partial, and
+    /// a node that another pull began. A refusal changes nothing.
     pub fn complete(&mut self, node: NodeId, pull: u32) -> Result<(), CompleteFault>
         ensures answer { result ≡ complete_answer (status_at self.old) node pull }
         ensures after { self.new ≡ (if is_ok result then with_status self.old node
@@ -120,7 +121,8 @@ impl PlainTree {
         }
     }
 
-    /// What a node reads as. One that isn't live reads as the nearest live node above it.
+    /// Returns the reading of `node`. A node that isn't live has the reading of the nearest live
+    /// node above it.
     pub fn reads(&self, node: NodeId) -> Reading
         ensures reading { result ≡ reading (status_at self.now) node }
         ensures rule { IsReading (status_at self.now) (reading (status_at self.now)) }
@@ -128,7 +130,7 @@ impl PlainTree {
         self.reads_live(self.nearest_live(node))
     }
 
-    /// The live node above a leaf that isn't split.
+    /// Returns the live node above `leaf` that isn't split.
     pub fn covering(&self, leaf: Leaf) -> NodeId
         ensures covering { result ≡ covering (status_at self.now) leaf }
         ensures only { IsCovering (status_at self.now) leaf result }
@@ -142,8 +144,8 @@ impl PlainTree {
         node
     }
 
-    /// Whether each row of the segment is at the destination: node 1 reads [`Reading::Complete`], which is
-    /// so just where each leaf is covered by a complete node.
+    /// Returns true if each row of the segment is at the destination: the reading of node 1 is
+    /// [`Reading::Complete`]. This is so exactly if each leaf is covered by a complete node.
     pub fn all_complete(&self) -> bool
         ensures reading { IsTrue result ↔ (reading (status_at self.now) 1 ≡ Reading.Complete) }
         ensures leaves { IsTrue result
@@ -153,7 +155,7 @@ impl PlainTree {
         self.reads_live(NodeId::WHOLE) == Reading::Complete
     }
 
-    // What a live node reads as, looked for at any depth that reaches the leaves.
+    // Returns the reading of a live node, at any search depth that reaches the leaves.
     fn reads_live(&self, node: NodeId) -> Reading
         ensures reading { (depth : ℕ) → 32 ≤ node * 2 ^ depth
             → result ≡ reading_within depth (status_at self.now) node }
@@ -169,7 +171,7 @@ impl PlainTree {
         }
     }
 
-    // The nearest live node from a node upward.
+    // Returns the nearest live node from `node` upward.
     fn nearest_live(&self, node: NodeId) -> NodeId
         ensures node { IsTrue (is_node result) }
         ensures nearest { result ≡ live_within 5 (status_at self.now) node }
@@ -181,7 +183,7 @@ impl PlainTree {
         }
     }
 
-    // Whether a node is the whole segment, or a half of a split node.
+    // Returns true if `node` is the whole segment or a half of a split node.
     fn is_live(&self, node: NodeId) -> bool
         ensures live { result ≡ is_live (status_at self.now) node }
         ensures node { IsTrue (is_node node) }
@@ -189,7 +191,7 @@ impl PlainTree {
         node == NodeId::WHOLE || self.status(node.parent()).is_split()
     }
 
-    // Gives a live node that isn't split another status.
+    // Sets the status of a live node that isn't split.
     fn set(&mut self, node: NodeId, status: Status)
         requires live { is_free (status_at self.old node) ≡ true
             → IsTrue (is_live (status_at self.old) node) }

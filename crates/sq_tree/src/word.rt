@@ -6,8 +6,8 @@ ghost use Rattle.sq_tree.specs.Status.{word_of, pull_of};
 use crate::status::Status;
 
 impl Status {
-    /// The word of the status: 0 where free, 1 where split, and 2, 3 or 4 more than eight times the pull's
-    /// number where claimed, partial or complete.
+    /// Returns the word of the status: 0 if free, 1 if split, and eight times the pull's number
+    /// plus 2 if claimed, 3 if partial, 4 if complete.
     pub fn word(self) -> u64
         ensures { result ≡ word_of self }
     {
@@ -20,7 +20,7 @@ impl Status {
         }
     }
 
-    /// The status that has this word. No other has it.
+    /// Returns the only status with this `word`.
     pub fn from_word(word: u64) -> Status
         requires { (st : Status) × (pull_of st < 2 ^ 32) × (word ≡ word_of st) }
         ensures word { word ≡ word_of result }

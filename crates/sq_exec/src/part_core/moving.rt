@@ -22,7 +22,7 @@ use sq_tree::NodeId;
 use std::alloc::AllocError;
 
 impl<S: FamilyStore> PartCore<S> {
-    /// Takes room for what the next Begin adds.
+    /// Reserves room for what the next Begin adds.
     pub fn reserve_begin(&mut self) -> Result<(), AllocError>
         ensures same { self.new.core ≡ self.old.core }
         ensures numbering { self.new.numbering ≡ self.old.numbering }
@@ -31,8 +31,8 @@ impl<S: FamilyStore> PartCore<S> {
         reserve_work(&mut self.outs)
     }
 
-    /// A node of a segment was begun, for this pull: its keys are given up, and are the last work of the link to the
-    /// segment's destination.
+    /// Begins `node` of segment `seg` for `pull`: gives up its keys, and adds them as the last work
+    /// of the link to the segment's destination.
     pub fn begun(&mut self, seg: SegId, node: NodeId, pull: u32)
         requires room { self.old.has_room ≡ true }
         requires exists { seg < length self.old.core.recon.segments }
@@ -48,7 +48,7 @@ impl<S: FamilyStore> PartCore<S> {
         self.given_up[at].add(node);
     }
 
-    /// Whether a chunk for a partition can be cut, but for memory.
+    /// Returns true if a chunk for `dst` can be cut, memory permitting.
     pub fn may_cut(&self, dst: PartId) -> bool
         ensures { result ≡ may_cut (out_at self.now.core dst) }
     {
@@ -58,9 +58,11 @@ impl<S: FamilyStore> PartCore<S> {
         }
     }
 
-    /// Cuts a chunk for a partition: the first families of the first node that was begun for a reactive pull, or where
-    /// there is none for an asynchronous one. Refused with [`CutFault::OutboxFull`] where the last one isn't sent, and
-    /// with [`CutFault::NothingToCut`] where no node is begun that isn't cut to its end. A refusal leaves all as it was.
+    /// Cuts a chunk for `dst` and returns its note. The chunk has the first families of the first
+    /// node that was begun for a reactive pull, or, without such a node, of the first that was
+    /// begun for an asynchronous one. Refused with [`CutFault::OutboxFull`] if the last chunk
+    /// hasn't been sent, and with [`CutFault::NothingToCut`] if every node that was begun is cut to
+    /// its end. A refusal changes nothing.
     pub fn cut(&mut self, dst: PartId) -> Result<Note, CutFault>
         ensures ok { IfOk result (λ note. CutsFor self.old.core dst note self.new.core) }
         ensures refusal { IfErr result (λ fault. fault ≡ cut_fault (out_at self.old.core dst)) }
@@ -79,7 +81,7 @@ impl<S: FamilyStore> PartCore<S> {
         self.outs[at].cut(&mut self.store, ends, self.limit)
     }
 
-    /// Takes the chunk for a partition that isn't sent; `None` where there is none.
+    /// Takes the chunk for `dst` that isn't sent yet; `None` if there is none.
     pub fn take_outbox(&mut self, dst: PartId) -> Option<Chunk>
         ensures chunk { result ≡ (out_at self.old.core dst).outbox }
         ensures core { self.new.core ≡ with_out self.old.core dst
@@ -94,7 +96,7 @@ impl<S: FamilyStore> PartCore<S> {
         self.outs[at].take_outbox()
     }
 
-    /// Puts a chunk for a partition back that couldn't be sent.
+    /// Puts back a chunk for `dst` that couldn't be sent.
     pub fn put_outbox(&mut self, dst: PartId, chunk: Chunk)
         requires exists { dst < length self.old.core.outs }
         requires empty { (out_at self.old.core dst).outbox ≡ None }
@@ -106,7 +108,7 @@ impl<S: FamilyStore> PartCore<S> {
         self.outs[usize::from(dst.number())].put_outbox(chunk);
     }
 
-    /// Puts in a chunk that came from a partition. Where that inbox holds one the chunk comes back.
+    /// Puts a chunk from `src` into its inbox. If the inbox is full, `chunk` is returned.
     pub fn put_inbox(&mut self, src: PartId, chunk: Chunk) -> Result<(), Chunk>
         requires { src < length self.old.core.inboxes }
         ensures full { IsErr result ↔ (is_some (inbox_at self.old.core src) ≡ true) }
@@ -124,7 +126,7 @@ impl<S: FamilyStore> PartCore<S> {
         Ok(())
     }
 
-    /// Whether a chunk came from a partition that can be loaded, but for memory.
+    /// Returns true if a chunk from `src` came and can be loaded, memory permitting.
     pub fn may_load(&self, src: PartId) -> bool
         ensures can { result ≡ may_load self.now.core src }
         ensures chunk { IfSome (inbox_at self.now.core src) IsChunk }
@@ -135,8 +137,8 @@ impl<S: FamilyStore> PartCore<S> {
         }
     }
 
-    /// Loads the chunk that came from a partition: all its families, or where there is no memory none. Refused with
-    /// [`LoadFault::InboxEmpty`] where none came. A refusal leaves all as it was.
+    /// Loads the chunk that came from `src`: all its families, or none if memory runs out. Refused
+    /// with [`LoadFault::InboxEmpty`] if no chunk came. A refusal changes nothing.
     pub fn load(&mut self, src: PartId) -> Result<Note, LoadFault>
         requires { (chunk : ChunkValue) → inbox_at self.old.core src ≡ Some chunk
             → IsTrue (can_load self.old.core src chunk) }
@@ -162,7 +164,7 @@ impl<S: FamilyStore> PartCore<S> {
         Ok(note)
     }
 
-    /// Whether the last chunk of a node was loaded.
+    /// Returns true if the last chunk of `node` was loaded.
     pub fn loaded_last(&self, seg: SegId, node: NodeId) -> bool
         ensures { result ≡ is_whole (loaded_at self.now.core seg) node }
     {
@@ -172,13 +174,13 @@ impl<S: FamilyStore> PartCore<S> {
         }
     }
 
-    // Whether a chunk that came from a partition can be loaded.
+    // Returns true if `chunk`, which came from `src`, can be loaded.
     fn can_load(&self, src: PartId, chunk: &Chunk) -> bool
         ensures can { result ≡ can_load self.now.core src chunk.now }
         ensures chunk { IsChunk chunk.now }
     {
         let note = chunk.note();
-        // For the proof alone: a chunk is about a node from 1 to 63.
+        // For the proof alone: the node of a chunk is from 1 to 63.
         let _ = note.node.number();
         let families = chunk.families();
         let at = note.seg.number() as usize;
@@ -196,7 +198,7 @@ impl<S: FamilyStore> PartCore<S> {
             && self.has_none_of(families)
     }
 
-    // Whether the store has a family of none of these root keys.
+    // Returns true if the store has no family with the root key of one of `families`.
     fn has_none_of(&self, families: &[Family]) -> bool
         ensures { result ≡ has_none_of self.now.core.store families.now }
     {
@@ -206,7 +208,7 @@ impl<S: FamilyStore> PartCore<S> {
     }
 }
 
-// Takes room for one more piece of work at each end of a link.
+// Reserves room for one more piece of work at each end of a link.
 fn reserve_work(outs: &mut [OutLink]) -> Result<(), AllocError>
     ensures same { map (λ out. out.link) outs.new ≡ map (λ out. out.link) outs.old }
     ensures ok { OnOk result (list_all (λ out. out.has_room) outs.new ≡ true) }
@@ -217,7 +219,7 @@ fn reserve_work(outs: &mut [OutLink]) -> Result<(), AllocError>
     Ok(())
 }
 
-// Gives the families of the chunk in an inbox to the store. Where there is no memory the chunk stays.
+// Moves the families of the chunk in an inbox to the store. If memory runs out, the chunk stays.
 fn give<S: FamilyStore>(store: &mut S, inbox: &mut Option<Chunk>) -> Result<Note, LoadFault>
     requires { (chunk : ChunkValue) → inbox.old ≡ Some chunk
         → IsTrue (has_none_of (S.contents store.old) chunk.families) }

@@ -1,4 +1,4 @@
-// Opening a partition.
+// Opens a partition.
 ghost use Rattle.std.specs.Prelude.{◌≡◌, true, replicate, length, map, IfOk, IfErr, []};
 ghost use Rattle.std.specs.List.{list_all};
 ghost use Rattle.sq_exec.specs.GivenUp.{none_given_up};
@@ -16,7 +16,7 @@ use sq_store::FamilyStore;
 use sq_waiting::Waiting;
 use std::alloc::{AllocError, Global};
 
-// What a partition has besides its families.
+// The parts of a partition other than its families.
 #[derive(Drop)]
 struct Places {
     plan: Plan,
@@ -28,7 +28,8 @@ struct Places {
 }
 
 impl<S: FamilyStore> PartCore<S> {
-    /// A partition before the move, with these families. Where there is no memory they come back.
+    /// Opens partition `part` before the move, with the families of `store`. If memory runs out,
+    /// `store` is returned.
     pub fn open(alloc: Global, opening: &Opening, part: PartId, store: S) -> Result<PartCore<S>, S>
         ensures ok { IfOk result (λ opened. opened.core
             ≡ opened_core opening.now part (S.contents store)) }
@@ -39,8 +40,8 @@ impl<S: FamilyStore> PartCore<S> {
         PartCore::open_at(alloc, opening, part, store, 0)
     }
 
-    /// A partition before the move, with these families, at which the first transaction that waits gets this arrival
-    /// number. Where there is no memory the families come back.
+    /// Opens partition `part` before the move, with the families of `store`; the first transaction
+    /// that waits gets the arrival number `next`. If memory runs out, `store` is returned.
     pub fn open_at(
         alloc: Global,
         opening: &Opening,
@@ -73,8 +74,9 @@ impl<S: FamilyStore> PartCore<S> {
         })
     }
 
-    /// A partition in a stage of the move, at which nothing was begun and nothing was loaded, with these families. Its
-    /// move hasn't started. Where there is no memory the families come back.
+    /// Opens partition `part` in `stage` of the move, with the families of `store`, before any node
+    /// was begun and any chunk loaded. Its move hasn't started. If memory runs out, `store` is
+    /// returned.
     pub fn open_in_stage(
         alloc: Global,
         opening: &Opening,
@@ -95,7 +97,7 @@ impl<S: FamilyStore> PartCore<S> {
 }
 
 impl Places {
-    // The places of a partition, with nothing in them.
+    // Creates the other parts, all empty.
     fn new(alloc: Global, opening: &Opening) -> Result<Places, AllocError>
         ensures plan { IfOk result (λ places. places.plan ≡ opening.now.old) }
         ensures recon { IfOk result (λ places. places.recon ≡ opening.now.recon) }
@@ -123,7 +125,7 @@ impl Places {
     }
 }
 
-// The ends of this many links that nothing was begun for.
+// Creates `count` ends of links, before any node was begun.
 fn out_links(alloc: Global, count: usize) -> Result<Vec<OutLink>, AllocError>
     ensures { IfOk result (λ outs. map (λ out. out.link) outs.items
         ≡ replicate count new_out_link) }
@@ -135,7 +137,7 @@ fn out_links(alloc: Global, count: usize) -> Result<Vec<OutLink>, AllocError>
     Ok(outs)
 }
 
-// This many empty inboxes.
+// Creates `count` empty inboxes.
 fn inboxes(alloc: Global, count: usize) -> Result<Vec<Option<Chunk>>, AllocError>
     ensures { IfOk result (λ inboxes. inboxes.items ≡ replicate count None) }
 {
@@ -146,7 +148,7 @@ fn inboxes(alloc: Global, count: usize) -> Result<Vec<Option<Chunk>>, AllocError
     Ok(inboxes)
 }
 
-// For this many segments that no leaf is given up.
+// Creates an empty set of leaves for each of `count` segments.
 fn given_up(alloc: Global, count: usize) -> Result<Vec<GivenUp>, AllocError>
     ensures { IfOk result (λ given_up. given_up.items ≡ replicate count none_given_up) }
 {
@@ -157,7 +159,7 @@ fn given_up(alloc: Global, count: usize) -> Result<Vec<GivenUp>, AllocError>
     Ok(given_up)
 }
 
-// For this many segments that nothing is loaded.
+// Creates an empty list of runs for each of `count` segments.
 fn loaded(alloc: Global, count: usize) -> Result<Vec<Vec<Run>>, AllocError>
     ensures { IfOk result (λ loaded. map (λ runs. runs.items) loaded.items ≡ replicate count []) }
 {

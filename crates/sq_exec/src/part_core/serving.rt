@@ -17,10 +17,11 @@ use sq_schema::{ApplyFault, MAX_LOG, Root, Txn};
 use sq_store::FamilyStore;
 
 impl<S: FamilyStore> PartCore<S> {
-    /// Submits a transaction. It waits where one on its root key waits already, and where its rows come here and aren't
-    /// loaded: refused with [`SubmitFault::WaitFull`] where [`MAX_WAITING`] wait. Else it runs if its root key is here,
-    /// and is sent on if not: refused with [`SubmitFault::LogFull`] where the log of its root key is full. A refusal
-    /// leaves all as it was.
+    /// Submits `txn`. It waits if a transaction on its root key waits already, or if its rows are
+    /// coming here and aren't loaded yet: refused with [`SubmitFault::WaitFull`] if [`MAX_WAITING`]
+    /// wait. Otherwise it runs if its root key is here, refused with [`SubmitFault::LogFull`] if
+    /// the log of the key is full; if the key isn't here, `txn` is forwarded. A refusal changes
+    /// nothing.
     pub fn submit(&mut self, txn: &Txn) -> Result<Outcome, SubmitFault>
         ensures refused { MatchResult result
             (λ _. submit_refusal self.old.core txn.now ≡ None)
@@ -48,9 +49,10 @@ impl<S: FamilyStore> PartCore<S> {
         }
     }
 
-    /// Takes up the first waiting transaction whose rows aren't on their way here and, where it runs here, the log of
-    /// whose root key isn't full. Refused with [`ResumeFault::NoneReady`] where the rows of all are on their way, and
-    /// with [`ResumeFault::LogFull`] where the logs of all others are full. A refusal leaves all as it was.
+    /// Resumes the first waiting transaction whose rows aren't still to come here and, if it runs
+    /// here, whose root key has a log that isn't full. Refused with [`ResumeFault::NoneReady`] if
+    /// the rows of all are still to come, and with [`ResumeFault::LogFull`] if the logs of all
+    /// others are full. A refusal changes nothing.
     pub fn resume(&mut self) -> Result<Resumed, ResumeFault>
         ensures refused { MatchResult result
             (λ _. resume_refusal self.old.core ≡ None)
@@ -71,8 +73,8 @@ impl<S: FamilyStore> PartCore<S> {
         Ok(Resumed { txn, outcome })
     }
 
-    /// The least arrival number of the transactions that wait for a root key. These numbers rise in the order in which
-    /// the transactions came.
+    /// Returns the least arrival number of the transactions that wait for `root`; `None` if none
+    /// waits. Arrival numbers rise in the order of arrival.
     pub fn arrival(&self, root: Root) -> Option<u64>
         ensures number { result ≡ arrival_number self.now root }
         ensures rises { IsStrictlyIncreasing self.now.numbering.numbers }
@@ -81,7 +83,8 @@ impl<S: FamilyStore> PartCore<S> {
         self.waiting.arrival(root)
     }
 
-    /// How many transactions on a root key committed here, and where it came from.
+    /// Returns the length of the log of `root`: how many transactions on it committed, here and
+    /// where it came from, since the log was last folded. 0 if `root` has no family here.
     pub fn position(&self, root: Root) -> usize
         ensures { result ≡ log_length self.now.core.store root }
     {
@@ -91,7 +94,7 @@ impl<S: FamilyStore> PartCore<S> {
         }
     }
 
-    // Where a root key is, if it moves.
+    // Returns the location of `root`, if it moves.
     fn location(&self, root: Root) -> Option<Location>
         ensures { result ≡ location self.now.core root }
     {
@@ -109,7 +112,7 @@ impl<S: FamilyStore> PartCore<S> {
         })
     }
 
-    // Whether a root key comes here and isn't loaded.
+    // Returns true if a root key at `found` is coming here and isn't loaded yet.
     fn is_coming(&self, found: &Option<Location>) -> bool
         ensures { result ≡ is_coming_from self.now.core found.now }
     {
@@ -119,7 +122,7 @@ impl<S: FamilyStore> PartCore<S> {
         }
     }
 
-    // The partition that transactions on a root key go to, as far as this one can know.
+    // Returns the partition that transactions on `root` go to, as far as this partition can know.
     fn route(&self, root: Root, found: &Option<Location>) -> PartId
         ensures { result ≡ route_from self.now.core root found.now }
     {
@@ -134,14 +137,14 @@ impl<S: FamilyStore> PartCore<S> {
         if has_left || has_come { at.dst } else { at.src }
     }
 
-    // Whether a transaction on a root key waits.
+    // Returns true if a transaction on `root` waits.
     fn waits_for(&self, root: Root) -> bool
         ensures { result ≡ waits_for self.now.core root }
     {
         self.waiting.waits_for(root)
     }
 
-    // Lets a transaction wait, behind all that do.
+    // Lets `txn` wait after all others.
     fn wait(&mut self, txn: &Txn, found: &Option<Location>) -> Result<Outcome, SubmitFault>
         requires waits { must_wait self.old.core txn.now.root ≡ true }
         requires located { found.now ≡ location self.old.core txn.now.root }
@@ -170,7 +173,7 @@ impl<S: FamilyStore> PartCore<S> {
         Ok(Outcome::Waits(at.seg, at.leaf))
     }
 
-    // Where a waiting transaction goes; or why it can't go.
+    // Returns where a waiting transaction goes, or why it has to stay.
     fn destination(&self, txn: &Txn) -> Result<PartId, ResumeFault>
         ensures ready { IfOk result (λ _. is_ready_here self.now.core txn.now ≡ true) }
         ensures goes { IfOk result (λ who. who ≡ route self.now.core txn.now.root) }
@@ -190,7 +193,8 @@ impl<S: FamilyStore> PartCore<S> {
         Ok(who)
     }
 
-    // The arrival number of the first waiting transaction that can go, and where it goes; or why none can.
+    // Returns the arrival number of the first waiting transaction that can go, and where it goes;
+    // or why all have to stay.
     fn first_ready(&self) -> Result<(u64, PartId), ResumeFault>
         ensures ok { IfOk result (λ ready. IsFirstReady self.now ready.0) }
         ensures goes { IfOk result (λ ready. option_map (λ txn. route self.now.core txn.root)
@@ -210,7 +214,7 @@ impl<S: FamilyStore> PartCore<S> {
     }
 }
 
-// The graver of two reasons not to resume: a full log outweighs absent rows.
+// Returns the graver of two reasons not to resume: a full log outweighs absent rows.
 fn graver(fault: ResumeFault, other: ResumeFault) -> ResumeFault
     ensures { result ≡ graver fault other }
 {
@@ -220,7 +224,8 @@ fn graver(fault: ResumeFault, other: ResumeFault) -> ResumeFault
     }
 }
 
-// Serves a transaction that belongs to one partition at another: it runs where these are one, and else it is sent on.
+// Serves at `here` a transaction that belongs to `who`: runs it if these are the same, and forwards
+// it if not.
 fn serve<S: FamilyStore>(
     store: &mut S,
     here: PartId,

@@ -12,7 +12,7 @@ use crate::rule::{Advance, Look};
 use sq_tree::{BeginFault, ClaimFault, CompleteFault, NodeId, SplitFault, Status};
 
 impl StatusTree {
-    /// The status of a node.
+    /// Returns the status of `node`.
     pub fn look(&self, seat: &mut TreeSeat, node: NodeId) -> Status
         requires tree { seat.old.tree ≡ self.now }
         ensures seat { IsSameSeat seat.old seat.new }
@@ -22,7 +22,8 @@ impl StatusTree {
         Status::from_word(word)
     }
 
-    // Brings a node from one status to the next, or answers with the status that it found there.
+    // Brings `node` from status `old` to the next one, `new`, or returns the status that it found
+    // there.
     pub(super) fn advance(
         &self,
         seat: &mut TreeSeat,
@@ -47,7 +48,7 @@ impl StatusTree {
         Ok(())
     }
 
-    // Whether a node is live: node 1 is, and any other whose parent is found split.
+    // Returns true if `node` is live: it is node 1, or its parent is found split.
     fn finds_live(&self, seat: &mut TreeSeat, node: NodeId) -> bool
         requires tree { seat.old.tree ≡ self.now }
         ensures seat { IsSameSeat seat.old seat.new }
@@ -58,10 +59,10 @@ impl StatusTree {
         node == NodeId::WHOLE || self.look(seat, node.parent()).is_split()
     }
 
-    /// Splits a free node. This takes at most two steps: a look at the parent, and one exchange.
+    /// Splits a free node, in at most two steps: a look at the parent, and one exchange.
     ///
-    /// It is refused, in this order, at a leaf, where the parent isn't split, and where the node isn't free.
-    /// At a leaf nothing was looked at.
+    /// It fails, in this order, if the node is a leaf, if the parent isn't split, and if the node
+    /// isn't free. At a leaf it looks at nothing.
     pub fn split(&self, seat: &mut TreeSeat, node: NodeId) -> Result<(), SplitFault>
         requires tree { seat.old.tree ≡ self.now }
         ensures seat { IsSameSeat seat.old seat.new }
@@ -80,9 +81,9 @@ impl StatusTree {
             .map_err(SplitFault::NotFree)
     }
 
-    /// Claims a free node for a pull. This takes at most two steps: a look at the parent, and one exchange.
+    /// Claims a free node for `pull`, in at most two steps: a look at the parent, and one exchange.
     ///
-    /// It is refused, in this order, where the parent isn't split, and where the node isn't free.
+    /// It fails, in this order, if the parent isn't split, and if the node isn't free.
     pub fn claim(&self, seat: &mut TreeSeat, node: NodeId, pull: u32) -> Result<(), ClaimFault>
         requires tree { seat.old.tree ≡ self.now }
         ensures seat { IsSameSeat seat.old seat.new }
@@ -98,9 +99,9 @@ impl StatusTree {
             .map_err(ClaimFault::NotFree)
     }
 
-    /// Begins a node that the pull claimed, by one exchange.
+    /// Begins a node that `pull` claimed, by one exchange.
     ///
-    /// It is refused where the node isn't claimed, and where another pull claimed it.
+    /// It fails if the node isn't claimed, or another pull claimed it.
     pub fn begin(&self, seat: &mut TreeSeat, node: NodeId, pull: u32) -> Result<(), BeginFault>
         requires tree { seat.old.tree ≡ self.now }
         ensures seat { IsSameSeat seat.old seat.new }
@@ -116,9 +117,9 @@ impl StatusTree {
         }
     }
 
-    /// Completes a node that the pull began, by one exchange.
+    /// Completes a node that `pull` began, by one exchange.
     ///
-    /// It is refused where the node isn't partial, and where another pull began it.
+    /// It fails if the node isn't partial, or another pull began it.
     pub fn complete(
         &self,
         seat: &mut TreeSeat,

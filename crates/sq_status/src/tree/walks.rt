@@ -1,4 +1,4 @@
-// Claims that go over several nodes.
+// Claims that visit several nodes.
 ghost use Rattle.std.specs.Prelude.{◌≡◌, ◌≢◌, ℕ, ◌+◌, ◌<◌, ◌≤◌, ◌⊎◌, IsTrue, MatchResult};
 ghost use Rattle.sq_tree.specs.declared.status.Status.TheVariants.{Split};
 ghost use Rattle.sq_tree.specs.declared.node.TheConstants.{LEAVES};
@@ -13,17 +13,18 @@ use sq_tree::{Leaf, NodeId, Status};
 /// The outcome of a claim of a leaf.
 #[derive(Clone, Copy, Debug, PartialEq, Eq)]
 pub enum LeafClaim {
-    /// The leaf's node is claimed. This is the node.
+    /// The leaf's node was claimed; this is the node.
     Claimed(NodeId),
-    /// A pull has the leaf already. These are the node and the status that was found: the leaf's own node
-    /// or one above it, claimed or further.
+    /// A pull has the leaf already. This is the node that was found, with its status: the leaf's
+    /// own node or one above it, claimed or further.
     Held(NodeId, Status),
 }
 
 impl StatusTree {
     ghost use Rattle.sq_status.specs.Walks.{is_taken, WalkedLeaf, Searched, ClaimedOnly, claims_of_walk, claims_of_search};
 
-    // Splits an inner node whose parent is split, or finds it split. Another status is an `Err`.
+    // Splits an inner node whose parent is split, or finds it split. Any other status is returned
+    // as an `Err`.
     fn pass(&self, seat: &mut TreeSeat, node: NodeId) -> Result<(), Status>
         requires tree { seat.old.tree ≡ self.now }
         requires inner { node < LEAVES }
@@ -40,8 +41,8 @@ impl StatusTree {
         }
     }
 
-    /// Claims the leaf's node, and splits the nodes above it where they are free. This takes at most six
-    /// steps, from node 1 downward.
+    /// Claims the leaf's node, and splits the free nodes above it, in at most six steps, from node
+    /// 1 downward.
     pub fn claim_leaf(&self, seat: &mut TreeSeat, leaf: Leaf, pull: u32) -> LeafClaim
         requires tree { seat.old.tree ≡ self.now }
         ensures seat { IsSameSeat seat.old seat.new }
@@ -62,8 +63,8 @@ impl StatusTree {
         }
     }
 
-    /// Claims the first node, from node 1 downward and in order of the leaves, that is free to it, or none
-    /// where each leaf has a pull. This takes at most 63 steps.
+    /// Claims and returns the first free node, from node 1 downward and in order of the leaves, or
+    /// `None` if each leaf has a pull. It takes at most 63 steps.
     pub fn claim_any(&self, seat: &mut TreeSeat, pull: u32) -> Option<NodeId>
         requires tree { seat.old.tree ≡ self.now }
         ensures seat { IsSameSeat seat.old seat.new }
@@ -74,7 +75,7 @@ impl StatusTree {
         self.claim_under(seat, NodeId::WHOLE, pull)
     }
 
-    // The same from a live node downward.
+    // Does the same from a live node downward.
     fn claim_under(&self, seat: &mut TreeSeat, node: NodeId, pull: u32) -> Option<NodeId>
         requires tree { seat.old.tree ≡ self.now }
         requires live { 1 < node → KnowsSplit seat.old.view (parent node) }
