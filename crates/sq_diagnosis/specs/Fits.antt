@@ -1,4 +1,4 @@
--- What words are to be.
+-- What a form wants of its words.
 use Rattle.std.specs.Prelude.{ℕ, Bool, true, false, nat_le, bytes_eq, codes, is_some, Option, Some, None}
 use Rattle.sq_text.specs.Words.{Word}
 use Rattle.sq_text.specs.Numbers.{unsigned_in, signed_in}
@@ -7,12 +7,12 @@ use Rattle.sq_text.specs.Verbs.{op_name_in}
 use Rattle.sq_diagnosis.specs.declared.wanted.Wanted.{Wanted}
 use Rattle.sq_diagnosis.specs.declared.wanted.Wanted.TheVariants as wanted
 
--- the word spells a number up to this one
+-- the word spells a number up to `most`
 abbrev pub is_up_to : ℕ → Option ℕ → Bool
 is_up_to most None = false
 is_up_to most (Some number) = nat_le number most
 
--- the word is what it is to be
+-- the word is what is wanted
 abbrev pub fits : Wanted → Word → Bool
 fits wanted.Old word = bytes_eq word (codes "old")
 fits wanted.New word = bytes_eq word (codes "new")

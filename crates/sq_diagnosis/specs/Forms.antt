@@ -1,4 +1,5 @@
--- The forms of lines, word by word, and the first thing by which a line isn't of its form. Words are counted from 1.
+-- The forms of lines, word by word, and the first departure of a line from its form. Words are
+-- counted from 1.
 use Rattle.std.specs.Prelude.{ℕ, ◌+◌, ◌-◌, ◌^◌, min, Bool, nat_eq, if◌then◌else◌, List, [], ◌∷◌, Option, Some, None}
 use Rattle.std.specs.List.{starts_with, ends_with}
 use Rattle.sq_text.specs.Words.{Word, words_of}
@@ -13,7 +14,7 @@ use Rattle.sq_diagnosis.specs.declared.lines.LineFlaw.{LineFlaw}
 use Rattle.sq_diagnosis.specs.declared.lines.LineFlaw.TheVariants.{Mark, CarriageReturn, Empty, Wrong, Missing, Extra}
 use Rattle.sq_diagnosis.specs.Fits.{fits}
 
--- the words behind the name of an operation
+-- the words after the name of an operation
 abbrev pub op_form : OpName → List Wanted
 op_form Get = wanted.Table ∷ wanted.Sub ∷ []
 op_form Put = wanted.Table ∷ wanted.Sub ∷ wanted.Signed ∷ wanted.Note ∷ []
@@ -21,11 +22,11 @@ op_form Add = wanted.Table ∷ wanted.Sub ∷ wanted.Signed ∷ []
 op_form Del = wanted.Table ∷ wanted.Sub ∷ []
 op_form Check = wanted.Table ∷ wanted.Sub ∷ wanted.Signed ∷ []
 
--- the number of the next word; it stays at the last one that there is
+-- the number of the next word; it stays at the largest 64-bit number
 abbrev pub next : ℕ → ℕ
 next at = min (at + 1) (2 ^ 64 - 1)
 
--- a word that doesn't fit, which has this number, is empty or has this flaw
+-- the flaw of a word that doesn't fit: it is empty, or else it has `flaw`
 abbrev pub flaw_at : ℕ → Word → LineFlaw → LineFlaw
 flaw_at at [] flaw = Empty at
 flaw_at at (byte ∷ bytes) flaw = flaw
@@ -35,7 +36,8 @@ abbrev pub unless_named : LineFlaw → (OpName → Option LineFlaw) → Option O
 unless_named flaw goes_on None = Some flaw
 unless_named flaw goes_on (Some name) = goes_on name
 
--- the first word that isn't of this form, or of what may follow it; the first of the words has this number
+-- the first word that departs from this form, or from what may follow it; `at` is the number of the
+-- first word
 abbrev pub misfit : Behind → ℕ → List Wanted → List Word → Option LineFlaw
 misfit behind at [] [] = None
 misfit behind at (wanted ∷ form) [] = Some (Missing at wanted)
@@ -61,19 +63,19 @@ txn_form = wanted.Txn ∷ wanted.Number ∷ wanted.Number ∷ wanted.Number ∷ 
 abbrev pub has_mark : List ℕ → Bool
 has_mark line = starts_with nat_eq line (239 ∷ 187 ∷ 191 ∷ [])
 
--- the first thing by which a line isn't of this form, with this behind it
+-- the first departure of a line from this form; `behind` says what may follow the form
 abbrev pub line_flaw : Behind → List Wanted → List ℕ → Option LineFlaw
 line_flaw behind form line =
     if has_mark line then Some Mark
     else if ends_with nat_eq line (13 ∷ []) then Some CarriageReturn
     else misfit behind 1 form (words_of line)
 
--- the first thing by which words aren't 'old' or 'new' and one more
+-- the first departure of words from 'old' or 'new' and one more word
 abbrev pub plan_misfit : Wanted → List Word → Option LineFlaw
 plan_misfit front [] = Some (Missing 1 front)
 plan_misfit front (word ∷ []) = if fits front word then Some (Missing 2 wanted.Plan) else Some (flaw_at 1 word (Wrong 1 front))
 plan_misfit front (word ∷ plan ∷ words) = if fits front word then None else Some (flaw_at 1 word (Wrong 1 front))
 
--- the first thing by which a line isn't 'old' or 'new', a space, and a plan; the plan isn't looked at
+-- the first departure of a line from 'old' or 'new', a space, and a plan, which isn't looked at
 abbrev pub plan_line_flaw : Wanted → List ℕ → Option LineFlaw
 plan_line_flaw front line = if has_mark line then Some Mark else plan_misfit front (words_of line)

@@ -1,4 +1,4 @@
--- The words that faults are about, by their numbers in the line.
+-- The numbers of the words that faults are about.
 use Rattle.std.specs.Prelude.{ℕ, Option, Some, None}
 use Rattle.sq_schema.specs.declared.fault.TxnFault.{TxnFault}
 use Rattle.sq_schema.specs.declared.fault.TxnFault.TheVariants.{BadOps, BadRoot, BadTable, BadSub, BadNote}
@@ -14,8 +14,8 @@ row_word BadTable = Some 3
 row_word BadSub = Some 4
 row_word BadNote = Some 6
 
--- the word that a fault of an opening is about, in the line of the sizes or in that of the row;
--- of a row that isn't in its place the root key
+-- the word that a fault of an opening is about, in the line of the sizes or the row; for a row that
+-- is out of place it is the root key
 abbrev pub opening_word : OpeningFault → Option ℕ
 opening_word (opening.Recon Width) = Some 2
 opening_word opening.Limit = Some 3

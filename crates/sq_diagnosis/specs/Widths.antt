@@ -1,4 +1,5 @@
--- The widths of a leaf by which there is a move between two plans, and why there is none by another.
+-- The widths of a leaf with which a move between two plans is possible, and why it isn't with
+-- another.
 use Rattle.std.specs.Prelude.{◌≡◌, ◌≢◌, ℕ, ◌≤◌, length, None}
 use Rattle.sq_plan.specs.PlanValue.{PlanValue}
 use Rattle.sq_ranges.specs.ReconValue.{segments_of}
@@ -7,16 +8,16 @@ use Rattle.sq_ranges.specs.Between.{segment_limit, recon_fault}
 use Rattle.sq_diagnosis.specs.declared.widths.SegmentFlaw.{SegmentFlaw}
 use Rattle.sq_diagnosis.specs.declared.widths.SegmentFlaw.TheVariants.{Narrow, Large}
 
--- there is no move between two plans, whatever the width of a leaf is
+-- no move between two plans is possible, whatever the width of a leaf
 abbrev pub HasNoWidth : PlanValue → PlanValue → Type 0
 HasNoWidth old new = (width : ℕ) → recon_fault old new width ≢ None
 
--- there is one with leaves of this width, and with no narrower ones
+-- a move is possible with leaves of this width, and with no narrower ones
 pub record IsLeastWidth (old new : PlanValue) (width : ℕ) : Type 0 where
   pub does : recon_fault old new width ≡ None
   pub least : (other : ℕ) → recon_fault old new other ≡ None → width ≤ other
 
--- how many segments a move with leaves of this width comes to, and how many it may have
+-- how many segments a move with leaves of this width has, and how many it may have
 abbrev pub AreCounted : PlanValue → PlanValue → ℕ → ℕ → ℕ → Type 0
 AreCounted old new width segments limit =
     (segments ≡ length (segments_of width (moves_of old new))) × (limit ≡ segment_limit new.version)

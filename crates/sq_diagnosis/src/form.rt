@@ -26,7 +26,7 @@ pub(crate) const ROW: [Wanted; 6] = [
 /// The words of a transaction's line before its operations.
 pub(crate) const TXN: [Wanted; 4] = [Wanted::Txn, Wanted::Number, Wanted::Number, Wanted::Number];
 
-/// The words behind the name of an operation.
+/// The words after the name of an operation.
 pub(crate) fn op_form(name: OpName) -> &'static [Wanted]
     ensures { result.now ≡ op_form name }
 {

@@ -1,4 +1,4 @@
-//! What doesn't fit in a faulty line of an input. It is looked for once the line was refused.
+//! Finds what is wrong with a faulty line of an input, once the line was refused.
 #![tactic(auto)]
 
 mod form;

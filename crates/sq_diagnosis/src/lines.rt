@@ -7,20 +7,19 @@ use crate::form::{ROW, SIZES, TXN, op_form};
 use crate::wanted::Wanted;
 use sq_text::{OpName, Words};
 
-/// The first thing by which a line isn't of its form. Words are counted from 1.
+/// The first departure of a line from its form. Words are counted from 1.
 #[derive(Clone, Copy, Debug, PartialEq, Eq)]
 pub enum LineFlaw {
     /// It begins with a byte order mark.
     Mark,
     /// It ends with a carriage return.
     CarriageReturn,
-    /// A word is empty: two spaces follow one another, or one is at an end.
+    /// A word is empty: two spaces are adjacent, or a space begins or ends the line.
     Empty { at: usize },
-    /// A word isn't what it is to be.
+    /// A word isn't what the form wants.
     Wrong { at: usize, wanted: Wanted },
-    /// A word is missing.
     Missing { at: usize, wanted: Wanted },
-    /// A word is one too many.
+    /// There is one word too many.
     Extra { at: usize },
 }
 
@@ -35,8 +34,8 @@ enum Behind {
 // The bytes of a byte order mark.
 const MARK: [u8; 3] = [0xef, 0xbb, 0xbf];
 
-/// The first thing by which the line of a plan isn't the word `old` or `new`, whichever is wanted, a space and something
-/// behind it; `None` where it is that.
+/// The first departure of a plan's line from its form: the word `old` or `new`, as `front` wants, a
+/// space, and some text. Returns `None` if it is of that form.
 pub fn plan_line_flaw(front: Wanted, line: &[u8]) -> Option<LineFlaw>
     ensures { result ≡ plan_line_flaw front line.now }
 {
@@ -69,28 +68,28 @@ pub fn plan_line_flaw(front: Wanted, line: &[u8]) -> Option<LineFlaw>
     }
 }
 
-/// The first thing by which the line of the sizes isn't of its form; `None` where it is of it.
+/// The first departure of the sizes' line from its form; `None` if it is of its form.
 pub fn sizes_flaw(line: &[u8]) -> Option<LineFlaw>
     ensures { result ≡ line_flaw Behind.Nothing sizes_form line.now }
 {
     line_flaw(Behind::Nothing, &SIZES, line)
 }
 
-/// The first thing by which the line of a row isn't of its form; `None` where it is of it.
+/// The first departure of a row's line from its form; `None` if it is of its form.
 pub fn row_flaw(line: &[u8]) -> Option<LineFlaw>
     ensures { result ≡ line_flaw Behind.Nothing row_form line.now }
 {
     line_flaw(Behind::Nothing, &ROW, line)
 }
 
-/// The first thing by which the line of a transaction isn't of its form; `None` where it is of it.
+/// The first departure of a transaction's line from its form; `None` if it is of its form.
 pub fn job_flaw(line: &[u8]) -> Option<LineFlaw>
     ensures { result ≡ line_flaw Behind.Operations txn_form line.now }
 {
     line_flaw(Behind::Operations, &TXN, line)
 }
 
-// The first thing by which a line isn't of a form, with this behind it.
+// The first departure of a line from `form`; `behind` says what may follow the form.
 fn line_flaw(behind: Behind, form: &'static [Wanted], line: &[u8]) -> Option<LineFlaw>
     ensures { result ≡ line_flaw behind form.now line.now }
 {
@@ -103,7 +102,7 @@ fn line_flaw(behind: Behind, form: &'static [Wanted], line: &[u8]) -> Option<Lin
     }
 }
 
-// The first word that isn't of a form, or of what may follow it.
+// The first word that departs from a form, or from what may follow it.
 fn misfit(behind: Behind, form: &'static [Wanted], mut words: Words<'_>) -> Option<LineFlaw>
     ensures { result ≡ misfit behind 1 form.now words.entry }
 {
@@ -123,7 +122,7 @@ fn misfit(behind: Behind, form: &'static [Wanted], mut words: Words<'_>) -> Opti
     })
 }
 
-// The form of what follows the first word of a form, or the flaw that this word is.
+// The rest of a form after its first word, or the flaw of `word`, which isn't that word.
 fn form_after(
     behind: Behind,
     form: &'static [Wanted],
@@ -148,7 +147,7 @@ fn form_after(
     }
 }
 
-// The same behind a form.
+// The form of what begins with `word` after a whole form, or the flaw of that word.
 fn form_behind(behind: Behind, at: usize, word: &[u8]) -> Result<&'static [Wanted], LineFlaw>
     ensures { (words : List Word) → let first = misfit behind at [] (word.now ∷ words) in
         MatchResult result (λ others. first ≡ misfit behind (next at) others.now words)
@@ -170,7 +169,7 @@ fn form_behind(behind: Behind, at: usize, word: &[u8]) -> Result<&'static [Wante
     }
 }
 
-// A word that doesn't fit, which has this number, is empty or has this flaw.
+// The flaw of word number `at`, which doesn't fit: it is empty, or else it has `flaw`.
 fn flaw_at(at: usize, word: &[u8], flaw: LineFlaw) -> LineFlaw
     ensures { result ≡ flaw_at at word.now flaw }
 {

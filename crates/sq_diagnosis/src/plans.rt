@@ -1,4 +1,4 @@
-// Why a text is no plan.
+// Why a text isn't a plan.
 ghost use Rattle.std.specs.Prelude.{◌≡◌};
 ghost use Rattle.sq_diagnosis.specs.Ranges.{gap, stranger};
 
@@ -9,7 +9,7 @@ use std::alloc::Global;
 use std::fmt;
 use std::fmt::{Display, Formatter, Write};
 
-/// Where a text isn't what a plan is to be. Ranges are counted from 1, and so are lines and columns.
+/// Where a text departs from the form of a plan. Ranges, lines and columns are counted from 1.
 #[derive(Clone, Copy, Debug, PartialEq, Eq)]
 pub enum PlanFlaw {
     /// It isn't JSON from here on.
@@ -24,9 +24,9 @@ pub enum PlanFlaw {
     },
     /// It isn't an object.
     NotAnObject,
-    /// It has no such field.
+    /// This field is missing.
     Missing(&'static str),
-    /// This field isn't of its kind.
+    /// This field isn't of the kind that it needs.
     NotOfKind {
         field: &'static str,
         kind: &'static str,
@@ -42,13 +42,12 @@ pub enum PlanFlaw {
         lo: u64,
         wanted: u64,
     },
-    /// A range is empty.
     Empty {
         at: usize,
         lo: u64,
         hi: u64,
     },
-    /// The last range, which has this number, doesn't end where the root keys do.
+    /// The last range, whose number is `at`, doesn't end where the root keys do.
     EndsAt {
         at: usize,
         hi: u64,
@@ -104,7 +103,8 @@ impl Display for PlanFlaw {
     }
 }
 
-/// Where a text that has this fault isn't what a plan is to be; `None` where the fault says all, or memory ran out.
+/// Where `text`, which was refused with `fault`, departs from the form of a plan. Returns `None` if
+/// the fault leaves nothing to add, or if memory runs out.
 pub fn plan_flaw(alloc: Global, fault: PlanFault, text: &[u8]) -> Option<PlanFlaw> {
     match Value::from_slice(alloc, text) {
         Ok(plan) => match fault {
@@ -138,7 +138,7 @@ fn shape_flaw(plan: &Value) -> Option<PlanFlaw> {
         .or_else(|| field_flaw(plan, "stages", FieldKind::Text))
 }
 
-/// What the value of a field is to be.
+/// The kind of value that a field needs.
 #[derive(Clone, Copy, Debug, PartialEq, Eq)]
 enum FieldKind {
     Number,
@@ -147,7 +147,7 @@ enum FieldKind {
 }
 
 impl FieldKind {
-    // In words.
+    // The kind in words.
     fn name(self) -> &'static str {
         match self {
             FieldKind::Number => "a whole number below 2^64",
@@ -156,7 +156,7 @@ impl FieldKind {
         }
     }
 
-    // Whether a value is of this kind.
+    // Returns whether a value is of this kind.
     fn admits(self, value: &Value) -> bool {
         match self {
             FieldKind::Number => value.is_u64(),
@@ -166,7 +166,7 @@ impl FieldKind {
     }
 }
 
-// What is wrong with a field whose value is to be of this kind.
+// What is wrong with a field that needs a value of kind `kind`.
 fn field_flaw(plan: &Value, field: &'static str, kind: FieldKind) -> Option<PlanFlaw> {
     match plan.get(field) {
         None => Some(PlanFlaw::Missing(field)),
@@ -187,7 +187,7 @@ fn item_flaw(plan: &Value) -> Option<PlanFlaw> {
     })
 }
 
-// The ranges of a plan, where each of them is one; `None` too where memory ran out.
+// The ranges of a plan; `None` if one of them isn't a range, or if memory runs out.
 fn ranges_of(alloc: Global, plan: &Value) -> Option<Vec<JsonRange>> {
     let mut ranges = Vec::new(alloc);
     for item in plan.get("ranges")?.as_array()?.as_slice() {
@@ -196,7 +196,8 @@ fn ranges_of(alloc: Global, plan: &Value) -> Option<Vec<JsonRange>> {
     Some(ranges)
 }
 
-// The first range that doesn't begin where the one before it ends, or is empty; or else what is wrong with the last one.
+// The first range that doesn't begin where the one before it ends, or is empty; else what is wrong
+// with the last one.
 fn order_flaw(ranges: &[JsonRange]) -> Option<PlanFlaw>
     ensures { result ≡ gap 0 0 ranges.now }
 {

@@ -1,4 +1,4 @@
-// Plans that say something of stages which isn't read.
+// Plans with stages that aren't read.
 ghost use Rattle.std.specs.Prelude.{◌≡◌, IfOk};
 ghost use Rattle.serde_json.specs.View.{view};
 ghost use Rattle.sq_plan.specs.Reading.{json_of};
@@ -7,8 +7,8 @@ ghost use Rattle.sq_diagnosis.specs.Stages.{leaves_stages_unread, has_unread_sta
 use serde_json::Value;
 use std::alloc::{AllocError, Global};
 
-/// Whether a text is of the first version of plans, and says something of stages, which only the second version has. An error
-/// is that memory ran out.
+/// Returns whether `text` is a plan of version 1 that has stages, which only version 2 reads. Fails
+/// if memory runs out.
 pub fn has_unread_stages(alloc: Global, text: &[u8]) -> Result<bool, AllocError>
     ensures { IfOk result (λ unread. unread ≡ has_unread_stages (json_of text.now)) }
 {
@@ -19,7 +19,7 @@ pub fn has_unread_stages(alloc: Global, text: &[u8]) -> Result<bool, AllocError>
     }
 }
 
-// Whether a plan is of the first version and says something of stages.
+// Returns whether a plan is of version 1 and has stages.
 fn leaves_stages_unread(plan: &Value) -> bool
     ensures { result ≡ leaves_stages_unread (view plan.now) }
 {

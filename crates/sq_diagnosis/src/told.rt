@@ -1,26 +1,26 @@
-// Words and flaws as they are said.
+// Words and flaws as messages show them.
 use crate::lines::LineFlaw;
 use sq_text::Words;
 use std::fmt;
 use std::fmt::{Display, Formatter, Write};
 
-// As many bytes of a word are shown, and of a line.
+// How many bytes of a word are shown, and how many of a line.
 const SHOWN: usize = 40;
 
 const SHOWN_OF_LINE: usize = 120;
 
-/// A flaw of a line as it is said, with the word that it is about.
+/// A flaw of a line as messages show it, with the word that it is about.
 #[derive(Clone, Copy, Debug, PartialEq, Eq)]
 pub struct ToldFlaw<'a> {
     pub line: &'a [u8],
     pub flaw: LineFlaw,
 }
 
-/// A line as it is said.
+/// A line as messages show it.
 #[derive(Clone, Copy, Debug, PartialEq, Eq)]
 pub struct ToldLine<'a>(pub &'a [u8]);
 
-/// A word of a line as it is said, by its number, from 1.
+/// A word of a line as messages show it; `at` is its number, from 1.
 #[derive(Clone, Copy, Debug, PartialEq, Eq)]
 pub struct ToldWord<'a> {
     pub line: &'a [u8],
@@ -66,7 +66,8 @@ impl Display for ToldLine<'_> {
     }
 }
 
-// Bytes in quotes, with escapes for what isn't a character of ASCII, and cut off where they are more than so many.
+// Bytes in quotes, cut off after `most` of them, with escapes for bytes that aren't printable
+// ASCII characters.
 #[derive(Clone, Copy)]
 struct Shown<'a> {
     bytes: &'a [u8],
@@ -74,7 +75,7 @@ struct Shown<'a> {
 }
 
 impl<'a> Shown<'a> {
-    // The word of this number, from 1.
+    // Word number `at` of a line, from 1.
     fn of(line: &'a [u8], at: usize) -> Shown<'a> {
         let mut words = Words::of(line);
         let mut word = words.next_long();

@@ -1,4 +1,4 @@
-// What words are to be.
+// What a form wants of its words.
 ghost use Rattle.std.specs.Prelude.{◌≡◌};
 ghost use Rattle.sq_diagnosis.specs.Fits.{fits};
 
@@ -6,7 +6,7 @@ use sq_text::{OpName, is_note, signed, unsigned};
 use std::fmt;
 use std::fmt::{Display, Formatter, Write};
 
-/// What a word of a line is to be.
+/// What a form wants of a word.
 #[derive(Clone, Copy, Debug, PartialEq, Eq)]
 pub enum Wanted {
     Old,
@@ -14,14 +14,14 @@ pub enum Wanted {
     Config,
     Row,
     Txn,
-    /// A plan, or the front of one.
+    /// A plan, or the beginning of one.
     Plan,
     Number,
-    /// A table, a number up to 255.
+    /// A table: a number up to 255.
     Table,
-    /// A sub key, a number up to 4,294,967,295.
+    /// A sub key: a number up to 4,294,967,295.
     Sub,
-    /// A number that may have a minus.
+    /// A number that may have a minus sign.
     Signed,
     Note,
     /// The name of an operation.
@@ -29,7 +29,7 @@ pub enum Wanted {
 }
 
 impl Wanted {
-    // Whether a word is that.
+    // Returns whether `word` is what is wanted.
     pub(crate) fn fits(self, word: &[u8]) -> bool
         ensures { result ≡ fits self word.now }
     {

@@ -11,7 +11,7 @@ use std::alloc::Global;
 use std::fmt;
 use std::fmt::{Display, Formatter, Write};
 
-/// The lines of a header that say what moves.
+/// The lines of a header that define a move.
 #[derive(Clone, Copy, Debug, PartialEq, Eq)]
 pub struct MoveLines<'a> {
     pub old: &'a [u8],
@@ -19,16 +19,18 @@ pub struct MoveLines<'a> {
     pub sizes: &'a [u8],
 }
 
-/// Why a move comes to too many segments: how many there would be, and how many it may have.
+/// Why a move has too many segments: `segments` is how many it would have, and `limit` the most
+/// that it may have.
 #[derive(Clone, Copy, Debug, PartialEq, Eq)]
 pub enum SegmentFlaw {
-    /// Its leaves are too narrow: this is the least width with which the segments are few enough.
+    /// Its leaves are too narrow: `least_width` is the smallest width with which there are few
+    /// enough segments.
     Narrow {
         segments: u64,
         limit: u64,
         least_width: u64,
     },
-    /// They are too many, however wide its leaves are.
+    /// It would have too many segments with leaves of any width.
     Large {
         segments: u64,
         limit: u64,
@@ -57,7 +59,8 @@ impl Display for SegmentFlaw {
     }
 }
 
-/// Why the move of these lines has too many segments; `None` where they have another fault, or memory ran out.
+/// Why the move that `lines` define has too many segments. Returns `None` if `fault` is another
+/// fault, or if memory runs out.
 pub fn segment_flaw(
     alloc: Global,
     fault: OpeningFault,
@@ -74,7 +77,7 @@ pub fn segment_flaw(
     flaw_between(&old, &new, width)
 }
 
-// Why the move between two plans comes to too many segments, where it does with leaves of this width.
+// Why the move between two plans has too many segments with leaves of this width, if it does.
 fn flaw_between(old: &Plan, new: &Plan, width: u64) -> Option<SegmentFlaw>
     ensures { IfSome result (IsSegmentFlaw old.now new.now width) }
 {
@@ -90,7 +93,7 @@ fn flaw_between(old: &Plan, new: &Plan, width: u64) -> Option<SegmentFlaw>
     })
 }
 
-// How many segments a move to a plan of this version has at most.
+// The most segments of a move to a plan of this version.
 fn segment_limit(version: Version) -> u64
     ensures { result ≡ segment_limit version }
 {
@@ -100,7 +103,8 @@ fn segment_limit(version: Version) -> u64
     }
 }
 
-// The least width of a leaf by which there is a move between two plans; `None` where there is none by any width.
+// The smallest width of a leaf with which a move between two plans is possible; `None` if no width
+// is.
 fn least_width(old: &Plan, new: &Plan) -> Option<u64>
     ensures { MatchOption result (HasNoWidth old.now new.now) (IsLeastWidth old.now new.now) }
 {
@@ -120,7 +124,7 @@ fn least_width(old: &Plan, new: &Plan) -> Option<u64>
     Some(high)
 }
 
-// Whether there is a move between two plans with leaves of this width.
+// Returns whether a move between two plans is possible with leaves of this width.
 fn is_wide_enough(old: &Plan, new: &Plan, width: u64) -> bool
     ensures { IsTrue result ↔ (recon_fault old.now new.now width ≡ None) }
 {

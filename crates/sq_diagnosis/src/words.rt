@@ -7,8 +7,9 @@ use sq_ranges::{OpeningFault, ReconFault};
 use sq_schema::{MAX_NOTE, MAX_OPS, MAX_TABLES, TxnFault};
 use sq_text::{OpName, Words, unsigned};
 
-/// The number of the word, from 1, that a fault of an opening is about, in the line of the sizes or in that of the row; of a row
-/// that isn't in its place the root key. `None` where it is about no word.
+/// The number, from 1, of the word that a fault of an opening is about, in the line of the sizes or
+/// the row. For a row that is out of place it is the root key. Returns `None` if the fault is about
+/// no word.
 pub fn opening_word(fault: OpeningFault) -> Option<usize>
     ensures { result ≡ opening_word fault }
 {
@@ -22,7 +23,7 @@ pub fn opening_word(fault: OpeningFault) -> Option<usize>
     }
 }
 
-// The number of the word of a row's line, from 1, that a fault of the schema is about.
+// The number, from 1, of the word of a row's line that a fault of the schema is about.
 fn row_word(fault: TxnFault) -> Option<usize>
     ensures { result ≡ row_word fault }
 {
@@ -35,7 +36,8 @@ fn row_word(fault: TxnFault) -> Option<usize>
     }
 }
 
-/// The number of the word of a transaction's line, from 1, that a fault is about; `None` where it is about none.
+/// The number, from 1, of the word of a transaction's line that `fault` is about; `None` if it is
+/// about no word.
 pub fn job_word(fault: TxnFault, line: &[u8]) -> Option<usize> {
     match fault {
         TxnFault::BadOps => None,
@@ -44,7 +46,7 @@ pub fn job_word(fault: TxnFault, line: &[u8]) -> Option<usize> {
     }
 }
 
-// The number of the first word of an operation that a fault is about.
+// The number of the first word in the operations that `fault` is about.
 fn faulty_op(fault: TxnFault, line: &[u8]) -> Option<usize> {
     let mut words = Words::of(line);
     for _ in TXN {
@@ -61,7 +63,8 @@ fn faulty_op(fault: TxnFault, line: &[u8]) -> Option<usize> {
     None
 }
 
-// How many words behind the name of an operation the word stands that a fault is about, of as many words as its form has.
+// How many words after the name of an operation the faulty word comes; `count` is how many words
+// follow the name.
 fn faulty_word(fault: TxnFault, count: usize, words: &mut Words<'_>) -> Option<usize> {
     let table = unsigned(words.next()?)?;
     let sub = unsigned(words.next()?)?;

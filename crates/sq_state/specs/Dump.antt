@@ -10,16 +10,16 @@ use Rattle.sq_transition.specs.Leading.{phase_of}
 abbrev pub part_lines : WorldValue → ℕ → List ℕ
 part_lines w part = flat_map (at_line part) (families_in (core_at w part).store)
 
--- the chunks of a link that were cut and aren't loaded, in rising number
+-- the chunks of a link that were cut and aren't loaded yet, by rising number
 abbrev pub link_lines : WorldValue → Option ℕ → List ℕ
 link_lines w None = []
 link_lines w (Some i) = flat_map way_lines (under_way (link_value w i))
 
--- what is under way from a partition, by rising destination
+-- the chunks under way from a partition, by rising destination
 abbrev pub source_lines : WorldValue → ℕ → List ℕ
 source_lines w src = flat_map (λ dst. link_lines w (link_index w src dst)) (range_with_len 0 w.old.parts)
 
--- the phase, each partition with its families, and each link with what is under way on it
+-- the phase, each partition with its families, and each link with its chunks under way
 abbrev pub dump : WorldValue → List ℕ
 dump w =
     end_line (phase_of w.leader)

@@ -12,12 +12,12 @@ use Rattle.sq_model.specs.Trace.{Trace}
 use Rattle.sq_state.specs.declared.world.NotOpened.{NotOpened}
 use Rattle.sq_state.specs.declared.world.NotOpened.TheVariants.{Refused, Memory}
 
--- the history that these steps make with these answers: the newest first
+-- the history of these steps with these answers, the newest first
 abbrev pub history_of : List Step → List Answer → Trace
 history_of steps answers = reverse (zip steps answers)
 
--- a world doesn't open where its opening is refused, and then plans and rows come back; or else where there is no memory for it,
--- and then the opening comes back
+-- a world doesn't open if its opening is refused, and then plans and rows are returned; or else if
+-- memory for it runs out, and then the opening is returned
 abbrev pub IsNotOpened : ℕ → PlanValue → PlanValue → Config → List GivenRow → NotOpened → Type 0
 IsNotOpened tables old new config rows (Refused refused) =
     MayRefuse (early_fault tables old new config rows) (opening_fault tables old new config rows) refused.fault

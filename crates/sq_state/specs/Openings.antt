@@ -14,7 +14,7 @@ pub record AreNewTrees (segments : List Range) (trees : List (List Status)) : Ty
   pub count : length trees ≡ length segments
   pub each : (seg node : ℕ) → seg < length trees → status_at (slice_index_or trees seg []) node ≡ Free
 
--- the queues of the links of ranges, which nothing went onto
+-- the queues of the links of ranges, all empty
 pub record AreNewQueues (ranges : List Range) (queues : List QueueValue) : Type 0 where
   pub links : List Link
   pub all : AreLinks ranges links

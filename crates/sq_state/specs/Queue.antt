@@ -4,11 +4,11 @@ use Rattle.sq_chunk.specs.ChunkValue.{ChunkValue}
 use Rattle.sq_ranges.specs.declared.recon.Link.{Link}
 use Rattle.sq_transition.specs.WorldValue.{QueueValue}
 
--- a queue that nothing went onto
+-- an empty queue
 abbrev pub opened_queue : Link → QueueValue
 opened_queue link = record { src = link.src; dst = link.dst; chunks = [] }
 
--- the oldest chunk came off, or there was none
+-- the oldest chunk was popped, or there was none
 abbrev pub IsPopped : QueueValue → Option ChunkValue → QueueValue → Type 0
 IsPopped old None new = (old.chunks ≡ []) × (new ≡ old)
 IsPopped old (Some chunk) new = (old.chunks ≡ chunk ∷ new.chunks) × (new ≡ record old { chunks = new.chunks })

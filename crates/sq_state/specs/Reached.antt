@@ -1,4 +1,4 @@
--- The worlds that can be: those that a legal history leads to.
+-- The possible worlds: those that a legal history leads to.
 use Rattle.sq_ranges.specs.OpeningValue.{OpeningValue}
 use Rattle.sq_ranges.specs.Opening.{IsOpening}
 use Rattle.sq_model.specs.Trace.{Trace}

@@ -18,12 +18,12 @@ use Rattle.sq_exec.specs.declared.fault.LoadFault.TheVariants as load
 use Rattle.sq_transition.specs.WorldValue.{WorldValue, running_stage, link_index}
 use Rattle.sq_state.specs.declared.state.links.LinkPlace.{LinkPlace}
 
--- what a step is answered that has an answer or is refused
+-- the answer to a step that is answered or refused
 abbrev pub answer_of : Result Answer Refusal → Answer
 answer_of (Ok answer) = answer
 answer_of (Err refusal) = Refused refusal
 
--- a check that refuses where this is so, and else gives a value
+-- a check that refuses if this is so, and otherwise returns a value
 abbrev pub unless : {X : Type 0} → Bool → Refusal → X → Result X Refusal
 unless wrong refusal value = if wrong then Err refusal else Ok value
 
@@ -31,7 +31,7 @@ unless wrong refusal value = if wrong then Err refusal else Ok value
 abbrev pub refuse_if : Bool → Refusal → Result (Unit {0}) Refusal
 refuse_if wrong refusal = unless wrong refusal tt
 
--- what a step is answered that is done or refused
+-- the answer to a step that is done or refused
 abbrev pub done_or : Result (Unit {0}) Refusal → Answer
 done_or (Ok done) = Done
 done_or (Err refusal) = Refused refusal
@@ -40,7 +40,7 @@ done_or (Err refusal) = Refused refusal
 abbrev pub link_place : ℕ → ℕ → ℕ → LinkPlace
 link_place src dst at = record { at = at; src = src; dst = dst }
 
--- the link from the one partition to the other, where the running stage has it
+-- the link from the one partition to the other, if the running stage has it
 abbrev pub running_link : WorldValue → ℕ → ℕ → Result LinkPlace Refusal
 running_link w src dst =
     if not (stage_on w.recon src dst == running_stage w) then Err NoSuchLink
@@ -63,7 +63,7 @@ abbrev pub load_refused : LoadFault → Refusal
 load_refused load.InboxEmpty = InboxEmpty
 load_refused load.Memory = Memory
 
--- how many families a chunk holds; none where there is no chunk
+-- the number of families in a chunk; 0 without a chunk
 abbrev pub families_of : Option ChunkValue → ℕ
 families_of None = 0
 families_of (Some chunk) = length chunk.families

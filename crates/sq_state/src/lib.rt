@@ -1,4 +1,4 @@
-//! Worlds: the state of one in memory, what each step does to it, and whole lists of steps.
+//! Worlds: the state of a world in memory, what each step does to it, and whole lists of steps.
 #![tactic(auto)]
 
 mod queue;

@@ -11,7 +11,8 @@ use std::alloc::{AllocError, Global};
 use std::collections::VecDeque;
 use std::marker::Model;
 
-/// The queue of a link: the chunks that went onto it and didn't come off. To a contract it is a `QueueValue`.
+/// The queue of a link: the chunks that were pushed and haven't been popped. To a contract it is a
+/// `QueueValue`.
 #[derive(Debug, Drop)]
 pub(crate) struct Queue {
     src: PartId,
@@ -33,7 +34,7 @@ impl Model for Queue {
 }
 
 impl Queue {
-    /// An empty queue, with room for as many chunks as a link may hold.
+    /// Creates an empty queue, with room for as many chunks as a link may hold.
     pub(crate) fn new(alloc: Global, link: Link) -> Result<Queue, AllocError>
         ensures { IfOk result (λ made. made ≡ opened_queue link) }
     {
@@ -44,49 +45,49 @@ impl Queue {
         })
     }
 
-    /// The partition that the chunks leave.
+    /// Returns the partition that the chunks leave.
     pub(crate) fn src(&self) -> PartId
         ensures { result ≡ self.now.src }
     {
         self.src
     }
 
-    /// The destination of the chunks.
+    /// Returns the destination of the chunks.
     pub(crate) fn dst(&self) -> PartId
         ensures { result ≡ self.now.dst }
     {
         self.dst
     }
 
-    /// Whether it goes from the one partition to the other.
+    /// Returns true if the queue leads from `src` to `dst`.
     pub(crate) fn joins(&self, src: u64, dst: u64) -> bool
         ensures { result ≡ ((self.now.src == src) && (self.now.dst == dst)) }
     {
         u64::from(self.src.number()) == src && u64::from(self.dst.number()) == dst
     }
 
-    /// How many chunks there are.
+    /// Returns the number of chunks.
     pub(crate) fn len(&self) -> usize
         ensures { result ≡ length self.now.chunks }
     {
         self.chunks.len()
     }
 
-    /// The chunk at a place, counted from the oldest.
+    /// Returns chunk number `i`, counted from the oldest, from 0; `None` if there is none.
     pub(crate) fn get(&self, i: usize) -> Option<&Chunk>
         ensures { option_copied result ≡ slice_get self.now.chunks i }
     {
         self.chunks.get(i)
     }
 
-    /// The chunks, the oldest first, in two pieces.
+    /// Returns the chunks, the oldest first, in two pieces.
     pub(crate) fn as_slices(&self) -> (&[Chunk], &[Chunk])
         ensures { result.0.now ++ result.1.now ≡ self.now.chunks }
     {
         self.chunks.as_slices()
     }
 
-    /// Puts a chunk behind all others.
+    /// Pushes `chunk` after all others.
     pub(crate) fn push(&mut self, chunk: Chunk)
         requires { length self.old.chunks < MAX_CAPACITY }
         ensures { self.new ≡ record self.old { chunks = self.old.chunks ++ chunk ∷ [] } }
@@ -96,7 +97,7 @@ impl Queue {
         };
     }
 
-    /// Takes the oldest chunk out.
+    /// Pops the oldest chunk; `None` if there is none.
     pub(crate) fn pop(&mut self) -> Option<Chunk>
         ensures { IsPopped self.old result self.new }
     {

@@ -14,7 +14,7 @@ use sq_leader::Leader;
 use sq_model::Refusal;
 use sq_plan::Plan;
 use sq_ranges::{Config, Recon, SegId};
-use sq_runs::RunStore;
+use sq_slab::SlabStore;
 use sq_tree::{NodeId, PlainTree};
 use std::alloc::Global;
 use std::marker::Model;
@@ -28,8 +28,8 @@ mod step;
 mod submit;
 mod trees;
 
-/// A world: the plans, what moves between them and the leader; the partitions; for each segment its split tree; and the
-/// queues between the partitions. To a contract it is a `WorldValue`.
+/// A world: the plans, what moves between them, and the leader; the partitions; the split tree of
+/// each segment; and the queues between the partitions. To a contract it is a `WorldValue`.
 #[derive(Drop)]
 pub struct State {
     alloc: Global,
@@ -39,7 +39,7 @@ pub struct State {
     recon: Recon,
     config: Config,
     leader: Leader,
-    cores: Vec<PartCore<RunStore>>,
+    cores: Vec<PartCore<SlabStore>>,
     trees: Vec<PlainTree>,
     queues: Vec<Queue>,
 }
@@ -63,7 +63,7 @@ impl Model for State {
 }
 
 impl State {
-    // Refuses where the move isn't under way.
+    // Refuses unless the move is under way.
     fn check_moving(&self) -> Result<(), Refusal>
         ensures { result ≡ refuse_if (not
             (is_moving_phase (phase_of self.now.leader))) Refusal.NotMoving }
@@ -74,7 +74,7 @@ impl State {
         }
     }
 
-    // Refuses where there is no such partition.
+    // Refuses unless there is a partition `part`.
     fn check_part(&self, part: u64) -> Result<(), Refusal>
         ensures { result ≡ refuse_if (nat_le self.now.old.parts part) Refusal.NoSuchPartition }
     {
@@ -85,7 +85,7 @@ impl State {
         }
     }
 
-    // The segment of this number; a refusal where the running stage has none.
+    // Returns the segment with this `number`; refused unless it moves in the running stage.
     fn segment(&self, number: u64) -> Result<SegId, Refusal>
         ensures named { result ≡ unless
             (is_none (running_range self.now number)) Refusal.NoSuchSegment number }
@@ -99,7 +99,7 @@ impl State {
     }
 }
 
-// The node of this number; a refusal where there is none.
+// Returns the node with this `number`; refused if there is none.
 fn named_node(number: u64) -> Result<NodeId, Refusal>
     ensures { result ≡ unless (not (is_node number)) Refusal.NoSuchNode number }
 {

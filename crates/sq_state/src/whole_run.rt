@@ -9,11 +9,13 @@ use sq_model::{Answer, Step};
 use sq_ranges::Opening;
 use std::alloc::Global;
 
-/// Opens a world and makes these steps one after another: the world that they lead to, and their answers. Where there is no
-/// memory for the world or for the room of the answers no step is made, and the opening comes back as it was.
+/// Opens a world and executes `steps` one after another. Returns the world that they lead to, and
+/// their answers. If there is no memory for the world or for the list of answers, no step is
+/// executed and `opening` is returned as it was.
 ///
-/// The steps with their answers are a history whose answers are those that it determines, its moves are in order, and
-/// the world is the one that it leads to. Where the move has ended at last, each root key is at its owner by the new plan.
+/// The steps with their answers are a history: it determines these answers, its moves are in order,
+/// and it leads to this world. If the move has ended, each root key is at its owner in the new
+/// plan.
 pub fn run_world(
     alloc: Global,
     opening: Opening,

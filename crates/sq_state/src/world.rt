@@ -10,16 +10,17 @@ use sq_chunk::Chunk;
 use sq_model::{Answer, Phase, Step};
 use sq_plan::Plan;
 use sq_ranges::{Config, GivenRow, Opening, RefusedOpening};
-use sq_runs::RunStore;
 use sq_schema::Schema;
+use sq_slab::SlabStore;
 use sq_text::WriteFault;
 use sq_tree::Status;
 use std::alloc::Global;
 use std::io::Write;
 use std::marker::Model;
 
-/// A partitioned database whose rows move between partitions while transactions run: partitions, split trees, links
-/// and a leader. To a contract it is a `WorldValue`, to which some legal history leads.
+/// A partitioned database whose rows move between partitions while transactions run: partitions,
+/// split trees, links and a leader. To a contract it is a `WorldValue` that some legal history
+/// leads to.
 #[derive(Drop)]
 pub struct World {
     state: State,
@@ -43,16 +44,17 @@ impl Model for World {
 /// Why a world doesn't open, and what it was to open with.
 #[derive(Debug, Drop)]
 pub enum NotOpened {
-    /// The opening has a fault, or there is no memory for it: this is the answer, and the plans and the rows come back.
+    /// The opening has a fault, or memory for it ran out. The plans and the rows are returned.
     Refused(RefusedOpening),
-    /// There is no memory for a world of this opening.
+    /// There is no memory for a world of this opening, which is returned.
     Memory(Opening),
 }
 
 impl World {
-    /// The world of two plans with these sizes and rows, before any step. Otherwise what it was to open with comes
-    /// back, with the first fault, as [`Opening::new`] has them. Where memory runs out, that function says how it is
-    /// answered, and [`NotOpened::Memory`] is the answer where there is no fault.
+    /// Opens the world of two plans with these sizes and rows, before any step. If it is refused,
+    /// what it was to open with is returned, with the first fault as in [`Opening::new`], which
+    /// also says what replaces it if memory runs out; [`NotOpened::Memory`] is returned only
+    /// without a fault.
     pub fn open(
         alloc: Global,
         schema: Schema,
@@ -74,7 +76,8 @@ impl World {
         }
     }
 
-    /// The world of an opening, before any step. Where there is no memory for it the opening comes back as it was.
+    /// Opens the world of `opening`, before any step. If memory runs out, `opening` is returned as
+    /// it was.
     pub fn from_opening(alloc: Global, opening: Opening) -> Result<World, Opening>
         ensures opened { IfOk result (λ world. IsOpening opening × Holds opening [] world) }
         ensures back { IfErr result (λ back. back ≡ opening) }
@@ -84,11 +87,12 @@ impl World {
         })
     }
 
-    /// Makes one step, and answers it: by the rules of the move, or that there is no memory, and then nothing changed.
+    /// Executes `step` and returns its answer: the one that the rules of the move determine, or
+    /// that memory ran out, and then nothing changed.
     ///
-    /// Whatever the steps before were: if their answers were those that the history determines, and this world is the
-    /// one that they lead to, then so it is with this step. No row is lost, doubled or read stale. And where this step
-    /// ends the move, each root key is at its owner by the new plan.
+    /// Whatever the steps before it were: if their history determines their answers and leads to
+    /// this world, the same holds with this step added. No row is lost, duplicated or read stale.
+    /// If this step ends the move, each root key is at its owner in the new plan.
     pub fn step(&mut self, step: &Step) -> Answer
         ensures step_result { IsTransition self.old step.now result self.new }
         ensures headline { (o : OpeningValue) (t : Trace) → IsOpening o → IsLegal o t
@@ -103,7 +107,7 @@ impl World {
     }
 }
 
-// What is read of it.
+// Readers.
 impl World {
     ghost use Rattle.std.specs.Prelude.{OnOk};
     ghost use Rattle.std.specs.Option.{option_copied};
@@ -113,7 +117,7 @@ impl World {
     ghost use Rattle.sq_state.specs.Readers.{store_at, chunk_at, status_there, IsStoreAfter, IsChunkAfter, status_after};
     ghost use Rattle.sq_state.specs.Dump.{dump};
 
-    /// How far the leader is, as its history says.
+    /// Returns the phase of the leader, as its history determines it.
     pub fn phase(&self) -> Phase
         ensures phase { result ≡ phase_of self.now.leader }
         ensures by_history { (o : OpeningValue) (t : Trace) → Holds o t self.now
@@ -122,7 +126,8 @@ impl World {
         self.state.phase()
     }
 
-    /// The stage that runs, as its history says: 0 before the start, and the last once the move has ended.
+    /// Returns the running stage, as the history determines it: 0 before the start, and the last
+    /// one once the move has ended.
     pub fn stage(&self) -> u64
         ensures stage { result ≡ running_stage self.now }
         ensures by_history { (o : OpeningValue) (t : Trace) → Holds o t self.now
@@ -131,9 +136,9 @@ impl World {
         self.state.stage()
     }
 
-    /// The families of a partition, which are exactly those that are there by the history; `None` where there is no such
-    /// partition.
-    pub fn store(&self, part: u64) -> Option<&RunStore>
+    /// Returns the families of partition `part`, exactly those that the history places there;
+    /// `None` if there is no such partition.
+    pub fn store(&self, part: u64) -> Option<&SlabStore>
         ensures store { option_copied result ≡ store_at self.now part }
         ensures by_history { (o : OpeningValue) (t : Trace) → Holds o t self.now
             → IsStoreAfter o t part (option_copied result) }
@@ -141,8 +146,9 @@ impl World {
         self.state.store(part)
     }
 
-    /// The chunk of this number, from 0, of those from one partition to another that were cut and aren't loaded, the
-    /// oldest first, as the history says, with exactly the families that its note covers; `None` where there is none.
+    /// Returns chunk number `i`, from 0, of those that were cut from `src` for `dst` and aren't
+    /// loaded yet, the oldest first, as the history determines, with exactly the families that its
+    /// note covers; `None` if there is none.
     pub fn under_way(&self, src: u64, dst: u64, i: u64) -> Option<&Chunk>
         ensures chunk { option_copied result ≡ chunk_at self.now src dst i }
         ensures by_history { (o : OpeningValue) (t : Trace) → IsOpening o → IsLegal o t
@@ -152,7 +158,8 @@ impl World {
         self.state.under_way(src, dst, i)
     }
 
-    /// The status of a node, as the history says; `None` where there is no such segment or node.
+    /// Returns the status of `node` in segment `seg`, as the history determines it; `None` if there
+    /// is no such segment or node.
     pub fn status(&self, seg: u64, node: u64) -> Option<Status>
         ensures status { result ≡ status_there self.now seg node }
         ensures by_history { (o : OpeningValue) (t : Trace) → Holds o t self.now
@@ -161,7 +168,8 @@ impl World {
         self.state.status(seg, node)
     }
 
-    /// Writes the phase, each partition with its families, and each link with what is under way on it.
+    /// Writes the phase, each partition with its families, and each link with its chunks under way.
+    /// Fails if a write fails.
     pub fn write_dump<W: Write>(&self, writer: &mut W) -> Result<(), WriteFault>
         ensures { OnOk result (Appends (W.contents writer.old) (W.contents writer.new)
             (dump self.now)) }

@@ -9,7 +9,8 @@ use Rattle.sq_steps.specs.declared.move_step.MoveStep.{MoveStep}
 use Rattle.sq_steps.specs.Lines.{step_of_move, move_line, IsReadBack}
 use Rattle.sq_steps.specs.Scripts.{NoneRefused}
 
--- the text is of steps that a script reads, none of them was refused, and the world is the one that they lead to from this opening
+-- the text is of steps that a script reads, none of them was refused, and they lead to the world
+-- from this opening
 pub record IsDraftOf (o : OpeningValue) (draft : Draft) : Type 0 where
   pub steps : List MoveStep
   pub says : draft.text.items ≡ flat_map move_line steps
@@ -17,6 +18,6 @@ pub record IsDraftOf (o : OpeningValue) (draft : Draft) : Type 0 where
   pub none_refused : NoneRefused o steps
   pub leads : LeadsTo o (after o [] (map step_of_move steps)) draft.world
 
--- a draft of whatever opening continues
+-- a draft continues, whatever its opening
 abbrev pub DraftGoesOn : Draft → Draft → Type 0
 DraftGoesOn old new = (o : OpeningValue) → IsDraftOf o old → IsDraftOf o new

@@ -10,7 +10,7 @@ use Rattle.sq_steps.specs.declared.move_step.MoveStep.{MoveStep}
 use Rattle.sq_steps.specs.declared.move_step.MoveStep.TheVariants.{Prepare, Start, Claim, Begin, Cut, Push, Pop, Load, Complete, Report, Next, Finish}
 use Rattle.sq_steps.specs.declared.move_step.TheConstants.{WHOLE, PULL}
 
--- the step that it is: each segment is claimed as a whole, by a pull in the background
+-- its step: each segment is claimed as a whole, by an asynchronous pull
 abbrev pub step_of_move : MoveStep → Step
 step_of_move (Prepare part) = step.Prepare part
 step_of_move Start = step.Start
@@ -25,7 +25,7 @@ step_of_move (Report part) = step.Report part
 step_of_move Next = step.Next
 step_of_move Finish = step.Finish
 
--- the verb of its line, and the numbers behind it
+-- the verb of its line, and the numbers after it
 abbrev pub verb_of : MoveStep → Word
 verb_of (Prepare part) = codes "prepare"
 verb_of Start = codes "start"

@@ -1,4 +1,4 @@
--- Scripts that make a whole move, and what is written for a header.
+-- Scripts that perform a whole move, and what is written for a header.
 use Rattle.std.specs.Prelude.{◌≡◌, ◌⊎◌, ℕ, Bool, true, false, List, [], All, map, Option, None, Ok}
 use Rattle.std.specs.List.{flat_map}
 use Rattle.sq_ranges.specs.OpeningValue.{OpeningValue}
@@ -28,12 +28,12 @@ abbrev pub is_refusal : Answer → Bool
 is_refusal (Refused refusal) = true
 is_refusal _ = false
 
--- none of the steps is refused where memory doesn't run out
+-- none of the steps is refused, unless memory runs out
 abbrev pub NoneRefused : OpeningValue → List MoveStep → Type 0
 NoneRefused o steps = All (λ given. is_refusal given ≡ false) (answers o [] (map step_of_move steps))
 
--- the lines are of steps that a script reads, and that make the whole move from this opening: where memory doesn't run out none of
--- them is refused, and the move has ended at last
+-- the lines are of steps that a script reads and that perform the whole move from this opening:
+-- unless memory runs out none of them is refused, and the move has ended at the end
 pub record IsScriptOf (o : OpeningValue) (text : List ℕ) : Type 0 where
   pub is_opening : IsOpening o
   pub steps : List MoveStep
@@ -47,30 +47,31 @@ abbrev pub fault_of : NoScript → LocatedFault
 fault_of no_script.Memory = located Memory None
 fault_of no_script.TooLong = located TooLong None
 
--- a script of this opening was written, or that memory ran out or that it has too many lines
+-- a script of this opening was written, or that memory ran out, or that it has too many lines
 abbrev pub IsScriptFrom : OpeningValue → List ℕ → Ending → Type 0
 IsScriptFrom o out ending =
     (IsScriptOf o out × (ending ≡ Done)) ⊎ ((why : NoScript) × IsFault (fault_of why) out ending)
 
--- the header spells an opening, and that was written of it
+-- the header spells an opening, and this was written for it
 pub record IsForHeader (tables : ℕ) (given : List PieceValue) (out : List ℕ) (ending : Ending) : Type 0 where
   pub opening : OpeningValue
   pub left : List PieceValue
   pub header : Opens tables (Ok opening) left (header_of tables given)
   pub wrote : IsScriptFrom opening out ending
 
--- what is written for the pieces of an input: a script of the opening that its header spells, or the fault of the header
+-- what is written for the pieces of an input: a script of the opening that its header spells, or
+-- the fault of the header
 abbrev pub IsForInput : ℕ → List PieceValue → List ℕ → Ending → Type 0
 IsForInput tables given out ending = IsForHeader tables given out ending ⊎ IsRefused tables given out ending
 
--- what is written for an opening goes to the end of what a writer holds
+-- what is written for an opening is appended to what a writer holds
 abbrev pub WritesScriptFrom : OpeningValue → Option (List ℕ) → Option (List ℕ) → Ending → Type 0
 WritesScriptFrom o = Writing (IsScriptFrom o)
 
--- the same for pieces that a reader of lines may give
+-- the same for pieces that a reader of lines may return
 abbrev pub WritesScriptOf : ℕ → LinesValue → Option (List ℕ) → Option (List ℕ) → Ending → Type 0
 WritesScriptOf tables = OfLines (IsForInput tables)
 
--- the same for what a reader gives
+-- the same for what a reader returns
 abbrev pub WritesScript : ℕ → Option (List ℕ) → Option (List ℕ) → Option (List ℕ) → Ending → Type 0
 WritesScript tables = OfReader (IsForInput tables)

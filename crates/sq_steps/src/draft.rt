@@ -9,17 +9,17 @@ use sq_model::Answer;
 use sq_state::World;
 use std::alloc::Global;
 
-/// The script so far, and the world in which each of its steps was made.
+/// The script so far, and the world in which its steps were executed.
 #[derive(Drop)]
 pub(crate) struct Draft {
     pub(crate) world: World,
     pub(crate) text: Vec<u8>,
-    /// How many lines more the script may have.
+    /// How many more lines the script may have.
     pub(crate) room: u64,
 }
 
 impl Draft {
-    /// No step, in this world. So many lines may come.
+    /// Creates an empty script for `world`, with room for `room` lines.
     pub(crate) fn new(alloc: Global, world: World, room: u64) -> Draft
         ensures world { result.world ≡ world }
         ensures empty { result.text.items ≡ [] }
@@ -31,7 +31,7 @@ impl Draft {
         }
     }
 
-    /// Makes the next step, writes its line, and gives its answer, which is no refusal.
+    /// Executes the next step, writes its line, and returns its answer, which isn't a refusal.
     pub(crate) fn make(&mut self, step: MoveStep) -> Result<Answer, NoScript>
         ensures goes_on { OnOk result (DraftGoesOn self.old self.new) }
         ensures room { OnOk result (self.new.room < self.old.room) }
@@ -40,7 +40,7 @@ impl Draft {
             return Err(NoScript::TooLong);
         };
         let answer = self.world.step(&step.step());
-        // Memory alone can be what is missing.
+        // These steps are refused only if memory runs out.
         if is_refused(&answer) {
             return Err(NoScript::Memory);
         }
@@ -50,7 +50,6 @@ impl Draft {
     }
 }
 
-// Whether a step was refused.
 fn is_refused(answer: &Answer) -> bool
     ensures { result ≡ is_refusal answer.now }
 {

@@ -1,16 +1,16 @@
-// Why a script isn't written.
+// Why a script wasn't written.
 ghost use Rattle.std.specs.Prelude.{◌≡◌};
 ghost use Rattle.sq_steps.specs.Scripts.{fault_of};
 
 use sq_text::{InputFault, LocatedFault};
 use std::io;
 
-/// Why a script isn't written.
+/// Why a script wasn't written.
 #[derive(Clone, Copy, Debug, PartialEq, Eq)]
 pub(crate) enum NoScript {
     /// Memory ran out.
     Memory,
-    /// The input would have too many lines with it.
+    /// The header and the script would have too many lines.
     TooLong,
 }
 

@@ -1,4 +1,5 @@
-//! The script of a whole move: for a header the steps that move all rows, as lines of `squall run`.
+//! The script of a whole move: for a header, the steps that move all rows, as lines of
+//! `squall run`.
 #![tactic(auto)]
 
 mod draft;

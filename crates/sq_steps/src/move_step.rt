@@ -7,43 +7,43 @@ use sq_model::Step;
 use std::io;
 use std::io::Write;
 
-/// The whole of a segment.
+/// The node that covers a whole segment.
 pub(crate) const WHOLE: u64 = 1;
 
-/// The pull by which each segment is claimed: one in the background.
+/// The pull that claims each segment: an asynchronous one.
 pub(crate) const PULL: u32 = 2;
 
 /// A step of a move in which each segment is claimed as a whole, and no transaction runs.
 #[derive(Clone, Copy, Debug, PartialEq, Eq)]
 pub enum MoveStep {
-    /// A partition prepares.
+    /// Prepares this partition.
     Prepare(u64),
-    /// The leader starts the move.
+    /// Starts the move, at the leader.
     Start,
-    /// The whole of a segment is claimed.
+    /// Claims the whole of this segment.
     Claim(u64),
-    /// The source gives a segment up.
+    /// Gives this segment up, at its source.
     Begin(u64),
-    /// The source cuts the next chunk for a destination.
+    /// Cuts the next chunk for a destination, at its source.
     Cut { src: u64, dst: u64 },
-    /// The chunk that was cut goes onto its link.
+    /// Pushes the chunk that was cut onto its link.
     Push { src: u64, dst: u64 },
-    /// The oldest chunk on the link reaches the destination.
+    /// Pops the oldest chunk off the link, at the destination.
     Pop { src: u64, dst: u64 },
-    /// The destination loads the chunk that came.
+    /// Loads the popped chunk, at the destination.
     Load { src: u64, dst: u64 },
-    /// A segment that was loaded whole is completed.
+    /// Completes this segment, whose last chunk is loaded.
     Complete(u64),
-    /// A partition reports that all that moves to it is complete.
+    /// Reports that all that moves to this partition is complete.
     Report(u64),
-    /// The leader ends the running stage, and the next one runs.
+    /// Ends the running stage and enters the next one, at the leader.
     Next,
-    /// The leader ends the move.
+    /// Ends the move, at the leader.
     Finish,
 }
 
 impl MoveStep {
-    /// The step that it is.
+    /// Returns this step as a [`Step`].
     pub fn step(self) -> Step
         ensures step { result ≡ step_of_move self }
         ensures fit { NumbersFit self }
@@ -77,7 +77,7 @@ impl MoveStep {
     }
 }
 
-/// Writes the line of a step. An error is the writer's.
+/// Writes the line of `step`. Fails if a write fails.
 pub fn write_step<W: Write>(writer: &mut W, step: MoveStep) -> io::Result<()>
     ensures { OnOk result (Appends
         (W.contents writer.old) (W.contents writer.new) (move_line step)) }

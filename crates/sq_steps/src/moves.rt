@@ -14,16 +14,16 @@ pub(crate) struct MovingSegment {
 /// What is to move in a world.
 #[derive(Debug, Drop)]
 pub(crate) struct Moves {
-    /// How many partitions there are.
+    /// The number of partitions.
     pub(crate) parts: u64,
-    /// How many stages there are.
+    /// The number of stages.
     pub(crate) stages: u64,
     /// The segments, in the order of their numbers.
     pub(crate) segments: Vec<MovingSegment>,
 }
 
 impl Moves {
-    /// What is to move from an opening.
+    /// Returns what is to move from `opening`.
     pub(crate) fn of(alloc: Global, opening: &Opening) -> Result<Moves, AllocError> {
         let recon = opening.recon();
         let mut segments = Vec::new(alloc);
@@ -45,7 +45,7 @@ impl Moves {
         })
     }
 
-    /// Whether a segment moves to this partition in this stage.
+    /// Returns true if a segment moves to `part` in `stage`.
     pub(crate) fn has_destination(&self, stage: u64, part: u64) -> bool {
         self.segments
             .iter()

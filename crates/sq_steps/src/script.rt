@@ -18,11 +18,13 @@ use sq_world::Ending;
 use std::alloc::Global;
 use std::io::{Read, Write};
 
-/// Reads a header, and writes a script that makes its whole move: the lines of steps that `squall run` makes behind this header.
+/// Reads a header and writes a script that performs its whole move: the steps, as lines that
+/// `squall run` executes after this header.
 ///
-/// Each segment is claimed as a whole, and its rows go in as many chunks as they need, stage by stage. What follows the header
-/// isn't looked at. Where the header has a fault, where memory runs out, or where header and script have more lines than an
-/// input may have, the fault is all that is written. An error is a write or a flush that failed.
+/// Each segment is claimed as a whole, and its rows move in as many chunks as they need, stage by
+/// stage. What follows the header isn't looked at. If the header has a fault, memory runs out, or
+/// header and script together have more lines than an input may have, only the fault is written.
+/// Fails if a write or a flush fails.
 pub fn write_script<R: Read, W: Write>(
     alloc: Global,
     reader: &mut R,
@@ -36,7 +38,7 @@ pub fn write_script<R: Read, W: Write>(
     Ok(ending)
 }
 
-// Writes a script, and leaves what is written to be flushed.
+// Writes a script, and leaves it to be flushed.
 fn write_unflushed<R: Read, W: Write>(
     alloc: Global,
     reader: &mut R,
@@ -69,7 +71,7 @@ fn write_for_header<R: Read, W: Write>(
     }
 }
 
-// Writes the script that makes the whole move from an opening, if it has no more lines than these.
+// Writes the script that performs the whole move from `opening`, if it has at most `room` lines.
 fn write_from<W: Write>(
     alloc: Global,
     opening: Opening,
@@ -88,7 +90,7 @@ fn write_from<W: Write>(
     }
 }
 
-// The script that makes the whole move from an opening. It has no more lines than these.
+// Returns the script that performs the whole move from `opening`, in at most `room` lines.
 fn script_of(alloc: Global, opening: Opening, room: u64) -> Result<Vec<u8>, NoScript>
     ensures { IfOk result (λ text. IsScriptOf opening text.items) }
 {
@@ -106,7 +108,7 @@ fn script_of(alloc: Global, opening: Opening, room: u64) -> Result<Vec<u8>, NoSc
     }
 }
 
-// Writes the number of a fault, which is all that is written.
+// Writes the number of a fault, and nothing else.
 fn end_by<W: Write>(writer: &mut W, located: LocatedFault) -> Result<Ending, WriteFault>
     ensures { IfOk result (EndsAtFault located (W.contents writer.old) (W.contents writer.new)) }
 {

@@ -8,7 +8,8 @@ use crate::move_step::MoveStep;
 use crate::moves::{Moves, MovingSegment};
 use sq_model::Answer;
 
-/// Makes all steps of a move: each partition prepares, the leader starts the move, and stage by stage each segment moves.
+/// Executes all steps of a move: each partition prepares, the leader starts the move, stage by
+/// stage each segment moves, and the leader ends the move.
 pub(crate) fn make_all(draft: &mut Draft, moves: &Moves) -> Result<(), NoScript>
     ensures { OnOk result (DraftGoesOn draft.old draft.new) }
 {
@@ -19,7 +20,7 @@ pub(crate) fn make_all(draft: &mut Draft, moves: &Moves) -> Result<(), NoScript>
     Ok(())
 }
 
-// Each partition prepares.
+// Prepares each partition.
 fn prepare(draft: &mut Draft, parts: u64) -> Result<(), NoScript>
     ensures { OnOk result (DraftGoesOn draft.old draft.new) }
 {
@@ -29,7 +30,7 @@ fn prepare(draft: &mut Draft, parts: u64) -> Result<(), NoScript>
     Ok(())
 }
 
-// Makes the steps of all stages.
+// Executes the steps of all stages.
 fn make_stages(draft: &mut Draft, moves: &Moves) -> Result<(), NoScript>
     ensures { OnOk result (DraftGoesOn draft.old draft.new) }
 {
@@ -39,7 +40,7 @@ fn make_stages(draft: &mut Draft, moves: &Moves) -> Result<(), NoScript>
     Ok(())
 }
 
-// Makes the steps of a stage.
+// Executes the steps of `stage`.
 fn make_stage(draft: &mut Draft, moves: &Moves, stage: u64) -> Result<(), NoScript>
     ensures { OnOk result (DraftGoesOn draft.old draft.new) }
 {
@@ -48,7 +49,7 @@ fn make_stage(draft: &mut Draft, moves: &Moves, stage: u64) -> Result<(), NoScri
     report(draft, moves, stage)
 }
 
-// The leader begins a stage, but for the first, which begins with the move.
+// Enters `stage`, unless it is the first, which begins with the move.
 fn begin_stage(draft: &mut Draft, stage: u64) -> Result<(), NoScript>
     ensures { OnOk result (DraftGoesOn draft.old draft.new) }
 {
@@ -67,7 +68,7 @@ fn move_segments(draft: &mut Draft, moves: &Moves, stage: u64) -> Result<(), NoS
     Ok(())
 }
 
-// Moves a segment, if it is of this stage.
+// Moves a segment, if it moves in `stage`.
 fn move_in_stage(draft: &mut Draft, moving: MovingSegment, stage: u64) -> Result<(), NoScript>
     ensures { OnOk result (DraftGoesOn draft.old draft.new) }
 {
@@ -77,7 +78,7 @@ fn move_in_stage(draft: &mut Draft, moving: MovingSegment, stage: u64) -> Result
     Ok(())
 }
 
-// Each partition to which rows came in a stage reports it.
+// Reports for each partition that rows moved to in `stage`.
 fn report(draft: &mut Draft, moves: &Moves, stage: u64) -> Result<(), NoScript>
     ensures { OnOk result (DraftGoesOn draft.old draft.new) }
 {
@@ -87,7 +88,7 @@ fn report(draft: &mut Draft, moves: &Moves, stage: u64) -> Result<(), NoScript>
     Ok(())
 }
 
-// A partition reports, if rows came to it in this stage.
+// Reports for `part`, if rows moved to it in `stage`.
 fn report_from(draft: &mut Draft, moves: &Moves, stage: u64, part: u64) -> Result<(), NoScript>
     ensures { OnOk result (DraftGoesOn draft.old draft.new) }
 {
@@ -115,7 +116,7 @@ fn move_chunks(draft: &mut Draft, moving: MovingSegment) -> Result<(), NoScript>
     Ok(())
 }
 
-// Moves the next chunk of a segment. Gives whether another one follows.
+// Moves the next chunk of a segment. Returns true if another one follows.
 fn move_chunk(draft: &mut Draft, moving: MovingSegment) -> Result<bool, NoScript>
     ensures goes_on { OnOk result (DraftGoesOn draft.old draft.new) }
     ensures room { OnOk result (draft.new.room < draft.old.room) }
@@ -128,7 +129,7 @@ fn move_chunk(draft: &mut Draft, moving: MovingSegment) -> Result<bool, NoScript
     Ok(is_followed(&cut))
 }
 
-// Whether a chunk was cut behind which others follow.
+// Returns true if other chunks follow the one that was `cut`.
 fn is_followed(cut: &Answer) -> bool {
     match cut {
         Answer::WasCut { note, .. } => !note.last,

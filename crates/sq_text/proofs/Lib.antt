@@ -1,5 +1,6 @@
 pub mod Splits
 pub mod DigitRun
+pub mod NumberRun
 pub mod Onto
 pub mod HexRun
 pub mod Shrinks

@@ -1,4 +1,4 @@
--- What a reader answers, against what is there to be read, and the number of its fault.
+-- What a reader answers, compared with what can be read, and the number of its fault.
 use Rattle.std.specs.Prelude.{◌≡◌, ℕ, Option, Some, None, Result, Ok, Err}
 use Rattle.sq_schema.specs.Fault.{memory_number, txn_fault_number}
 use Rattle.sq_text.specs.declared.fault.Malformed.{Malformed}
@@ -25,7 +25,7 @@ line_fault_number lines.TooLong = 231
 line_fault_number (lines.Txn fault) = txn_fault_number fault
 line_fault_number lines.Memory = memory_number
 
--- the step that is wanted, or why there is none, unless memory ran out
+-- the wanted step or its fault, unless memory ran out
 abbrev pub IsStep : {A : Type 0} → Result A LineFault → Result A LineFault → Type 0
 IsStep (Err lines.Memory) wanted = Unit {0}
 IsStep read wanted = read ≡ wanted

@@ -1,4 +1,4 @@
--- The fields of a line, each read from the front of the words: what it is, and the words after it.
+-- The fields of a line, each read from the front of the words: its value, and the words after it.
 use Rattle.std.specs.Prelude.{ℕ, ℤ, ◌^◌, nat_lt, if◌then◌else◌, List, [], ◌∷◌, Option, Some, None, option_map}
 use Rattle.sq_schema.specs.RowKey.{RowKey}
 use Rattle.sq_schema.specs.Values.{RowValue}
@@ -6,7 +6,7 @@ use Rattle.sq_text.specs.Words.{Word, ◌>>=◌}
 use Rattle.sq_text.specs.Numbers.{unsigned_in, signed_in}
 use Rattle.sq_text.specs.Notes.{note_in}
 
--- the next word, as this reads it
+-- the next word, read so
 abbrev pub word_field : {A : Type 0} → (Word → Option A) → List Word → Option (A × List Word)
 word_field read [] = None
 word_field read (word ∷ words) = option_map (λ x. (x, words)) (read word)
@@ -23,7 +23,7 @@ signed_field words = word_field signed_in words
 abbrev pub note_field : List Word → Option (List ℕ × List Word)
 note_field words = word_field note_in words
 
--- the next word, a number below this
+-- the next word, a number below this bound
 abbrev pub number_below : ℕ → List Word → Option (ℕ × List Word)
 number_below end words = do
   number ← number_field words
@@ -43,7 +43,7 @@ row_field words = do
   note ← note_field number.1
   Some (record { number = number.0; note = note.0 }, note.1)
 
--- what was read, where no word is left
+-- the value read, if no word is left
 abbrev pub value_at_end : {A : Type 0} → Option (A × List Word) → Option A
 value_at_end None = None
 value_at_end (Some (x, [])) = Some x

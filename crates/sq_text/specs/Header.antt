@@ -25,7 +25,8 @@ use Rattle.sq_lines.specs.Coming.{LinesValue}
 use Rattle.sq_text.specs.Located.{at_line, line_number, of_opening}
 use Rattle.sq_text.specs.HeaderFields.{config_in, given_in}
 
--- the bytes of a line of the header, or why it is none: it has too many bytes, or no end, or a read failed
+-- the bytes of a line of the header, or why it is refused: it has too many bytes, or no end, or a
+-- read failed
 abbrev pub line_in : PieceValue → Result (List ℕ) InputFault
 line_in (Line number bytes) = if nat_lt MAX_LINE (length bytes) then Err LineTooLong else Ok bytes
 line_in (Rest number bytes) = if nat_lt MAX_LINE (length bytes) then Err LineTooLong else Err BadHeader
@@ -40,23 +41,23 @@ next_line (piece ∷ pieces) = do
   line ← line_in piece
   Ok (line, pieces)
 
--- the next line, as this reads it, and what comes after it
+-- the next line, read so, and what comes after it
 abbrev pub line_as : {A : Type 0} → (List ℕ → Result A InputFault) → List PieceValue → Result (A × List PieceValue) InputFault
 line_as read pieces = do
   line ← next_line pieces
   value ← read line.0
   Ok (value, line.1)
 
--- what is behind this front, with which the bytes begin
+-- the bytes after this front, which they begin with
 abbrev pub behind : List ℕ → List ℕ → Result (List ℕ) InputFault
 behind front bytes = if starts_with nat_eq bytes front then Ok (drop (length front) bytes) else Err BadHeader
 
--- a plan, or why there is none
+-- a plan, or why it is refused
 abbrev pub plan_told : Result PlanValue PlanFault → Result PlanValue InputFault
 plan_told (Ok plan) = Ok plan
 plan_told (Err fault) = Err (Plan fault)
 
--- the plan of a line that begins so
+-- the plan of a line that begins with this front
 abbrev pub plan_behind : List ℕ → List ℕ → Result PlanValue InputFault
 plan_behind front line = do
   text ← behind front line
@@ -82,8 +83,8 @@ first_lines pieces = do
   config ← at_line line.Config (line_as config_of new.1)
   Ok (record { old = old.0; new = new.0; config = config.0 }, config.1)
 
--- the answer, seen by view, is this, with what comes after it left to be read; or it is the first fault, unless memory ran
--- out
+-- the answer, seen by view, is this, with what comes after it left to be read; or it is the first
+-- fault, unless memory ran out
 abbrev pub IsReadBefore : {X Y : Type 0} → (X → Y) → Result X LocatedFault → List PieceValue
     → Result (Y × List PieceValue) LocatedFault → Type 0
 IsReadBefore view (Ok x) left wanted = wanted ≡ Ok (view x, left)
@@ -101,7 +102,7 @@ pub record HeaderValue : Type 0 where
   pub config : Config
   pub rows : RowTable
 
--- why the plans and the sizes of the first lines make no opening
+-- why the plans and the sizes of the first lines are refused
 abbrev pub plans_fault : FirstLines → Option OpeningFault
 plans_fault first = config_fault first.old first.new first.config
 
@@ -109,7 +110,8 @@ plans_fault first = config_fault first.old first.new first.config
 abbrev pub header_of_first : FirstLines → HeaderValue
 header_of_first first = record { old = first.old; new = first.new; config = first.config; rows = no_rows }
 
--- the header without rows that pieces begin with, and what comes after its three lines; plans and sizes with a fault end it
+-- the header without rows that pieces begin with, and what comes after its three lines; a fault of
+-- plans or sizes ends it
 abbrev pub plans_of : List PieceValue → Result (HeaderValue × List PieceValue) LocatedFault
 plans_of pieces = do
   first ← first_lines pieces
@@ -121,8 +123,8 @@ row_taken tables table at pieces = do
   row ← at_line (line.Row at) (line_as given_of pieces)
   unless_faulty (given_fault tables table at row.0) (with_one table row.0, row.1)
 
--- as long as lines begin as a row's line does, their rows are taken one after another, numbered from this on; the first that
--- isn't taken ends it
+-- as long as lines begin as a row's line does, their rows are taken one after another, numbered
+-- from this on; the first that is refused ends it
 abbrev pub rows_taken : ℕ → RowTable → ℕ → List PieceValue → Result (RowTable × List PieceValue) LocatedFault
 rows_taken tables table at [] = Ok (table, [])
 rows_taken tables table at (piece ∷ pieces) =
@@ -130,30 +132,31 @@ rows_taken tables table at (piece ∷ pieces) =
     then (row_taken tables table at (piece ∷ pieces) >>= (λ taken. rows_taken tables taken.0 (at + 1) pieces))
     else Ok (table, piece ∷ pieces)
 
--- the header that pieces begin with, and what comes after it: the plans and the sizes, and then row by row
+-- the header that pieces begin with, and what comes after it: the plans and the sizes, and then row
+-- by row
 abbrev pub header_of : ℕ → List PieceValue → Result (HeaderValue × List PieceValue) LocatedFault
 header_of tables pieces = do
   plans ← plans_of pieces
   rows ← rows_taken tables plans.0.rows 0 plans.1
   Ok (record plans.0 { rows = rows.0 }, rows.1)
 
--- what a header spells where this is its opening
+-- the header of this opening
 abbrev pub header_in : OpeningValue → HeaderValue
 header_in o = record { old = o.old; new = o.new; config = o.config; rows = rows_in o.table }
 
--- the opening of what is spelled, for this many tables, with what comes after that left to be read
+-- the opening that is spelled, for this many tables, with what comes after it left to be read
 pub record IsSpelledOpening (tables : ℕ) (o : OpeningValue) (left : List PieceValue)
     (wanted : Result (HeaderValue × List PieceValue) LocatedFault) : Type 0 where
   pub spelled : wanted ≡ Ok (header_in o, left)
   pub tables_are : o.tables ≡ tables
   pub moves : o.recon ≡ recon_of o.old o.new o.config.width
 
--- the answer is the opening of what is spelled, or else the first fault, unless memory ran out
+-- the answer is the opening that is spelled, or else the first fault, unless memory ran out
 abbrev pub Opens : ℕ → Result OpeningValue LocatedFault → List PieceValue
     → Result (HeaderValue × List PieceValue) LocatedFault → Type 0
 Opens tables (Ok opening) left wanted = IsSpelledOpening tables opening left wanted
 Opens tables (Err refused) left wanted = refused.fault ≢ Memory → wanted ≡ Err refused
 
--- no line behind the one that a fault belongs to was taken
+-- no line after the one of the fault was taken
 abbrev pub StopsAt : LocatedFault → LinesValue → LinesValue → Type 0
 StopsAt refused old new = IfSome refused.line (λ at. old.lines_left ≤ new.lines_left + line_number at)

@@ -1,4 +1,4 @@
--- Why an input gives no run, and what a reader of its header answers.
+-- Why an input can't be run, and what a reader of its header answers.
 use Rattle.std.specs.Prelude.{◌≡◌, ◌≢◌, ℕ, Result, Ok, Err}
 use Rattle.sq_plan.specs.Fault.{plan_fault_number}
 use Rattle.sq_ranges.specs.Fault.{opening_fault_number}

@@ -1,4 +1,4 @@
--- A note as a word spells it: - for no byte, or two lower-case hexadecimal digits a byte.
+-- A note as a word spells it: - for no byte, or two lower-case hexadecimal digits for each byte.
 use Rattle.std.specs.Prelude.{ℕ, ◌+◌, ◌-◌, ◌*◌, ◌==◌, ◌&&◌, nat_le, if◌then◌else◌, List, [], ◌∷◌, length, Option, Some, None}
 use Rattle.std.specs.Char.{is_ascii_digit}
 use Rattle.sq_text.specs.Words.{Word, ◌>>=◌}

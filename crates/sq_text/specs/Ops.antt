@@ -9,8 +9,8 @@ use Rattle.sq_text.specs.Words.{Word, ◌>>=◌}
 use Rattle.sq_text.specs.Fields.{word_field, key_field, signed_field, row_field}
 use Rattle.sq_text.specs.Verbs.{op_name_in}
 
--- the operation of this name on a key, as the words behind the key continue: get T S, put T S N NOTE, add T S N, del T
--- S, check T S N
+-- the operation of this name on a key, as the words after the key continue: get T S, put T S N
+-- NOTE, add T S N, del T S, check T S N
 abbrev pub op_at_key : OpName → RowKey → List Word → Option (Op × List Word)
 op_at_key Get key words = Some (op.Get key, words)
 op_at_key Put key words = do

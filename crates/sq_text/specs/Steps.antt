@@ -29,7 +29,7 @@ pull_field words = do
   pull ← number_below (2 ^ 32) at.1
   Some ((at.0.0, at.0.1, pull.0), pull.1)
 
--- the step that is made of what words spell
+-- the step made of what words spell
 abbrev pub step_of_field : {A : Type 0} → (List Word → Option (A × List Word)) → (A → Step) → List Word
     → Option (Step × List Word)
 step_of_field field made words = do
@@ -55,13 +55,13 @@ step_with Finish words = Some (step.Finish, words)
 step_with Fold words = step_of_field number_field (λ part. step.Fold part) words
 step_with Status words = step_of_field pair_field (λ at. step.Status at.0 at.1) words
 
--- the step of a line that begins with a verb, and has no word past the step's
+-- the step of a line that begins with a verb, with no word after the step's
 abbrev pub verb_step : Word → List Word → Option Step
 verb_step first words = do
   verb ← verb_in first
   value_at_end (step_with verb words)
 
--- a transaction as its line spells it: a partition, an id, a root key, and operations
+-- a transaction's line: a partition, an id, a root key, and operations
 pub record TxnLine : Type 0 where
   pub part : ℕ
   pub id : ℕ
@@ -85,7 +85,7 @@ abbrev pub submit_unless : Option TxnFault → TxnLine → Result Step LineFault
 submit_unless None txn = Ok (step.Submit txn.part (record { id = txn.id; root = txn.root; ops = txn.ops }))
 submit_unless (Some fault) txn = Err (Txn fault)
 
--- the transaction is submitted, unless no schema of this many tables has it
+-- the transaction is submitted, unless a schema of this many tables refuses it
 abbrev pub txn_step : ℕ → Option TxnLine → Result Step LineFault
 txn_step tables None = Err NotAStep
 txn_step tables (Some txn) = submit_unless (txn_fault tables txn.root txn.ops) txn
@@ -101,6 +101,6 @@ abbrev pub begins_txn : List Word → Bool
 begins_txn [] = false
 begins_txn (first ∷ words) = bytes_eq first (codes "txn")
 
--- the step that a line spells, where the schema has this many tables
+-- the step that a line spells, if the schema has this many tables
 abbrev pub step_of : ℕ → List ℕ → Result Step LineFault
 step_of tables line = if nat_lt MAX_LINE (length line) then Err TooLong else step_in tables (words_of line)

@@ -34,7 +34,7 @@ line words = join_with_byte 32 words ++ 10 ∷ []
 abbrev pub hex_byte_text : ℕ → List ℕ
 hex_byte_text byte = digit_glyph false (byte / 16) ∷ digit_glyph false (byte % 16) ∷ []
 
--- - for no byte, or two digits a byte
+-- - for no byte, or two digits for each byte
 abbrev pub note_text : List ℕ → List ℕ
 note_text [] = codes "-"
 note_text (byte ∷ bytes) = flat_map hex_byte_text (byte ∷ bytes)
@@ -43,14 +43,14 @@ note_text (byte ∷ bytes) = flat_map hex_byte_text (byte ∷ bytes)
 abbrev pub row_text : RowValue → List ℕ
 row_text row = signed_decimal row.number ++ (47 ∷ note_text row.note)
 
--- what an operation is answered: a row, none, the new number, or ok
+-- the answer of an operation: a row, none, the new number, or ok
 abbrev pub op_answer_text : OpAnswer → List ℕ
 op_answer_text (Found None) = codes "none"
 op_answer_text (Found (Some row)) = row_text row
 op_answer_text (Number n) = signed_decimal n
 op_answer_text Done = codes "ok"
 
--- whether what an operation is answered has a note
+-- whether the answer of an operation has a note
 abbrev pub has_note : OpAnswer → Bool
 has_note (Found None) = false
 has_note (Found (Some row)) = not (length row.note == 0)
@@ -76,7 +76,7 @@ fault_line number = line (codes "fault" ∷ decimal number ∷ [])
 abbrev pub commit_words : ℕ → List OpAnswer → List Word
 commit_words id answers = codes "commit" ∷ decimal id ∷ map op_answer_text answers
 
--- the words of what a transaction is answered
+-- the words of the reply to a transaction
 abbrev pub reply_words : ℕ → Reply → List Word
 reply_words id (Committed answers) = commit_words id answers
 reply_words id (Aborted at cause) = codes "abort" ∷ decimal id ∷ decimal at ∷ cause_text cause ∷ []
@@ -86,13 +86,13 @@ abbrev pub mark_text : Bool → List ℕ
 mark_text true = codes "last"
 mark_text false = codes "more"
 
--- what a note says behind its link, and how many families its chunk holds
+-- a note after its link, and how many families its chunk holds
 abbrev pub note_words : Note → ℕ → List Word
 note_words note families =
     decimal note.number ∷ decimal note.seg ∷ decimal note.node ∷ decimal note.lo ∷ decimal note.hi
     ∷ mark_text note.last ∷ decimal families ∷ []
 
--- the status of a node, with the pull that has the node
+-- the status of a node, with its pull
 abbrev pub status_text : Status → List ℕ
 status_text status.Free = codes "free"
 status_text status.Split = codes "split"
@@ -100,13 +100,13 @@ status_text (status.Claimed pull) = codes "claimed " ++ decimal pull
 status_text (status.Partial pull) = codes "partial " ++ decimal pull
 status_text (status.Complete pull) = codes "complete " ++ decimal pull
 
--- what a node reads as
+-- the reading of a node
 abbrev pub reading_text : Reading → List ℕ
 reading_text reading.NotStarted = codes "not-started"
 reading_text reading.Partial = codes "partial"
 reading_text reading.Complete = codes "complete"
 
--- a node's status, and what the node reads as
+-- a node's status and its reading
 abbrev pub node_words : Status → Reading → List Word
 node_words status reading = codes "is" ∷ status_text status ∷ reading_text reading ∷ []
 
@@ -121,7 +121,7 @@ answer_words (answer.WasLoaded note families) = codes "load" ∷ note_words note
 answer_words (answer.Reads status reading) = node_words status reading
 answer_words (answer.Refused refusal) = codes "refused" ∷ decimal (refusal_number refusal) ∷ []
 
--- the line that a step is answered
+-- the line that answers a step
 abbrev pub answer_line : Answer → List ℕ
 answer_line answer = line (answer_words answer)
 
@@ -152,13 +152,13 @@ at_line part family = line (codes "at" ∷ decimal part ∷ family_words family)
 abbrev pub in_line : FamilyValue → List ℕ
 in_line family = line (codes "in" ∷ family_words family)
 
--- a chunk that was cut and isn't loaded, and its families
+-- a chunk that was cut and isn't loaded yet, and its families
 abbrev pub way_lines : ChunkValue → List ℕ
 way_lines chunk =
     line (codes "way" ∷ decimal chunk.note.src ∷ decimal chunk.note.dst ∷ note_words chunk.note (length chunk.families))
     ++ flat_map in_line chunk.families
 
--- where keys lie, and where they move
+-- the keys of a range, and the partitions that they leave and move to
 abbrev pub move_words : MovingRange → List Word
 move_words range = decimal range.lo ∷ decimal range.hi ∷ decimal range.src ∷ decimal range.dst ∷ []
 
@@ -166,7 +166,7 @@ move_words range = decimal range.lo ∷ decimal range.hi ∷ decimal range.src �
 abbrev pub range_line : MovingRange → List ℕ
 range_line range = line (codes "range" ∷ move_words range)
 
--- the stage of a segment, where there is more than one
+-- the stage of a segment, if there are several
 abbrev pub told_stage : ReconValue → MovingRange → Option ℕ
 told_stage recon segment = if nat_lt 1 (stages recon) then Some (stage_in recon segment) else None
 
@@ -174,11 +174,11 @@ abbrev pub stage_words : Option ℕ → List Word
 stage_words None = []
 stage_words (Some stage) = codes "stage" ∷ decimal stage ∷ []
 
--- a segment of this number, with its stage where there is more than one
+-- a segment with this number, with its stage if there are several
 abbrev pub segment_line : ℕ → MovingRange → Option ℕ → List ℕ
 segment_line seg segment stage = line (codes "segment" ∷ decimal seg ∷ move_words segment ++ stage_words stage)
 
--- segments that are numbered from here on
+-- segments, numbered from this on
 abbrev pub segment_lines : ReconValue → ℕ → List MovingRange → List ℕ
 segment_lines recon first [] = []
 segment_lines recon first (segment ∷ segments) =

@@ -6,7 +6,7 @@ use Rattle.sq_text.specs.declared.verb.Verb.TheVariants.{Prepare, Start, Resume,
 use Rattle.sq_text.specs.declared.verb.OpName.{OpName}
 use Rattle.sq_text.specs.declared.verb.OpName.TheVariants.{Get, Put, Add, Del, Check}
 
--- the word that asks for a step
+-- the word of a verb
 abbrev pub verb_word : Verb → Word
 verb_word Prepare = codes "prepare"
 verb_word Start = codes "start"
@@ -25,7 +25,7 @@ verb_word Finish = codes "finish"
 verb_word Fold = codes "fold"
 verb_word Status = codes "status"
 
--- the step that a line with this first word asks for
+-- the verb of this word
 unfoldable pub verb_in : Word → Option Verb
 verb_in word =
     find (λ verb. bytes_eq (verb_word verb) word)

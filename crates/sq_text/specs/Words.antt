@@ -10,7 +10,8 @@ Word = List ℕ
 abbrev pub split_by : ℕ → List ℕ → List (List ℕ)
 split_by at bytes = slice_split (λ byte. byte == at) bytes
 
--- a line split at its spaces; two spaces in a row have an empty word between them, a space at an end has one beyond it
+-- a line split at its spaces; between two adjacent spaces there is an empty word, as there is
+-- before a leading and after a trailing space
 abbrev pub words_of : List ℕ → List Word
 words_of line = split_by 32 line
 

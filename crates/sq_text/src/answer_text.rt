@@ -1,4 +1,4 @@
-// The lines that steps are answered.
+// Writes the answer lines of steps.
 ghost use Rattle.std.specs.Prelude.{◌≡◌, ◌≤◌, ◌+◌, ◌∷◌, ◌++◌, [], false, length, decimal, OnOk};
 ghost use Rattle.std.specs.List.{flat_map, join_with_byte};
 ghost use Rattle.std.specs.Io.KnownBytes.{Appends};
@@ -30,7 +30,7 @@ fn cause_text(cause: Cause) -> &'static [u8]
     }
 }
 
-// Writes what operations are answered, each behind a space.
+// Writes each of `answers`, with a space before each.
 fn write_op_answers<W: Write>(writer: &mut W, answers: &[OpAnswer]) -> Result<(), WriteFault>
     ensures { OnOk result (Appends (W.contents writer.old) (W.contents writer.new)
         (flat_map (λ answer. 32 ∷ op_answer_text answer) answers.now)) }
@@ -41,7 +41,7 @@ fn write_op_answers<W: Write>(writer: &mut W, answers: &[OpAnswer]) -> Result<()
     Ok(())
 }
 
-// Writes the line of a commit of one operation, whose answer has no note.
+// Writes the line of a commit whose only operation has an answer without a note.
 fn write_short_commit<W: Write>(
     writer: &mut W,
     id: u64,
@@ -60,7 +60,7 @@ fn write_short_commit<W: Write>(
     write_bytes(writer, text.as_bytes())
 }
 
-// Writes the line of a commit.
+// Writes the line of a committed transaction: `id` and its operations' `answers`.
 fn write_commit<W: Write>(writer: &mut W, id: u64, answers: &[OpAnswer]) -> Result<(), WriteFault>
     ensures { OnOk result (Appends (W.contents writer.old) (W.contents writer.new)
         (line (commit_words id answers.now))) }
@@ -78,7 +78,8 @@ fn write_commit<W: Write>(writer: &mut W, id: u64, answers: &[OpAnswer]) -> Resu
     }
 }
 
-// Writes the line of an abort.
+// Writes the line of an aborted transaction: `id`, the position `at` of the operation that aborted
+// it, and `cause`.
 fn write_abort<W: Write>(writer: &mut W, id: u64, at: usize, cause: Cause) -> Result<(), WriteFault>
     ensures { OnOk result (Appends (W.contents writer.old) (W.contents writer.new)
         (line (reply_words id (Aborted at cause)))) }
@@ -94,7 +95,7 @@ fn write_abort<W: Write>(writer: &mut W, id: u64, at: usize, cause: Cause) -> Re
     write_bytes(writer, text.as_bytes())
 }
 
-// Writes the line of what a transaction is answered.
+// Writes the line of a transaction's `reply`.
 fn write_reply<W: Write>(writer: &mut W, id: u64, reply: &Reply) -> Result<(), WriteFault>
     ensures { OnOk result (Appends (W.contents writer.old) (W.contents writer.new)
         (line (reply_words id reply.now))) }
@@ -105,7 +106,7 @@ fn write_reply<W: Write>(writer: &mut W, id: u64, reply: &Reply) -> Result<(), W
     }
 }
 
-// Whether a chunk is its node's last, between two spaces.
+// Returns ` last ` for a chunk that is its node's last, otherwise ` more `.
 fn mark_text(last: bool) -> &'static [u8]
     ensures text { result.now ≡ 32 ∷ mark_text last ++ 32 ∷ [] }
     ensures size { length result.now ≡ 6 }
@@ -113,7 +114,8 @@ fn mark_text(last: bool) -> &'static [u8]
     if last { b" last " } else { b" more " }
 }
 
-// Puts together what a note says behind its link, with how many families its chunk holds, up to the end of the line.
+// Puts the rest of a note's line, after its link, into the empty `text`; `families` counts those of
+// its chunk.
 pub(crate) fn put_note(text: &mut Text, note: &Note, families: u64)
     requires { text.old ≡ [] }
     ensures text { text.new ≡ line (note_words note.now families) }
@@ -133,7 +135,7 @@ pub(crate) fn put_note(text: &mut Text, note: &Note, families: u64)
     text.put_number(note.number);
 }
 
-// Writes what a note says behind a first word, which comes with its space.
+// Writes the line of `note` after `front`, its first word with a space.
 fn write_note<W: Write>(
     writer: &mut W,
     front: &[u8],
@@ -150,7 +152,7 @@ fn write_note<W: Write>(
     write_bytes(writer, text.as_bytes())
 }
 
-// Puts a word, which comes with its space, and the number of a pull at the front of a text.
+// Puts `front`, a word with its space, and the number `pull` before `text`.
 fn put_pull(text: &mut TextOf<64>, front: &[u8], pull: u32)
     requires { length front.now + length text.old ≤ 44 }
     ensures text { text.new ≡ front.now ++ (decimal pull ++ text.old) }
@@ -160,7 +162,7 @@ fn put_pull(text: &mut TextOf<64>, front: &[u8], pull: u32)
     text.put(front);
 }
 
-// Puts the status of a node at the front of a text.
+// Puts a node's `status` before `text`.
 fn put_status(text: &mut TextOf<64>, status: Status)
     requires { length text.old ≤ 35 }
     ensures text { text.new ≡ status_text status ++ text.old }
@@ -186,7 +188,7 @@ fn reading_text(reading: Reading) -> &'static [u8]
     }
 }
 
-// Writes the line of a node's status and of what the node reads as.
+// Writes the line of a node: its `status` and its `reading`.
 fn write_node<W: Write>(writer: &mut W, status: Status, reading: Reading) -> Result<(), WriteFault>
     ensures { OnOk result (Appends (W.contents writer.old) (W.contents writer.new)
         (line (node_words status reading))) }
@@ -200,7 +202,7 @@ fn write_node<W: Write>(writer: &mut W, status: Status, reading: Reading) -> Res
     write_bytes(writer, text.as_bytes())
 }
 
-// Writes the line of a transaction that is sent on.
+// Writes the line of transaction `id`, which is forwarded to partition `to`.
 fn write_moved<W: Write>(writer: &mut W, id: u64, to: PartId) -> Result<(), WriteFault>
     ensures { OnOk result (Appends (W.contents writer.old) (W.contents writer.new)
         (answer_line (Moved id to))) }
@@ -214,7 +216,7 @@ fn write_moved<W: Write>(writer: &mut W, id: u64, to: PartId) -> Result<(), Writ
     write_bytes(writer, text.as_bytes())
 }
 
-// Writes the line of a transaction that waits.
+// Writes the line of transaction `id`, which waits for `leaf` of segment `seg`.
 fn write_waits<W: Write>(writer: &mut W, id: u64, seg: SegId, leaf: Leaf) -> Result<(), WriteFault>
     ensures { OnOk result (Appends (W.contents writer.old) (W.contents writer.new)
         (answer_line (Waits id seg leaf))) }
@@ -230,7 +232,7 @@ fn write_waits<W: Write>(writer: &mut W, id: u64, seg: SegId, leaf: Leaf) -> Res
     write_bytes(writer, text.as_bytes())
 }
 
-/// Writes the line that a step is answered. An error is a write that failed.
+/// Writes the line that answers a step. Fails if a write fails.
 pub fn write_answer<W: Write>(writer: &mut W, answer: &Answer) -> Result<(), WriteFault>
     ensures { OnOk result (Appends (W.contents writer.old) (W.contents writer.new)
         (answer_line answer.now)) }
@@ -248,7 +250,7 @@ pub fn write_answer<W: Write>(writer: &mut W, answer: &Answer) -> Result<(), Wri
     }
 }
 
-/// Writes the line of a refusal with this number. An error is a write that failed.
+/// Writes the line of the refusal with this `number`. Fails if a write fails.
 #[inline(always)]
 pub fn write_refused<W: Write>(writer: &mut W, number: u16) -> Result<(), WriteFault>
     ensures { OnOk result (Appends (W.contents writer.old) (W.contents writer.new)
@@ -261,7 +263,7 @@ pub fn write_refused<W: Write>(writer: &mut W, number: u16) -> Result<(), WriteF
     write_bytes(writer, text.as_bytes())
 }
 
-/// Writes the line of a fault with this number. An error is a write that failed.
+/// Writes the line of the fault with this `number`. Fails if a write fails.
 pub fn write_fault<W: Write>(writer: &mut W, number: u16) -> Result<(), WriteFault>
     ensures { OnOk result (Appends (W.contents writer.old) (W.contents writer.new)
         (fault_line number)) }

@@ -1,4 +1,4 @@
-// The lines of a dump.
+// Writes the lines of a dump.
 ghost use Rattle.std.specs.Prelude.{◌≡◌, ◌≤◌, [], ◌∷◌, ◌++◌, length, decimal, OnOk};
 ghost use Rattle.std.specs.List.{flat_map};
 ghost use Rattle.std.specs.Io.KnownBytes.{Appends};
@@ -26,7 +26,7 @@ fn phase_text(phase: Phase) -> &'static str
     }
 }
 
-/// Writes the first line of a dump. An error is a write that failed.
+/// Writes the first line of a dump: the `phase` that the run ended in. Fails if a write fails.
 pub fn write_end<W: Write>(writer: &mut W, phase: Phase) -> Result<(), WriteFault>
     ensures { OnOk result (Appends (W.contents writer.old) (W.contents writer.new)
         (end_line phase)) }
@@ -36,7 +36,7 @@ pub fn write_end<W: Write>(writer: &mut W, phase: Phase) -> Result<(), WriteFaul
     Ok(())
 }
 
-// Writes rows with their keys, each behind a space.
+// Writes each row with its key, with a space before each.
 fn write_entries<W: Write>(writer: &mut W, entries: RowIter<'_>) -> Result<(), WriteFault>
     ensures { OnOk result (Appends (W.contents writer.old) (W.contents writer.new)
         (flat_map (λ entry. 32 ∷ entry_text entry) entries.entry)) }
@@ -47,7 +47,7 @@ fn write_entries<W: Write>(writer: &mut W, entries: RowIter<'_>) -> Result<(), W
     Ok(())
 }
 
-// Puts together a family's root key and the length of its log.
+// Puts the root key of `family` and the length of its log into the empty `text`.
 fn put_family(text: &mut Text, family: &Family)
     requires { text.old ≡ [] }
     ensures text { text.new ≡ decimal family.now.root ++ (32 ∷ decimal (length family.now.log)) }
@@ -58,7 +58,7 @@ fn put_family(text: &mut Text, family: &Family)
     text.put_number(family.root().number());
 }
 
-// Writes a text, and then the rows of a family up to the end of the line.
+// Writes `text`, then the rows of `family` and the end of the line.
 fn write_before_rows<W: Write>(
     writer: &mut W,
     text: &Text,
@@ -73,7 +73,7 @@ fn write_before_rows<W: Write>(
     write_bytes(writer, b"\n")
 }
 
-/// Writes the line of a family in the store of a partition. An error is a write that failed.
+/// Writes the line of a `family` in the store of partition `part`. Fails if a write fails.
 pub fn write_at<W: Write>(writer: &mut W, part: PartId, family: &Family) -> Result<(), WriteFault>
     ensures { OnOk result (Appends (W.contents writer.old) (W.contents writer.new)
         (at_line part family.now)) }
@@ -86,7 +86,7 @@ pub fn write_at<W: Write>(writer: &mut W, part: PartId, family: &Family) -> Resu
     write_before_rows(writer, &text, family)
 }
 
-// Writes the line of a family in a chunk.
+// Writes the line of a `family` in a chunk.
 fn write_in<W: Write>(writer: &mut W, family: &Family) -> Result<(), WriteFault>
     ensures { OnOk result (Appends (W.contents writer.old) (W.contents writer.new)
         (in_line family.now)) }
@@ -97,8 +97,8 @@ fn write_in<W: Write>(writer: &mut W, family: &Family) -> Result<(), WriteFault>
     write_before_rows(writer, &text, family)
 }
 
-/// Writes the lines of a chunk that was cut and isn't loaded: its note, and then each of its families. An error is a
-/// write that failed.
+/// Writes the lines of a chunk that was cut and isn't loaded yet: its `note`, then each of its
+/// `families`. Fails if a write fails.
 pub fn write_way<W: Write>(
     writer: &mut W,
     note: &Note,

@@ -7,22 +7,22 @@ use sq_schema::{OUT_OF_MEMORY, TxnFault};
 use std::alloc::AllocError;
 use thiserror::Error;
 
-/// Why a line of the script is no step.
+/// Why a line of the script isn't a step.
 #[derive(Clone, Copy, Debug, PartialEq, Eq, Error)]
 #[error("{}", meaning(self.number()))]
 pub enum LineFault {
-    /// 230.
+    /// The line isn't of a step's form (number 230).
     NotAStep,
-    /// 231.
+    /// The line has over [`crate::MAX_LINE`] bytes (number 231).
     TooLong,
-    /// The schema doesn't have the transaction.
+    /// The schema refuses the transaction.
     Txn(TxnFault),
     /// Memory ran out.
     Memory,
 }
 
 impl LineFault {
-    /// The number that a user sees.
+    /// Returns the number that a user sees.
     pub fn number(self) -> u16
         ensures { result ≡ line_fault_number self }
     {
@@ -35,14 +35,14 @@ impl LineFault {
     }
 }
 
-/// Words aren't of the form that was looked for.
+/// The words aren't of the expected form.
 #[derive(Clone, Copy, Debug, PartialEq, Eq)]
 pub(crate) struct Malformed;
 
-/// Why something wasn't read.
+/// Why words weren't read.
 #[derive(Clone, Copy, Debug, PartialEq, Eq)]
 pub(crate) enum ReadFault {
-    /// The words aren't of the form that was looked for.
+    /// The words aren't of the expected form.
     Malformed,
     /// Memory ran out.
     Memory,

@@ -1,4 +1,4 @@
-// The header of an input.
+// Reads the header of an input.
 ghost use Rattle.std.specs.Prelude.{◌≡◌, ◌≤◌, ◌+◌, codes, IfOk, IfErr, IfSome, OnOk};
 ghost use Rattle.sq_schema.specs.Prelude.{rows_in};
 ghost use Rattle.sq_ranges.specs.Prelude.{value_of};
@@ -23,7 +23,7 @@ use sq_schema::{RowKey, Schema};
 use std::alloc::Global;
 use std::io::Read;
 
-// Reads the next line, whose bytes the reader then has.
+// Reads the next line; its bytes are then in `lines`.
 fn next_line<R: Read>(lines: &mut LineReader<R>) -> Result<(), InputFault>
     ensures line { Leaves lines.old lines.new
         (λ all left. IsRead (λ _. (lines.new.piece, left)) result (next_line all)) }
@@ -40,7 +40,7 @@ fn next_line<R: Read>(lines: &mut LineReader<R>) -> Result<(), InputFault>
     }
 }
 
-// The bytes behind a front, with which they begin.
+// Returns the rest of `bytes` after `front`; refused unless they begin with it.
 fn behind<'a>(front: &[u8], bytes: &'a [u8]) -> Result<&'a [u8], InputFault>
     ensures { IsRead (λ text. text.now) result (behind front.now bytes.now) }
 {
@@ -51,7 +51,7 @@ fn behind<'a>(front: &[u8], bytes: &'a [u8]) -> Result<&'a [u8], InputFault>
     }
 }
 
-// The plan of a line that begins so.
+// Reads the plan of a `line` that begins with `front`.
 fn plan(alloc: Global, front: &[u8], line: &[u8]) -> Result<Plan, InputFault>
     ensures { IsReadGivenMemory (λ plan. plan) result (plan_behind front.now line.now) }
 {
@@ -63,7 +63,7 @@ fn plan(alloc: Global, front: &[u8], line: &[u8]) -> Result<Plan, InputFault>
     }
 }
 
-// The plan of the next line, which begins so.
+// Reads the plan of the next line, which begins with `front`.
 fn plan_line<R: Read>(
     alloc: Global,
     front: &[u8],
@@ -78,7 +78,7 @@ fn plan_line<R: Read>(
     plan(alloc, front, lines.piece())
 }
 
-// The sizes that words spell.
+// Reads the sizes from `words`, which hold nothing else.
 #[tactic(auto, unfolding(crate::specs::HeaderFields::config_in))]
 fn config(mut words: Words<'_>) -> Result<Config, Malformed>
     ensures { IsParsed (λ config. config) result (config_in words.entry) }
@@ -96,7 +96,7 @@ fn config(mut words: Words<'_>) -> Result<Config, Malformed>
     }
 }
 
-// The sizes of a line.
+// Reads the sizes of a `config` line.
 fn sizes(line: &[u8]) -> Result<Config, InputFault>
     ensures { IsRead (λ config. config) result (config_of line.now) }
 {
@@ -104,7 +104,7 @@ fn sizes(line: &[u8]) -> Result<Config, InputFault>
     config(Words::of(text)).map_err(|_| InputFault::BadHeader)
 }
 
-// The sizes of the next line.
+// Reads the sizes of the next line.
 fn config_line<R: Read>(lines: &mut LineReader<R>) -> Result<Config, InputFault>
     ensures config { Leaves lines.old lines.new
         (λ all left. IsReadGivenMemory (λ config. (config, left)) result (line_as config_of all)) }
@@ -114,7 +114,7 @@ fn config_line<R: Read>(lines: &mut LineReader<R>) -> Result<Config, InputFault>
     sizes(lines.piece())
 }
 
-// The opening row that words spell.
+// Reads an opening row from `words`, which hold nothing else.
 #[tactic(auto, unfolding(crate::specs::HeaderFields::given_in))]
 fn given(alloc: Global, mut words: Words<'_>) -> Result<GivenRow, ReadFault>
     ensures { IsParsedGivenMemory value_of result (given_in words.entry) }
@@ -136,7 +136,7 @@ fn given(alloc: Global, mut words: Words<'_>) -> Result<GivenRow, ReadFault>
     }
 }
 
-// The opening row of a line.
+// Reads the opening row of a `row` line.
 fn row(alloc: Global, line: &[u8]) -> Result<GivenRow, InputFault>
     ensures { IsReadGivenMemory value_of result (given_of line.now) }
 {
@@ -148,7 +148,7 @@ fn row(alloc: Global, line: &[u8]) -> Result<GivenRow, InputFault>
     }
 }
 
-// The opening row of the next line.
+// Reads the opening row of the next line.
 fn row_line<R: Read>(alloc: Global, lines: &mut LineReader<R>) -> Result<GivenRow, InputFault>
     ensures row { Leaves lines.old lines.new
         (λ all left. IsReadGivenMemory (λ row. (value_of row, left)) result
@@ -160,7 +160,7 @@ fn row_line<R: Read>(alloc: Global, lines: &mut LineReader<R>) -> Result<GivenRo
     row(alloc, lines.piece())
 }
 
-/// What the first three lines of an input spell.
+/// The plans and sizes of an input's first three lines.
 #[derive(Drop)]
 struct FirstLines {
     old: Plan,
@@ -168,7 +168,7 @@ struct FirstLines {
     config: Config,
 }
 
-// The plans and the sizes of the first three lines.
+// Reads the plans and sizes of the first three lines.
 fn first_lines<R: Read>(
     alloc: Global,
     lines: &mut LineReader<R>,
@@ -192,7 +192,7 @@ fn first_lines<R: Read>(
     }
 }
 
-// Takes the row of the next line, which has this number, into an opening.
+// Adds the row of the next line to `opening`; `at` is its number, from 0.
 fn take_row<R: Read>(
     alloc: Global,
     lines: &mut LineReader<R>,
@@ -219,9 +219,10 @@ fn take_row<R: Read>(
     Ok(())
 }
 
-/// Takes the rows of the next lines into an opening, one after another, as long as lines begin with `row `. A refusal is the
-/// first fault of a row, as [`read_header`] has them; it counts the rows from the first that is taken here. The rows before it
-/// are in the opening. [`InputFault::Memory`] may come in place of any answer.
+/// Adds the rows of the next lines to `opening`, as long as lines begin with `row `. Stops at the
+/// first row that is refused, with the fault that [`read_header`] names; the fault numbers rows
+/// from the first one read here. The rows before it stay in `opening`. [`InputFault::Memory`] may
+/// replace any answer.
 pub fn take_rows<R: Read>(
     alloc: Global,
     lines: &mut LineReader<R>,
@@ -242,15 +243,17 @@ pub fn take_rows<R: Read>(
     Ok(())
 }
 
-/// The opening that the header of an input spells; the lines that are left are those of the script.
+/// Reads the header of an input and returns its opening; the lines left are those of the script.
 ///
-/// Its lines are `old JSON` and `new JSON`, each with a plan; `config W L C`, the width of a leaf, the bytes of a
-/// chunk and the chunks of a link's queue; and then, as long as lines begin with `row `, opening rows:
-/// `row ROOT T S N NOTE`. Each line is judged before the next one is read. A refusal is the first fault in the order of
-/// the lines, with the line that it belongs to, behind which none was taken: the fault of a plan; a line that is missing
-/// or isn't of its form; one with over [`MAX_LINE`] bytes, as soon as they came; a read that fails; an input with too many
-/// lines; for the plans and the sizes, at the third line, the fault that [`Opening::without_rows`] finds; and for each row
-/// the one that [`Opening::take_row`] finds. [`InputFault::Memory`] may come in place of any answer.
+/// The lines are `old JSON` and `new JSON`, each with a plan; `config W L C`, the width of a leaf,
+/// the bytes of a chunk and the chunks of a link's queue; and then, as long as lines begin with
+/// `row `, opening rows: `row ROOT T S N NOTE`. Each line is judged before the next one is read. A
+/// refusal is the first fault in the order of the lines, with its line; no later line was taken.
+/// The faults are: the fault of a plan; a line that is missing or malformed; a line of over
+/// [`MAX_LINE`] bytes, as soon as they arrived; a read that fails; an input with too many lines;
+/// for the plans and the sizes, at the third line, the fault that [`Opening::without_rows`] finds;
+/// and for each row the one that [`Opening::take_row`] finds. [`InputFault::Memory`] may replace
+/// any answer.
 pub fn read_header<R: Read>(
     alloc: Global,
     schema: Schema,
@@ -265,9 +268,9 @@ pub fn read_header<R: Read>(
     Ok(opening)
 }
 
-/// What the first three lines of an input spell, as an opening without rows: those of a header, with the plans and the
-/// sizes. A refusal is the first fault in the order of the lines, as [`read_header`] has them. What follows isn't looked
-/// at. [`InputFault::Memory`] may come in place of any answer.
+/// Reads the plans and the sizes, the first three lines of an input, and returns them as an opening
+/// without rows. A refusal is the first fault in the order of the lines, as in [`read_header`].
+/// What follows these lines isn't looked at. [`InputFault::Memory`] may replace any answer.
 pub fn read_plans<R: Read>(
     alloc: Global,
     schema: Schema,

@@ -1,4 +1,4 @@
-// Why an input gives no run.
+// Why an input can't be run.
 ghost use Rattle.std.specs.Prelude.{◌≡◌};
 ghost use Rattle.sq_text.specs.InputFaults.{input_fault_number};
 
@@ -10,29 +10,29 @@ use sq_ranges::OpeningFault;
 use sq_schema::OUT_OF_MEMORY;
 use thiserror::Error;
 
-/// Why an input gives no run.
+/// Why an input can't be run.
 #[derive(Clone, Copy, Debug, PartialEq, Eq, Error)]
 #[error("{}", meaning(self.number()))]
 pub enum InputFault {
-    /// A line of the header spells no plan.
+    /// A plan of the header is refused.
     Plan(PlanFault),
-    /// The plans, the sizes and the rows of the header make no opening.
+    /// The plans, sizes or rows of the header are refused.
     Opening(OpeningFault),
-    /// 121.
+    /// A line of the header is missing or malformed (number 121).
     BadHeader,
-    /// 122.
+    /// The input has too many lines, or a line without end (number 122).
     TooLong,
-    /// 123.
+    /// A read failed (number 123).
     ReadFailed,
-    /// Memory ran out, wherever it did.
+    /// Memory ran out, at any point.
     Memory,
-    /// A line of the header is too long.
+    /// A line of the header has over [`MAX_LINE`] bytes (number 231, as [`LineFault::TooLong`]).
     #[error("a line of the header has more than {MAX_LINE} bytes")]
     LineTooLong,
 }
 
 impl InputFault {
-    /// The number that a user sees.
+    /// Returns the number that a user sees.
     pub fn number(self) -> u16
         ensures { result ≡ input_fault_number self }
     {

@@ -1,4 +1,4 @@
-//! The texts of `squall run`: the lines that it reads, and the lines that it writes.
+//! The text formats of `squall run`: the lines that it reads and the lines that it writes.
 #![tactic(auto)]
 
 mod answer_text;

@@ -1,4 +1,4 @@
-// Faults of an input, with the lines that they belong to.
+// Faults of an input, with their lines.
 ghost use Rattle.std.specs.Prelude.{◌≡◌, ◌+◌, ◌<◌, ◌^◌, None, Some};
 ghost use Rattle.sq_text.specs.Located.{line_number, located, of_opening};
 
@@ -13,15 +13,15 @@ use std::fmt::{Display, Formatter, Write};
 /// A line of an input.
 #[derive(Clone, Copy, Debug, PartialEq, Eq)]
 pub enum InputLine {
-    /// The first one, with the old plan.
+    /// The first line, with the old plan.
     Old,
-    /// The second one, with the new plan.
+    /// The second line, with the new plan.
     New,
-    /// The third one, with the sizes.
+    /// The third line, with the sizes.
     Config,
-    /// The line with this number, from 0, of those behind the sizes that begin as opening rows do.
+    /// An opening row, numbered from 0 after the sizes.
     Row(usize),
-    /// A line behind the header, by its number in the input, whose first line has the number 1.
+    /// A line after the header, by its number in the input; the first line of the input is 1.
     Later(u32),
 }
 
@@ -29,7 +29,7 @@ impl InputLine {
     /// The line after the last one that an input may have.
     pub const AFTER_THE_LAST: InputLine = InputLine::Later(MAX_LINES + 1);
 
-    /// Its number in the input, whose first line has the number 1.
+    /// Returns the line's number in the input; the first line is 1.
     pub fn number(self) -> u64
         ensures { line_number self < 2 ^ 64 → result ≡ line_number self }
     {
@@ -43,17 +43,16 @@ impl InputLine {
     }
 }
 
-/// A fault of an input, and the line that it belongs to.
+/// A fault of an input, with its line.
 #[derive(Clone, Copy, Debug, PartialEq, Eq)]
 pub struct LocatedFault {
-    /// What is wrong.
     pub fault: InputFault,
-    /// The line; `None` where memory ran out.
+    /// The line; `None` if the fault belongs to none, as when memory ran out.
     pub line: Option<InputLine>,
 }
 
 impl InputFault {
-    /// The fault, which belongs to this line.
+    /// Returns the fault, located at `line`.
     pub fn at(self, line: InputLine) -> LocatedFault
         ensures { result ≡ located self (Some line) }
     {
@@ -63,7 +62,7 @@ impl InputFault {
         }
     }
 
-    /// The fault, which belongs to no line.
+    /// Returns the fault without a line.
     pub fn at_no_line(self) -> LocatedFault
         ensures { result ≡ located self None }
     {
@@ -74,7 +73,7 @@ impl InputFault {
     }
 }
 
-/// Says the line by its number, and what [`Meaning`] says.
+/// Writes the line's number, if there is a line, and then the fault's [`Meaning`].
 impl Display for LocatedFault {
     fn fmt<W: Write>(&self, f: &mut Formatter<W>) -> fmt::Result {
         if let Some(line) = self.line {
@@ -84,7 +83,8 @@ impl Display for LocatedFault {
     }
 }
 
-/// What a fault means, with its number, and without its line; a plan is said to be the old or the new one.
+/// The number and the meaning of a fault, without its line; a plan is named as the old or the new
+/// one.
 #[derive(Clone, Copy)]
 pub struct Meaning<'a>(pub &'a LocatedFault);
 
@@ -100,7 +100,7 @@ impl Display for Meaning<'_> {
     }
 }
 
-// What a fault of a plan means, without the article that it begins with.
+// Returns the meaning of a plan's fault without its leading article.
 fn bare(fault: PlanFault) -> &'static str {
     let text = meaning(fault.number());
     text.strip_prefix("a ").unwrap_or(text)

@@ -1,4 +1,4 @@
-// The lines of what moves.
+// Writes the lines of what moves.
 ghost use Rattle.std.specs.Prelude.{◌≡◌, nat_lt, OnOk};
 ghost use Rattle.std.specs.List.{flat_map};
 ghost use Rattle.std.specs.Io.KnownBytes.{Appends};
@@ -19,7 +19,7 @@ fn write_range<W: Write>(writer: &mut W, range: Range) -> io::Result<()>
     writeln!(writer, "range {lo} {hi} {src} {dst}")
 }
 
-// Writes the line of a segment, with its stage where there is more than one.
+// Writes the line of segment number `seg`, with its `stage` if there is one to name.
 fn write_segment<W: Write>(
     writer: &mut W,
     seg: usize,
@@ -37,7 +37,7 @@ fn write_segment<W: Write>(
     }
 }
 
-// Writes the lines of reconfiguration ranges.
+// Writes a line for each of `ranges`.
 fn write_ranges<W: Write>(writer: &mut W, ranges: &[Range]) -> io::Result<()>
     ensures { OnOk result (Appends (W.contents writer.old) (W.contents writer.new)
         (flat_map range_line ranges.now)) }
@@ -48,7 +48,7 @@ fn write_ranges<W: Write>(writer: &mut W, ranges: &[Range]) -> io::Result<()>
     Ok(())
 }
 
-// The stage of a segment, where there is more than one.
+// Returns the stage of `segment` if the move has `several` stages.
 fn told_stage(recon: &Recon, several: bool, segment: Range) -> Option<u64>
     requires { several ≡ nat_lt 1 (stages recon.now) }
     ensures { result ≡ told_stage recon.now segment }
@@ -60,7 +60,7 @@ fn told_stage(recon: &Recon, several: bool, segment: Range) -> Option<u64>
     }
 }
 
-// Writes the lines of the segments, which are numbered from 0.
+// Writes the lines of the segments, numbered from 0.
 fn write_segments<W: Write>(writer: &mut W, recon: &Recon) -> io::Result<()>
     ensures { OnOk result (Appends (W.contents writer.old) (W.contents writer.new)
         (segment_lines recon.now 0 recon.now.segments)) }
@@ -74,8 +74,8 @@ fn write_segments<W: Write>(writer: &mut W, recon: &Recon) -> io::Result<()>
     Ok(())
 }
 
-/// Writes what moves: a line for each reconfiguration range, in key order, and then one for each segment, with its stage
-/// where there is more than one. An error is the writer's.
+/// Writes what moves: a line for each reconfiguration range, in key order, and then one for each
+/// segment, with its stage if there are several. Fails if a write fails.
 pub fn write_moves<W: Write>(writer: &mut W, recon: &Recon) -> io::Result<()>
     ensures { OnOk result (Appends (W.contents writer.old) (W.contents writer.new)
         (moves_text recon.now)) }

@@ -1,4 +1,4 @@
-// Notes as words spell them.
+// Reads notes.
 ghost use Rattle.std.specs.Prelude.{◌≡◌, Some, is_some, true};
 ghost use Rattle.std.specs.List.{list_all};
 ghost use Rattle.sq_text.specs.Notes.{hex_digit_in, hex_byte_in, hex_in, note_in};
@@ -7,14 +7,15 @@ ghost use Rattle.sq_text.specs.Faults.{IsParsedGivenMemory};
 use crate::fault::ReadFault;
 use std::alloc::Global;
 
-// Whether a byte is a hexadecimal digit.
+// Returns true if `digit` is a lower-case hexadecimal digit.
 fn is_hex_digit(digit: u8) -> bool
     ensures { result ≡ is_some (hex_digit_in digit) }
 {
     matches!(digit, b'0'..=b'9' | b'a'..=b'f')
 }
 
-// Whether all bytes are hexadecimal digits. It doesn't stop at one that isn't, so that many are looked at at once.
+// Returns true if all of `digits` are hexadecimal. The loop never stops early, so that many bytes
+// are tested at once.
 fn are_hex_digits(digits: &[u8]) -> bool
     ensures { result ≡ list_all (λ digit. is_some (hex_digit_in digit)) digits.now }
 {
@@ -25,14 +26,14 @@ fn are_hex_digits(digits: &[u8]) -> bool
     all
 }
 
-// Whether all bytes are hexadecimal digits, two for each byte that they spell.
+// Returns true if all of `digits` are hexadecimal and their count is even.
 fn are_hex_bytes(digits: &[u8]) -> bool
     ensures { result ≡ is_some (hex_in digits.now) }
 {
     digits.len() % 2 == 0 && are_hex_digits(digits)
 }
 
-// The value of a hexadecimal digit: the low half of its byte, and for a letter 9 more.
+// Returns the value of a hexadecimal digit: the low half of its byte, plus 9 for a letter.
 fn hex_digit(digit: u8) -> u8
     requires { is_some (hex_digit_in digit) ≡ true }
     ensures { hex_digit_in digit ≡ Some result }
@@ -40,7 +41,7 @@ fn hex_digit(digit: u8) -> u8
     digit % 16 + 9 * (digit / 64)
 }
 
-// The byte that two hexadecimal digits spell.
+// Returns the byte that two hexadecimal digits spell.
 fn hex_byte(high: u8, low: u8) -> u8
     requires high { is_some (hex_digit_in high) ≡ true }
     requires low { is_some (hex_digit_in low) ≡ true }
@@ -49,7 +50,7 @@ fn hex_byte(high: u8, low: u8) -> u8
     16 * hex_digit(high) + hex_digit(low)
 }
 
-// The bytes that hexadecimal digits spell, two digits each.
+// Returns the bytes that `digits` spell, two hexadecimal digits each.
 fn hex(alloc: Global, digits: &[u8]) -> Result<Vec<u8>, ReadFault>
     ensures { IsParsedGivenMemory (λ bytes. bytes.items) result (hex_in digits.now) }
 {
@@ -63,7 +64,7 @@ fn hex(alloc: Global, digits: &[u8]) -> Result<Vec<u8>, ReadFault>
     Ok(bytes)
 }
 
-/// Whether a word spells a note: `-`, or two lower-case hexadecimal digits for each byte.
+/// Returns true if `word` spells a note: `-`, or two lower-case hexadecimal digits for each byte.
 pub fn is_note(word: &[u8]) -> bool
     ensures { result ≡ is_some (note_in word.now) }
 {
@@ -74,7 +75,7 @@ pub fn is_note(word: &[u8]) -> bool
     }
 }
 
-// The note that a word spells.
+// Reads the note that `word` spells.
 pub(crate) fn note(alloc: Global, word: &[u8]) -> Result<Vec<u8>, ReadFault>
     ensures { IsParsedGivenMemory (λ bytes. bytes.items) result (note_in word.now) }
 {

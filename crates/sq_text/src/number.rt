@@ -1,24 +1,32 @@
-// Numbers as words spell them.
+// Reads numbers.
 ghost use Rattle.std.specs.Prelude.{◌≡◌};
-ghost use Rattle.sq_text.specs.Numbers.{digits_in, unsigned_in, negative_of, positive_of, signed_in};
+ghost use Rattle.sq_text.specs.Numbers.{digit_behind, digits_in, unsigned_in, negative_of, positive_of, signed_in};
 
-// The number that decimal digits write; `None` where one isn't a digit, or the number isn't a `u64`.
+// Returns `number` with one more `digit`; `None` if the byte isn't a digit, or the result exceeds a
+// `u64`.
+pub(crate) fn with_digit(number: u64, digit: u8) -> Option<u64>
+    ensures { result ≡ digit_behind number digit }
+{
+    if !digit.is_ascii_digit() {
+        return None;
+    }
+    number.checked_mul(10)?.checked_add(u64::from(digit - b'0'))
+}
+
+// Returns the number that decimal `digits` spell; `None` if a byte isn't a digit, or the number
+// exceeds a `u64`.
 fn digits(digits: &[u8]) -> Option<u64>
     ensures { result ≡ digits_in digits.now }
 {
     let mut value: u64 = 0;
     for digit in digits {
-        if !digit.is_ascii_digit() {
-            return None;
-        }
-        value = value
-            .checked_mul(10)?
-            .checked_add(u64::from(*digit - b'0'))?;
+        value = with_digit(value, *digit)?;
     }
     Some(value)
 }
 
-/// The number that a word spells, below 2^64: decimal digits, the first of them 0 only where there is no other.
+/// Reads a number below 2^64: decimal digits, without a leading 0 unless it is the only digit.
+/// `None` if `word` is anything else.
 pub fn unsigned(word: &[u8]) -> Option<u64>
     ensures { result ≡ unsigned_in word.now }
 {
@@ -44,8 +52,8 @@ fn positive(n: u64) -> Option<i64>
     i64::try_from(n).ok()
 }
 
-/// The signed number that a word spells, from -2^63 up to one below 2^63: a number as [`unsigned`] reads it, which isn't 0
-/// behind a `-`.
+/// Reads a signed number from -2^63 to 2^63 - 1: a number as [`unsigned`] reads it, with a `-`
+/// before it if it is negative. `None` if `word` is anything else, such as `-0`.
 pub fn signed(word: &[u8]) -> Option<i64>
     ensures { result ≡ signed_in word.now }
 {

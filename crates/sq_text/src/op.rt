@@ -1,4 +1,4 @@
-// The operations of a transaction.
+// Reads the operations of a transaction.
 ghost use Rattle.sq_rows.specs.ShortList.{short_items};
 ghost use Rattle.sq_text.specs.Ops.{op_with, ops_in};
 ghost use Rattle.sq_text.specs.Faults.{IsParsedGivenMemory};
@@ -9,7 +9,7 @@ use crate::words::Words;
 use sq_schema::{Op, ShortList};
 use std::alloc::Global;
 
-// The operation of this name.
+// Reads the fields of the operation `name`.
 #[tactic(auto, unfolding(crate::specs::Ops::op_with))]
 fn op(alloc: Global, name: OpName, words: &mut Words<'_>) -> Result<Op, ReadFault>
     ensures { IsParsedGivenMemory (λ op. (op, words.new)) result (op_with name words.old) }
@@ -24,10 +24,10 @@ fn op(alloc: Global, name: OpName, words: &mut Words<'_>) -> Result<Op, ReadFaul
     }
 }
 
-// How many operations a list has room for when it gets its second one. It grows for more.
+// The capacity of a list when it gets its second operation; it grows if more follow.
 const SEVERAL: usize = 4;
 
-// The operations up to the end of the words.
+// Reads operations up to the end of `words`.
 pub(crate) fn ops(alloc: Global, mut words: Words<'_>) -> Result<ShortList<Op>, ReadFault>
     ensures { IsParsedGivenMemory short_items result (ops_in words.entry) }
 {

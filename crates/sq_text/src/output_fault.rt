@@ -1,4 +1,4 @@
-// Writes, and why an output can't be written.
+// Writes of bytes, and the fault of a failed one.
 ghost use Rattle.std.specs.Prelude.{◌≡◌, OnOk};
 ghost use Rattle.std.specs.Io.KnownBytes.{Appends};
 
@@ -7,13 +7,13 @@ use std::io;
 use std::io::Write;
 use thiserror::Error;
 
-/// A write failed. It isn't known how much went out.
+/// A write failed. How many bytes were written isn't known.
 #[derive(Clone, Copy, Debug, PartialEq, Eq, Error)]
 #[error("{}", meaning(self.number()))]
 pub struct WriteFault;
 
 impl WriteFault {
-    /// The number that a user sees.
+    /// Returns the number that a user sees, 124.
     pub fn number(self) -> u16
         ensures { result ≡ 124 }
     {
@@ -27,7 +27,7 @@ impl From<io::Error> for WriteFault {
     }
 }
 
-/// Writes bytes. An error is a write that failed.
+/// Writes all of `bytes`. Fails if a write fails.
 #[inline(always)]
 pub(crate) fn write_bytes<W: Write>(writer: &mut W, bytes: &[u8]) -> Result<(), WriteFault>
     ensures { OnOk result (Appends (W.contents writer.old) (W.contents writer.new) bytes.now) }

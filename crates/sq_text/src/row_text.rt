@@ -1,4 +1,4 @@
-// The texts of rows and of what operations are answered.
+// Writes rows and the answers of operations.
 ghost use Rattle.std.specs.Prelude.{◌≡◌, ◌*◌, ◌<◌, ◌≤◌, [], ◌∷◌, ◌++◌, ◌+◌, false, length, take, OnOk};
 ghost use Rattle.std.specs.Fmt.{digit_glyph, signed_decimal};
 ghost use Rattle.std.specs.List.{flat_map};
@@ -10,7 +10,7 @@ use crate::text::{Text, TextOf};
 use sq_schema::{OpAnswer, Row, RowKey};
 use std::io::Write;
 
-// The lower-case digit of this value.
+// Returns the lower-case hexadecimal digit of `value`.
 fn hex_digit(value: u8) -> u8
     requires { value < 16 }
     ensures { result ≡ digit_glyph false value }
@@ -22,10 +22,10 @@ fn hex_digit(value: u8) -> u8
     }
 }
 
-// How many bytes are written at once.
+// The most bytes whose digits are written at once.
 const PART: usize = 32;
 
-// Puts the digits of bytes, two a byte, at the front of a text.
+// Puts the digits of `bytes`, two each, at the front of `text`.
 fn put_hex(bytes: &[u8], text: &mut [u8; 2 * PART])
     requires { length bytes.now ≤ PART }
     ensures { take (2 * length bytes.now) text.new ≡ flat_map hex_byte_text bytes.now }
@@ -36,7 +36,7 @@ fn put_hex(bytes: &[u8], text: &mut [u8; 2 * PART])
     }
 }
 
-// Writes the digits of bytes, two a byte.
+// Writes the digits of `bytes`, two each.
 fn write_hex<W: Write>(writer: &mut W, bytes: &[u8]) -> Result<(), WriteFault>
     ensures { OnOk result (Appends (W.contents writer.old) (W.contents writer.new)
         (flat_map hex_byte_text bytes.now)) }
@@ -52,7 +52,7 @@ fn write_hex<W: Write>(writer: &mut W, bytes: &[u8]) -> Result<(), WriteFault>
     Ok(())
 }
 
-// Puts a row at the front of a text, but for the digits of its note.
+// Puts `row` before `text`, without the digits of its note.
 fn put_row<const ROOM: usize>(text: &mut TextOf<ROOM>, row: &Row)
     requires { length text.old + 23 ≤ ROOM }
     ensures whole { row.now.note ≡ [] → text.new ≡ row_text row.now ++ text.old }
@@ -67,7 +67,7 @@ fn put_row<const ROOM: usize>(text: &mut TextOf<ROOM>, row: &Row)
     text.put_signed(row.number());
 }
 
-// Writes a text, and then the digits of a note.
+// Writes `text`, then the digits of `note`.
 fn write_before_note<W: Write>(writer: &mut W, text: &Text, note: &[u8]) -> Result<(), WriteFault>
     ensures { OnOk result (Appends (W.contents writer.old) (W.contents writer.new)
         (text.now ++ flat_map hex_byte_text note.now)) }
@@ -76,7 +76,7 @@ fn write_before_note<W: Write>(writer: &mut W, text: &Text, note: &[u8]) -> Resu
     write_hex(writer, note)
 }
 
-// Writes a row behind a space.
+// Writes a space and `row`.
 fn write_row<W: Write>(writer: &mut W, row: &Row) -> Result<(), WriteFault>
     ensures { OnOk result (Appends (W.contents writer.old) (W.contents writer.new)
         (32 ∷ row_text row.now)) }
@@ -87,7 +87,7 @@ fn write_row<W: Write>(writer: &mut W, row: &Row) -> Result<(), WriteFault>
     write_before_note(writer, &text, row.note())
 }
 
-// Writes a number behind a space.
+// Writes a space and `number`.
 fn write_signed<W: Write>(writer: &mut W, number: i64) -> Result<(), WriteFault>
     ensures { OnOk result (Appends (W.contents writer.old) (W.contents writer.new)
         (32 ∷ signed_decimal number)) }
@@ -98,7 +98,7 @@ fn write_signed<W: Write>(writer: &mut W, number: i64) -> Result<(), WriteFault>
     write_bytes(writer, text.as_bytes())
 }
 
-// Writes what an operation is answered, behind a space.
+// Writes a space and an operation's `answer`.
 pub(crate) fn write_op_answer<W: Write>(writer: &mut W, answer: &OpAnswer) -> Result<(), WriteFault>
     ensures { OnOk result (Appends (W.contents writer.old) (W.contents writer.new)
         (32 ∷ op_answer_text answer.now)) }
@@ -111,7 +111,7 @@ pub(crate) fn write_op_answer<W: Write>(writer: &mut W, answer: &OpAnswer) -> Re
     }
 }
 
-/// Whether what an operation is answered has a note.
+/// Returns true if an operation's `answer` is a row with a note.
 pub(crate) fn has_note(answer: &OpAnswer) -> bool
     ensures { result ≡ has_note answer.now }
 {
@@ -121,7 +121,7 @@ pub(crate) fn has_note(answer: &OpAnswer) -> bool
     }
 }
 
-/// Puts what an operation is answered at the front of a text.
+/// Puts an operation's `answer`, which has no note, before `text`.
 pub(crate) fn put_op_answer<const ROOM: usize>(text: &mut TextOf<ROOM>, answer: &OpAnswer)
     requires short { has_note answer.now ≡ false }
     requires room { length text.old + 23 ≤ ROOM }
@@ -136,7 +136,7 @@ pub(crate) fn put_op_answer<const ROOM: usize>(text: &mut TextOf<ROOM>, answer: 
     }
 }
 
-// Writes a row with its key, behind a space.
+// Writes a space, `key` and `row`.
 pub(crate) fn write_entry<W: Write>(
     writer: &mut W,
     key: RowKey,

@@ -1,4 +1,4 @@
-// The steps that lines of the script spell.
+// Reads the steps of a script.
 ghost use Rattle.std.specs.Prelude.{◌≡◌, true, Err, ok_or};
 ghost use Rattle.sq_rows.specs.ShortList.{short_items};
 ghost use Rattle.sq_text.specs.Fields.{value_at_end};
@@ -14,10 +14,10 @@ use sq_model::Step;
 use sq_schema::{Op, Schema, ShortList, Txn};
 use std::alloc::Global;
 
-/// The most bytes that a line has, without its end.
+/// The most bytes of a line, without its end.
 pub const MAX_LINE: usize = 65_536;
 
-// Two numbers: a segment and a node, or a source and a destination.
+// Reads two numbers: a segment and a node, or a source and a destination.
 #[tactic(auto, unfolding(crate::specs::Steps::pair_field))]
 fn pair(words: &mut Words<'_>) -> Result<(u64, u64), Malformed>
     ensures { IsParsed (λ pair. (pair, words.new)) result (pair_field words.old) }
@@ -25,7 +25,7 @@ fn pair(words: &mut Words<'_>) -> Result<(u64, u64), Malformed>
     Ok((words.number()?, words.number()?))
 }
 
-// A segment, a node and a pull.
+// Reads a segment, a node and a pull.
 #[tactic(auto, unfolding(crate::specs::Steps::pull_field))]
 fn pull(words: &mut Words<'_>) -> Result<(u64, u64, u32), Malformed>
     ensures { IsParsed (λ pull. (pull, words.new)) result (pull_field words.old) }
@@ -34,7 +34,7 @@ fn pull(words: &mut Words<'_>) -> Result<(u64, u64, u32), Malformed>
     Ok((seg, node, words.small()?))
 }
 
-// The step of this verb.
+// Reads the fields of the step of this `verb`.
 #[tactic(auto, unfolding(crate::specs::Steps::step_with))]
 fn step(verb: Verb, words: &mut Words<'_>) -> Result<Step, Malformed>
     ensures { IsParsed (λ step. (step, words.new)) result (step_with verb words.old) }
@@ -59,7 +59,7 @@ fn step(verb: Verb, words: &mut Words<'_>) -> Result<Step, Malformed>
     }
 }
 
-// The step of a line that begins with this verb.
+// Reads the step of a line that begins with `verb`; `words` hold its fields and nothing else.
 fn verb_step(verb: Verb, mut words: Words<'_>) -> Result<Step, LineFault>
     ensures { result ≡ ok_or (value_at_end (step_with verb words.entry)) LineFault.NotAStep }
 {
@@ -70,7 +70,7 @@ fn verb_step(verb: Verb, mut words: Words<'_>) -> Result<Step, LineFault>
     }
 }
 
-// A transaction as its line spells it: a partition, an id, a root key, and operations.
+// Reads a transaction's line: a partition, an id, a root key, and operations.
 #[tactic(auto, unfolding(crate::specs::Steps::txn_in))]
 fn txn_line(
     alloc: Global,
@@ -85,7 +85,7 @@ fn txn_line(
     Ok((part, id, root, ops(alloc, words)?))
 }
 
-// The step of a line that begins with `txn`.
+// Reads the step of a line that begins with `txn`.
 fn submit(alloc: Global, schema: &Schema, words: Words<'_>) -> Result<Step, LineFault>
     ensures { IsStep result (txn_step schema.now (txn_in words.entry)) }
 {
@@ -100,11 +100,12 @@ fn submit(alloc: Global, schema: &Schema, words: Words<'_>) -> Result<Step, Line
     }
 }
 
-/// The step that a line of the script spells: its words, each separated from the next by one space.
+/// Reads the step that `line` spells; one space separates each word from the next.
 ///
-/// Refused with [`LineFault::TooLong`] where the line has over [`MAX_LINE`] bytes, with [`LineFault::NotAStep`] where its
-/// words aren't of a step's form, and with [`LineFault::Txn`] where it spells a transaction that the schema doesn't
-/// have. [`LineFault::Memory`] may come in place of any answer to a line that begins with `txn`.
+/// Refused with [`LineFault::TooLong`] if the line has over [`MAX_LINE`] bytes, with
+/// [`LineFault::NotAStep`] if its words aren't of a step's form, and with [`LineFault::Txn`] if
+/// `schema` refuses its transaction. [`LineFault::Memory`] may replace any answer to a line that
+/// begins with `txn`.
 pub fn read_step(alloc: Global, schema: &Schema, line: &[u8]) -> Result<Step, LineFault>
     ensures step { IsStep result (step_of schema.now line.now) }
     ensures memory { result ≡ Err LineFault.Memory → begins_txn (words_of line.now) ≡ true }

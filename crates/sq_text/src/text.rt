@@ -1,18 +1,20 @@
-// Texts that are put together before they are written: each write costs more than the bytes that it writes.
+// Texts assembled before they are written, since each write costs more than the bytes that it
+// writes.
 ghost use Rattle.std.specs.Prelude.{◌≡◌, ◌+◌, ◌<◌, ◌≤◌, [], ◌∷◌, ◌++◌, length, decimal};
 ghost use Rattle.std.specs.Fmt.{signed_decimal};
 
 use itoa::write_digits;
 use std::marker::Model;
 
-/// A text of at most `ROOM` bytes that is put together from its end. To a contract it is the list of its bytes.
+/// A text of at most `ROOM` bytes, assembled from its end. To a contract it is the list of its
+/// bytes.
 #[derive(Drop)]
 pub(crate) struct TextOf<const ROOM: usize> {
     bytes: [u8; ROOM],
     start: usize,
 }
 
-/// A text with room for each line, or part of a line, that is put together at once.
+/// A text with room for any line, or part of a line, that is written at once.
 pub(crate) type Text = TextOf<192>;
 
 impl<const ROOM: usize> Model for TextOf<ROOM> {
@@ -26,7 +28,7 @@ impl<const ROOM: usize> Model for TextOf<ROOM> {
 }
 
 impl<const ROOM: usize> TextOf<ROOM> {
-    /// A text without bytes.
+    /// Creates an empty text.
     pub(crate) fn new() -> TextOf<ROOM>
         ensures { result ≡ [] }
     {
@@ -36,7 +38,7 @@ impl<const ROOM: usize> TextOf<ROOM> {
         }
     }
 
-    /// Puts a byte at its front.
+    /// Puts `byte` at the front.
     pub(crate) fn put_byte(&mut self, byte: u8)
         requires { length self.old < ROOM }
         ensures { self.new ≡ byte ∷ self.old }
@@ -45,7 +47,7 @@ impl<const ROOM: usize> TextOf<ROOM> {
         self.bytes[self.start] = byte;
     }
 
-    /// Puts bytes at its front.
+    /// Puts `bytes` at the front.
     pub(crate) fn put(&mut self, bytes: &[u8])
         requires { length bytes.now + length self.old ≤ ROOM }
         ensures { self.new ≡ bytes.now ++ self.old }
@@ -56,7 +58,7 @@ impl<const ROOM: usize> TextOf<ROOM> {
         self.start = start;
     }
 
-    /// Puts a number in decimal at its front.
+    /// Puts `number` in decimal at the front.
     pub(crate) fn put_number(&mut self, number: u64)
         requires { length self.old + 20 ≤ ROOM }
         ensures text { self.new ≡ decimal number ++ self.old }
@@ -65,7 +67,7 @@ impl<const ROOM: usize> TextOf<ROOM> {
         self.start = write_digits(number, &mut self.bytes, self.start);
     }
 
-    /// Puts a signed number in decimal at its front.
+    /// Puts the signed `number` in decimal at the front.
     pub(crate) fn put_signed(&mut self, number: i64)
         requires { length self.old + 21 ≤ ROOM }
         ensures text { self.new ≡ signed_decimal number ++ self.old }

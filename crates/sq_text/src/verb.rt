@@ -1,7 +1,7 @@
 // The first words of lines, and the names of operations.
 ghost use Rattle.std.specs.Prelude.{◌≡◌};
 
-/// The first word of a line of the script other than `txn`.
+/// The first word of a script's line other than `txn`.
 #[derive(Clone, Copy, Debug, PartialEq, Eq)]
 pub(crate) enum Verb {
     Prepare,
@@ -25,7 +25,7 @@ pub(crate) enum Verb {
 impl Verb {
     ghost use Rattle.sq_text.specs.Verbs.{verb_in};
 
-    // The verb that a word spells.
+    // Returns the verb that `word` spells.
     #[tactic(auto, unfolding(crate::specs::Verbs::verb_in))]
     pub(crate) fn of(word: &[u8]) -> Option<Verb>
         ensures { result ≡ verb_in word.now }
@@ -65,7 +65,8 @@ pub enum OpName {
 impl OpName {
     ghost use Rattle.sq_text.specs.Verbs.{op_name_in};
 
-    /// The name that a word spells: `get`, `put`, `add`, `del` or `check`.
+    /// Returns the name that `word` spells: `get`, `put`, `add`, `del` or `check`; otherwise
+    /// `None`.
     #[tactic(auto, unfolding(crate::specs::Verbs::op_name_in))]
     pub fn of(word: &[u8]) -> Option<OpName>
         ensures { result ≡ op_name_in word.now }

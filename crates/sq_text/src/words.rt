@@ -1,11 +1,17 @@
 // The words of a line.
 ghost use Rattle.std.specs.Prelude.{◌≡◌, ◌==◌, [], ◌∷◌, MatchOption, position};
+ghost use Rattle.sq_text.specs.Numbers.{digits_in};
+ghost use Rattle.sq_text.specs.Fields.{word_field, number_field};
+ghost use Rattle.sq_text.specs.Faults.{IsParsed};
 
+use crate::fault::Malformed;
+use crate::number::with_digit;
 use sq_lines::place_of;
 use std::marker::Model;
 
-/// The words of a line that are left to read: the parts between its spaces. Two spaces in a row have an empty word
-/// between them, and a space at an end has one beyond it. To a contract they are a list.
+/// The words of a line that are still to be read: the parts between its spaces. Between two
+/// adjacent spaces there is an empty word, as there is before a leading and after a trailing space.
+/// To a contract they are a list.
 #[derive(Drop)]
 pub struct Words<'a> {
     rest: Option<&'a [u8]>,
@@ -23,14 +29,14 @@ impl<'a> Model for Words<'a> {
 impl<'a> Words<'a> {
     ghost use Rattle.sq_text.specs.Words.{words_of};
 
-    /// The words of a line.
+    /// Splits `line` into its words.
     pub fn of(line: &'a [u8]) -> Words<'a>
         ensures { result ≡ words_of line.now }
     {
         Words { rest: Some(line) }
     }
 
-    /// The next word, if one is left. Most words are short.
+    /// Returns the next word; `None` if no word is left. It suits short words, which most are.
     pub fn next(&mut self) -> Option<&'a [u8]>
         ensures { MatchOption result ((self.old ≡ [])
             × (self.new ≡ [])) (λ word. self.old ≡ word.now ∷ self.new) }
@@ -39,7 +45,7 @@ impl<'a> Words<'a> {
         Some(self.take(rest, near_place_of(b' ', rest)))
     }
 
-    /// The same, for a word that may be long.
+    /// Like [`Words::next`], but suits a word that may be long.
     pub fn next_long(&mut self) -> Option<&'a [u8]>
         ensures { MatchOption result ((self.old ≡ [])
             × (self.new ≡ [])) (λ word. self.old ≡ word.now ∷ self.new) }
@@ -48,7 +54,51 @@ impl<'a> Words<'a> {
         Some(self.take(rest, place_of(b' ', rest)))
     }
 
-    // The first of these bytes' words, which the first space ends, if they have one; the others are left.
+    // Reads the next word, a number, in a single pass.
+    pub(crate) fn number(&mut self) -> Result<u64, Malformed>
+        ensures { IsParsed (λ n. (n, self.new)) result (number_field self.old) }
+    {
+        let rest = self.rest.ok_or(Malformed)?;
+        match rest {
+            [] | [b' ', ..] => Err(Malformed),
+            [b'0', behind @ ..] => self.zero(behind),
+            _ => self.digits(rest),
+        }
+    }
+
+    // Reads the number 0; `behind` are the bytes after its digit.
+    fn zero(&mut self, behind: &'a [u8]) -> Result<u64, Malformed>
+        ensures { IsParsed (λ n. (n, self.new)) result (number_field (words_of (48 ∷ behind.now))) }
+    {
+        match behind {
+            [] => self.rest = None,
+            [b' ', left @ ..] => self.rest = Some(left),
+            _ => return Err(Malformed),
+        }
+        Ok(0)
+    }
+
+    // Reads the decimal number that the first word of `bytes` spells; the other words are left.
+    fn digits(&mut self, bytes: &'a [u8]) -> Result<u64, Malformed>
+        ensures { IsParsed (λ n. (n, self.new)) result (word_field digits_in (words_of bytes.now)) }
+    {
+        let mut value: u64 = 0;
+        for (at, byte) in bytes.iter().enumerate() {
+            let Some(more) = with_digit(value, *byte) else {
+                if *byte != b' ' {
+                    return Err(Malformed);
+                }
+                self.rest = Some(&bytes[at + 1..]);
+                return Ok(value);
+            };
+            value = more;
+        }
+        self.rest = None;
+        Ok(value)
+    }
+
+    // Returns the first word of `bytes`, which ends at `space` if they have one; the other words
+    // are left.
     fn take(&mut self, bytes: &'a [u8], space: Option<usize>) -> &'a [u8]
         requires { space ≡ position (λ b. b == 32) bytes.now }
         ensures { words_of bytes.now ≡ result.now ∷ self.new }
@@ -66,7 +116,7 @@ impl<'a> Words<'a> {
     }
 }
 
-// The first place of a byte, which is looked for byte by byte.
+// Returns the place of the first `byte`, searched one byte at a time.
 fn near_place_of(byte: u8, bytes: &[u8]) -> Option<usize>
     ensures { result ≡ position (λ b. b == byte) bytes.now }
 {

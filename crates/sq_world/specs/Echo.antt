@@ -1,4 +1,4 @@
--- What is written for a line of a script: its answer, alone or behind the line.
+-- The text for a line of a script: its answer, alone or after the line.
 use Rattle.std.specs.Prelude.{ℕ, Bool, true, false, List, [], ◌∷◌, ◌++◌, Option, Some, None, decimal, codes}
 use Rattle.sq_model.specs.declared.answer.Answer.{Answer}
 use Rattle.sq_model.specs.declared.answer.Answer.TheVariants.{Refused}
@@ -6,12 +6,12 @@ use Rattle.sq_model.specs.Refusal.{refusal_number}
 use Rattle.sq_text.specs.Texts.{answer_line, refused_line}
 use Rattle.sq_explain.specs.Meanings.{meaning_of}
 
--- a refusal, with what its number means
+-- a refusal, with its meaning
 abbrev pub reason_line : ℕ → Option (List ℕ) → List ℕ
 reason_line number None = refused_line number
 reason_line number (Some meaning) = codes "refused " ++ (decimal number ++ (codes ": " ++ (meaning ++ 10 ∷ [])))
 
--- a line, and what goes behind it
+-- a line, and what follows it
 abbrev pub echoed : List ℕ → List ℕ → List ℕ
 echoed line text = line ++ (codes " -> " ++ text)
 
@@ -25,7 +25,7 @@ abbrev pub refusal_in : Answer → Option ℕ
 refusal_in (Refused refusal) = Some (refusal_number refusal)
 refusal_in given = None
 
--- what a line is answered
+-- the answer to a line
 abbrev pub answer_text : Bool → List ℕ → Answer → List ℕ
 answer_text echoes line (Refused refusal) = refused_text echoes line (refusal_number refusal)
 answer_text false line given = answer_line given

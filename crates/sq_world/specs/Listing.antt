@@ -17,16 +17,16 @@ use Rattle.sq_world.specs.declared.telling.Told.TheVariants.{Written, NoMemory}
 use Rattle.sq_world.specs.Inputs.{Writing, OfLines, OfReader}
 use Rattle.sq_world.specs.Run.{IsFault}
 
--- a text of a reconfiguration goes to the end of what a writer holds; where there was no memory for it, nothing does
+-- a text of a reconfiguration is appended to what a writer holds; nothing is if memory ran out
 abbrev pub IsTold : (ReconValue → List ℕ → Type 0) → ReconValue → Option (List ℕ) → Option (List ℕ) → Told → Type 0
 IsTold tells recon before now Written = (out : List ℕ) × Appends before now out × tells recon out
 IsTold tells recon before now NoMemory = Appends before now []
 
--- a text of a reconfiguration is all that is written, or else that memory ran out
+-- only a text of a reconfiguration is written, or else that memory ran out
 abbrev pub IsToldOrRefused : (ReconValue → List ℕ → Type 0) → ReconValue → List ℕ → Ending → Type 0
 IsToldOrRefused tells recon out ending = (tells recon out × (ending ≡ Done)) ⊎ IsFault (located Memory None) out ending
 
--- the first three lines spell plans and sizes, and a text of their reconfiguration is all that is written
+-- the first three lines spell plans and sizes, and only a text of their reconfiguration is written
 pub record IsWholeListing (tells : ReconValue → List ℕ → Type 0) (tables : ℕ) (given : List PieceValue) (out : List ℕ)
     (ending : Ending) : Type 0 where
   pub opening : OpeningValue
@@ -35,7 +35,7 @@ pub record IsWholeListing (tells : ReconValue → List ℕ → Type 0) (tables :
   pub says : tells opening.recon out
   pub ends : ending ≡ Done
 
--- the first three lines have a fault, which is their first, or memory ran out
+-- the first three lines have a fault, this being the first, or memory ran out
 pub record IsRefusedListing (tables : ℕ) (given : List PieceValue) (out : List ℕ) (ending : Ending) : Type 0 where
   pub fault : LocatedFault
   pub left : List PieceValue
@@ -46,15 +46,16 @@ pub record IsRefusedListing (tables : ℕ) (given : List PieceValue) (out : List
 abbrev pub IsListing : (ReconValue → List ℕ → Type 0) → ℕ → List PieceValue → List ℕ → Ending → Type 0
 IsListing tells tables given out ending = IsWholeListing tells tables given out ending ⊎ IsRefusedListing tables given out ending
 
--- a text of its reconfiguration answers what a reader gives, and goes to the end of what a writer holds
+-- a text of its reconfiguration answers what a reader returns, and is appended to what a writer
+-- holds
 abbrev pub Tells : (ReconValue → List ℕ → Type 0) → ℕ → Option (List ℕ) → Option (List ℕ) → Option (List ℕ) → Ending → Type 0
 Tells tells tables = OfReader (IsListing tells tables)
 
--- the same of pieces that a reader of lines may give
+-- the same for pieces that a reader of lines may return
 abbrev pub TellsLines : (ReconValue → List ℕ → Type 0) → ℕ → LinesValue → Option (List ℕ) → Option (List ℕ) → Ending → Type 0
 TellsLines tells tables = OfLines (IsListing tells tables)
 
--- a text of a reconfiguration, or that memory ran out, goes to the end of what a writer holds
+-- a text of a reconfiguration, or that memory ran out, is appended to what a writer holds
 abbrev pub TellsOrRefuses : (ReconValue → List ℕ → Type 0) → ReconValue → Option (List ℕ) → Option (List ℕ) → Ending → Type 0
 TellsOrRefuses tells recon = Writing (IsToldOrRefused tells recon)
 
@@ -62,6 +63,6 @@ TellsOrRefuses tells recon = Writing (IsToldOrRefused tells recon)
 abbrev pub IsMovesText : ReconValue → List ℕ → Type 0
 IsMovesText recon out = out ≡ moves_text recon
 
--- what a reader gives is answered by the lines of what moves, and they go to the end of what a writer holds
+-- the lines of what moves answer what a reader returns, and are appended to what a writer holds
 abbrev pub Lists : ℕ → Option (List ℕ) → Option (List ℕ) → Option (List ℕ) → Ending → Type 0
 Lists = Tells IsMovesText

@@ -34,7 +34,7 @@ use Rattle.sq_world.specs.Inputs.{Writing, OfLines, OfReader}
 abbrev pub in_manner : Bool → Bool → ScriptManner
 in_manner echoes strict = record { echoes = echoes; strict = strict }
 
--- the line spells a step, which is answered by the history
+-- the line spells a step, which is answered as the history determines
 pub record IsStepLine (echoes : Bool) (o : OpeningValue) (t : Trace) (line : List ℕ) (after : Trace) (text : List ℕ)
     (refused : Option ℕ) : Type 0 where
   pub step : Step
@@ -45,7 +45,7 @@ pub record IsStepLine (echoes : Bool) (o : OpeningValue) (t : Trace) (line : Lis
   pub says : text ≡ answer_text echoes line given
   pub refuses : refused ≡ refusal_in given
 
--- the line spells no step, which is refused by its number
+-- the line isn't a step, and is refused with its number
 pub record IsNoStep (echoes : Bool) (o : OpeningValue) (t : Trace) (line : List ℕ) (after : Trace) (text : List ℕ)
     (refused : Option ℕ) : Type 0 where
   pub fault : LineFault
@@ -54,25 +54,25 @@ pub record IsNoStep (echoes : Bool) (o : OpeningValue) (t : Trace) (line : List 
   pub says : text ≡ refused_text echoes line (line_fault_number fault)
   pub refuses : refused ≡ Some (line_fault_number fault)
 
--- memory ran out at the words of a transaction, and the line is no step
+-- memory ran out at the words of a transaction, and the line isn't a step
 pub record IsUnread (echoes : Bool) (t : Trace) (line : List ℕ) (after : Trace) (text : List ℕ) (refused : Option ℕ) : Type 0 where
   pub transaction : begins_txn (words_of line) ≡ true
   pub stays : after ≡ t
   pub says : text ≡ refused_text echoes line (line_fault_number line_fault.Memory)
   pub refuses : refused ≡ Some (line_fault_number line_fault.Memory)
 
--- what a line is answered after this history, the history after it, and the number by which the line is refused, if it is;
--- echoes says whether the line is written before its answer
+-- the answer to a line after this history, the history after it, and the number of its refusal, if
+-- it is refused; echoes says whether the line is written before its answer
 abbrev pub AnswersLine : Bool → OpeningValue → Trace → List ℕ → Trace → List ℕ → Option ℕ → Type 0
 AnswersLine echoes o t line after text refused =
     IsStepLine echoes o t line after text refused
     ⊎ (IsNoStep echoes o t line after text refused ⊎ IsUnread echoes t line after text refused)
 
--- the refusal behind which a run in this manner ends, if it does
+-- the refusal after which a run in this manner ends, if it does
 abbrev pub stopping : ScriptManner → Option ℕ → Option ℕ
 stopping manner refused = if manner.strict then refused else None
 
--- how a run ends at a line, by the refusal behind which it does
+-- how a run ends at a line, with the refusal that ends it, if one does
 abbrev pub ending_at : Option ℕ → ℕ → Ending
 ending_at None line = Done
 ending_at (Some number) line = Stopped (record { line = line; number = number })
@@ -83,12 +83,12 @@ pub record IsDumped (o : OpeningValue) (t : Trace) (out : List ℕ) : Type 0 whe
   pub holds : Holds o t world
   pub says : out ≡ dump world
 
--- the number of a fault is all that is written, and the ending has the line that it belongs to
+-- only the number of a fault is written, and the ending has its line
 pub record IsFault (located : LocatedFault) (out : List ℕ) (ending : Ending) : Type 0 where
   pub says : out ≡ fault_line (input_fault_number located.fault)
   pub ends : ending ≡ Fault located
 
--- a run continues behind a line, unless a refusal ends it there
+-- a run goes on after a line, unless a refusal ends it there
 abbrev pub GoesOnBehind : Option ℕ → ℕ → OpeningValue → Trace → List ℕ → Ending → Type 0 → Type 0
 GoesOnBehind None line o t out ending On = On
 GoesOnBehind (Some number) line o t out ending On = IsDumped o t out × (ending ≡ ending_at (Some number) line)
@@ -109,7 +109,7 @@ Writes manner o t (Failed number bytes ∷ others) out ending = IsFault (located
 Writes manner o t (Endless number bytes ∷ others) out ending = IsFault (located TooLong (Some (Later number))) out ending
 Writes manner o t (TooMany ∷ others) out ending = IsFault (located TooLong (Some (Later (MAX_LINES + 1)))) out ending
 
--- the header is read to this opening, and then the script is run from it
+-- the header is read as this opening, and then the script is run from it
 pub record IsRunFrom (manner : ScriptManner) (tables : ℕ) (given : List PieceValue) (out : List ℕ) (ending : Ending) : Type 0 where
   pub opening : OpeningValue
   pub script : List PieceValue
@@ -117,7 +117,7 @@ pub record IsRunFrom (manner : ScriptManner) (tables : ℕ) (given : List PieceV
   pub is_opening : IsOpening opening
   pub writes : Writes manner opening [] script out ending
 
--- the header has a fault, which is its first, or memory ran out
+-- the header has a fault, this being the first, or memory ran out
 pub record IsRefused (tables : ℕ) (given : List PieceValue) (out : List ℕ) (ending : Ending) : Type 0 where
   pub fault : LocatedFault
   pub left : List PieceValue
@@ -128,15 +128,15 @@ pub record IsRefused (tables : ℕ) (given : List PieceValue) (out : List ℕ) (
 abbrev pub IsRun : ScriptManner → ℕ → List PieceValue → List ℕ → Ending → Type 0
 IsRun manner tables given out ending = IsRunFrom manner tables given out ending ⊎ IsRefused tables given out ending
 
--- what a reader gives is run, and what is written for it goes to the end of what a writer holds
+-- what a reader returns is run, and what is written for it is appended to what a writer holds
 abbrev pub Runs : ScriptManner → ℕ → Option (List ℕ) → Option (List ℕ) → Option (List ℕ) → Ending → Type 0
 Runs manner tables = OfReader (IsRun manner tables)
 
--- the same of pieces that a reader of lines may give
+-- the same for pieces that a reader of lines may return
 abbrev pub RunsLines : ScriptManner → ℕ → LinesValue → Option (List ℕ) → Option (List ℕ) → Ending → Type 0
 RunsLines manner tables = OfLines (IsRun manner tables)
 
--- the number of a fault goes to the end of what a writer holds, and ends the run
+-- the number of a fault is appended to what a writer holds, and ends the run
 abbrev pub EndsAtFault : LocatedFault → Option (List ℕ) → Option (List ℕ) → Ending → Type 0
 EndsAtFault located = Writing (IsFault located)
 

@@ -30,14 +30,14 @@ abbrev pub AreSpelled : ℕ → Trace → Type 0
 AreSpelled tables [] = Unit {0}
 AreSpelled tables ((step, given) ∷ t) = ((line : List ℕ) × (step_of tables line ≡ Ok step)) × AreSpelled tables t
 
--- the world is the one of a history that continues this one, by further steps that lines spell
+-- a history leads to the world that continues this one, by further steps that lines spell
 pub record Continues (o : OpeningValue) (t : Trace) (w : WorldValue) : Type 0 where
   pub history : Trace
   pub leads : LeadsTo o history w
   pub spelled : AreSpelled o.tables t → AreSpelled o.tables history
 
--- what a line is answered after this history was written, and the world is the one that the history then leads to; the line
--- is refused by this number, if by any
+-- the answer to a line after this history was written, and the world is the one that the history
+-- then leads to; with the number of the line's refusal, if it is refused
 pub record IsAnswered (echoes : Bool) (o : OpeningValue) (t : Trace) (line : List ℕ) (before now : Option (List ℕ))
     (w : WorldValue) (refused : Option ℕ) : Type 0 where
   pub after : Trace
@@ -46,7 +46,7 @@ pub record IsAnswered (echoes : Bool) (o : OpeningValue) (t : Trace) (line : Lis
   pub leads : LeadsTo o after w
   pub written : Appends before now text
 
--- where a run comes to its dump, that is written last, and it is the dump of this world
+-- if a run comes to its dump, that is written last, and it is the dump of this world
 abbrev pub EndsWithDump : WorldValue → Option (List ℕ) → Option (List ℕ) → Ending → Type 0
 EndsWithDump w before now Done = (answers : List ℕ) × Appends before now (answers ++ dump w)
 EndsWithDump w before now (Stopped refused) = (answers : List ℕ) × Appends before now (answers ++ dump w)
@@ -59,7 +59,8 @@ KeepsDumped kept before now (Stopped refused) =
     (w : WorldValue) × (kept ≡ Some w) × EndsWithDump w before now (Stopped refused)
 KeepsDumped kept before now (Fault located) = ⊤
 
--- the pieces begin with a header, and the world is the one of a history from its opening, whose steps lines spell
+-- the pieces begin with a header, and a history from its opening, whose steps lines spell, leads to
+-- the world
 pub record IsLedTo (tables : ℕ) (given : List PieceValue) (w : WorldValue) : Type 0 where
   pub opening : OpeningValue
   pub script : List PieceValue
@@ -68,11 +69,11 @@ pub record IsLedTo (tables : ℕ) (given : List PieceValue) (w : WorldValue) : T
   pub leads : LeadsTo opening history w
   pub spelled : AreSpelled opening.tables history
 
--- the pieces are ones that a reader of lines may give
+-- a reader of lines may return the pieces
 abbrev pub IsLedByLines : ℕ → LinesValue → WorldValue → Type 0
 IsLedByLines tables lines w = (given : List PieceValue) × CanCome lines given × IsLedTo tables given w
 
--- the pieces are those of what a reader gives
+-- the pieces are those of what a reader returns
 abbrev pub IsLedByReader : ℕ → Option (List ℕ) → WorldValue → Type 0
 IsLedByReader tables known w = (given : List PieceValue) × IsGiven known given × IsLedTo tables given w
 
@@ -82,7 +83,8 @@ KeepsLed Led kept Done = (w : WorldValue) × (kept ≡ Some w) × Led w
 KeepsLed Led kept (Stopped refused) = (w : WorldValue) × (kept ≡ Some w) × Led w
 KeepsLed Led kept (Fault located) = ⊤
 
--- what the lines of a script are answered after this history was written, and so the run ends, where this is the world then
+-- the answers to the lines of a script after this history were written, and the run ended so, in
+-- this world
 pub record IsWritten (manner : ScriptManner) (o : OpeningValue) (t : Trace) (lines : LinesValue) (before now : Option (List ℕ))
     (w : WorldValue) (ending : Ending) : Type 0 where
   pub pieces : List PieceValue
@@ -93,18 +95,21 @@ pub record IsWritten (manner : ScriptManner) (o : OpeningValue) (t : Trace) (lin
   pub dumped : EndsWithDump w before now ending
   pub continues : Continues o t w
 
--- whatever legal history of an opening with these tables led to the world, a line is answered after it
+-- whatever legal history of an opening with these tables led to the world, the line is answered
+-- after it
 abbrev pub AnswersWorld : Bool → ℕ → List ℕ → WorldValue → WorldValue → Option (List ℕ) → Option (List ℕ) → Option ℕ → Type 0
 AnswersWorld echoes tables line old new before now refused =
     (o : OpeningValue) (t : Trace) → LeadsTo o t old → o.tables ≡ tables
     → IsAnswered echoes o t line before now new refused
 
--- whatever legal history of an opening with these tables led to the world, a script is run after it
+-- whatever legal history of an opening with these tables led to the world, the script is run after
+-- it
 abbrev pub RunsScript : ScriptManner → ℕ → WorldValue → WorldValue → LinesValue → Option (List ℕ) → Option (List ℕ) → Ending → Type 0
 RunsScript manner tables old new lines before now ending =
     (o : OpeningValue) (t : Trace) → LeadsTo o t old → o.tables ≡ tables → IsWritten manner o t lines before now new ending
 
--- the lines of a reader give an opening up to those that are left, and the world is the one of the opening
+-- the lines of a reader, up to those that are left, spell an opening, and the world is the one of
+-- the opening
 abbrev pub OpensWorld : ℕ → LinesValue → LinesValue → WorldValue → Type 0
 OpensWorld tables old new world =
     (o : OpeningValue) × LeadsTo o [] world × Leaves old new (λ all left. Opens tables (Ok o) left (header_of tables all))

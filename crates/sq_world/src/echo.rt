@@ -1,4 +1,4 @@
-// Answers, alone or behind their lines.
+// Writes answers, alone or after their lines.
 ghost use Rattle.std.specs.Prelude.{◌≡◌, IfOk, OnOk};
 ghost use Rattle.std.specs.Io.KnownBytes.{Appends};
 ghost use Rattle.sq_explain.specs.Meanings.{meaning_of};
@@ -9,11 +9,11 @@ use sq_model::Answer;
 use sq_text::{WriteFault, write_answer, write_refused};
 use std::io::Write;
 
-// What is between a line and its answer.
+// The text between a line and its answer.
 const ARROW: &[u8] = b" -> ";
 
-/// Writes what a line is answered, behind the line where it echoes. Gives the number of a refusal. An error is a write that
-/// failed.
+/// Writes `answer`, after its `line` if `echoes`. Returns the number of a refusal. Fails if a write
+/// fails.
 pub(crate) fn write_told<W: Write>(
     writer: &mut W,
     line: &[u8],
@@ -38,8 +38,8 @@ pub(crate) fn write_told<W: Write>(
     Ok(None)
 }
 
-/// Writes the refusal of a line with this number, behind the line and with what the number means where it echoes. An error
-/// is a write that failed.
+/// Writes the refusal with this `number`; if `echoes`, after its `line` and with its meaning. Fails
+/// if a write fails.
 #[inline(always)]
 pub(crate) fn write_refusal<W: Write>(
     writer: &mut W,
@@ -58,7 +58,7 @@ pub(crate) fn write_refusal<W: Write>(
     write_reason(writer, number)
 }
 
-// Writes a refusal with what its number means. An error is a write that failed.
+// Writes a refusal with its meaning. Fails if a write fails.
 fn write_reason<W: Write>(writer: &mut W, number: u16) -> Result<(), WriteFault>
     ensures { OnOk result (Appends (W.contents writer.old) (W.contents writer.new)
         (reason_line number (meaning_of number))) }

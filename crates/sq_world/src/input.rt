@@ -1,4 +1,4 @@
-// Inputs: bytes in, bytes out.
+// Runs an input, from bytes to bytes.
 ghost use Rattle.std.specs.Prelude.{IfOk, IfErr};
 ghost use Rattle.sq_world.specs.Run.{Runs, RunsLines};
 ghost use Rattle.sq_world.specs.Script.{IsLedByLines, IsLedByReader, KeepsDumped, KeepsLed, OpensWorld, RefusesHeader};
@@ -12,22 +12,24 @@ use sq_text::{InputFault, LocatedFault, WriteFault, read_header};
 use std::alloc::Global;
 use std::io::{Read, Write};
 
-/// Reads an input line by line, runs it, and writes what its lines are answered.
+/// Reads an input line by line, runs it, and writes the answers.
 ///
-/// The input is a header, as [`read_header`] has it for a schema of [`MAX_TABLES`] tables, and the lines of a script.
-/// Each line is answered by a line: a step by the rules of the move, and a line that is no step by the number of its
-/// refusal. After the last line comes the dump of the world. Where the header has a fault, or there is no memory for a
-/// line or the world, the fault is all that is written; where a read of the script fails, or it has too many lines or
-/// one without end, the fault comes in place of the dump. The writer is flushed before more of the script is read, and
-/// at the end. An error is a write or a flush that failed.
+/// The input is a header, as [`read_header`] reads it for a schema of [`MAX_TABLES`] tables, and
+/// the lines of a script. Each line of the script is answered by one line: a step by the rules of
+/// the move, and any other line by the number of its refusal. After the last line comes the dump of
+/// the world. If the header has a fault, only the fault is written; so it is if there is no memory
+/// for a line or the world. If a read of the script fails, or it has too many lines or one without
+/// end, the fault is written in place of the dump. The writer is flushed before more of the script
+/// is read, and at the end. Fails if a write or a flush fails.
 ///
-/// By its manner it `echoes` each line of the script before its answer, as `LINE -> ANSWER`, and adds to the number of a
-/// refusal what it means, as `LINE -> refused 216: the node's last chunk isn't loaded`. Where it is `strict`, it ends
-/// behind the first line that is refused.
+/// If `manner` says `echoes`, each line of the script is written before its answer, as
+/// `LINE -> ANSWER`, and the number of a refusal is followed by its meaning, as
+/// `LINE -> refused 216: the node's last chunk isn't loaded`. If it says `strict`, the run ends
+/// after the first refused line.
 ///
-/// The world that the header opens comes into `kept`, in place of what is there; where the run comes to its dump it is the one
-/// that is dumped, to which a legal history of steps that lines spell leads from that header. A caller may free it later or leave it
-/// to the system.
+/// The world that the header opens replaces any in `kept`. If the run comes to its dump, this is
+/// the world that is dumped: a legal history of steps, spelled by lines, leads to it from that
+/// header. The caller may free it later or leave it to the system.
 pub fn run<R: Read, W: Write>(
     alloc: Global,
     reader: &mut R,
@@ -53,7 +55,6 @@ pub fn run<R: Read, W: Write>(
     Ok(ending)
 }
 
-// Runs the lines of an input.
 fn run_lines<R: Read, W: Write>(
     alloc: Global,
     lines: &mut LineReader<R>,
@@ -76,7 +77,7 @@ fn run_lines<R: Read, W: Write>(
     }
 }
 
-// The world that a header opens.
+// Opens the world of a header.
 fn open_world<R: Read>(
     alloc: Global,
     schema: Schema,

@@ -1,4 +1,4 @@
-// What holds of runs.
+// Laws of runs.
 ghost use Rattle.std.specs.Prelude.{◌≡◌};
 ghost use Rattle.sq_ranges.specs.OpeningValue.{OpeningValue};
 ghost use Rattle.sq_model.specs.Trace.{Trace};
@@ -6,7 +6,7 @@ ghost use Rattle.sq_transition.specs.WorldValue.{WorldValue};
 ghost use Rattle.sq_transition.specs.Holds.{Holds};
 ghost use Rattle.sq_state.specs.Dump.{dump};
 
-/// A history has one dump: two worlds to which it leads are dumped alike.
+/// A history has one dump: two worlds that it leads to have the same one.
 pub fn a_history_has_one_dump()
     ensures { (o : OpeningValue) (t : Trace) (one other : WorldValue) → Holds o t one
         → Holds o t other → dump one ≡ dump other }

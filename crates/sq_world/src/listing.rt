@@ -1,4 +1,4 @@
-// What moves between two plans: bytes in, bytes out.
+// Writes what moves between two plans, from bytes to bytes.
 ghost use Rattle.std.specs.Prelude.{IfOk};
 ghost use Rattle.sq_world.specs.Listing.{IsMovesText, Tells, TellsLines, TellsOrRefuses, Lists};
 
@@ -13,13 +13,15 @@ use std::alloc::Global;
 use std::io;
 use std::io::{Read, Write};
 
-/// Reads the first three lines of an input, two plans and the sizes, and writes what moves between the plans.
+/// Reads the first three lines of an input, two plans and the sizes, and writes what moves between
+/// the plans.
 ///
-/// For each reconfiguration range, in key order, it writes a line `range LO HI SRC DST`, and then for each segment a
-/// line `segment SEG LO HI SRC DST`: the root keys from LO up to HI, HI not among them, the partition that they leave
-/// and the one that they come to. Where there is more than one stage, the line ends with the segment's, as ` stage I`.
-/// Where the lines have a fault, as [`read_plans`] has them, or there is no memory, the fault is all that is written.
-/// What follows these lines isn't looked at. An error is a write or a flush that failed.
+/// Each reconfiguration range, in key order, is a line `range LO HI SRC DST`, and after these each
+/// segment is a line `segment SEG LO HI SRC DST`: the root keys from LO up to, not including, HI,
+/// the partition that they leave and the one that they move to. If there is more than one stage,
+/// the line ends with the segment's, as ` stage I`. If the lines have a fault, as in
+/// [`read_plans`], or memory runs out, only the fault is written. What follows these lines isn't
+/// looked at. Fails if a write or a flush fails.
 pub fn ranges<R: Read, W: Write>(
     alloc: Global,
     reader: &mut R,
@@ -31,7 +33,7 @@ pub fn ranges<R: Read, W: Write>(
     list(alloc, reader, writer, &Lines)
 }
 
-/// The same as [`ranges`], but what moves is written by `telling`.
+/// Like [`ranges`], but `telling` writes what moves.
 pub fn list<R: Read, W: Write, T: Telling>(
     alloc: Global,
     reader: &mut R,
@@ -47,7 +49,7 @@ pub fn list<R: Read, W: Write, T: Telling>(
     Ok(ending)
 }
 
-// What moves, in lines.
+// Writes what moves as lines.
 struct Lines;
 
 impl Telling for Lines {
@@ -96,7 +98,7 @@ fn list_moves<R: Read, W: Write, T: Telling>(
     }
 }
 
-// Writes what moves, or else that there is no memory for it.
+// Writes what moves, or else the fault that memory ran out.
 fn tell<W: Write, T: Telling>(
     alloc: Global,
     writer: &mut W,

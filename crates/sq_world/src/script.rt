@@ -1,4 +1,4 @@
-// Scripts.
+// Runs scripts.
 ghost use Rattle.std.specs.Prelude.{◌≡◌, ℕ, Ok, Some, OnOk, IfOk};
 ghost use Rattle.std.specs.Io.KnownBytes.{Appends};
 ghost use Rattle.sq_lines.specs.Pieces.{next_line_number};
@@ -17,8 +17,8 @@ use sq_text::{InputFault, InputLine, LineFault, LocatedFault, WriteFault, read_s
 use std::alloc::Global;
 use std::io::{Read, Write};
 
-// Writes what the lines of a script are answered, in this manner, and then the dump. What is written goes out before more is
-// read.
+// Writes the answers to the lines of a script, in this `manner`, and then the dump. Flushes the
+// writer before more is read.
 pub(crate) fn run_script<R: Read, W: Write>(
     alloc: Global,
     schema: &Schema,
@@ -61,21 +61,21 @@ pub(crate) fn run_script<R: Read, W: Write>(
     }
 }
 
-// The line in which an input ends.
+// Returns the line in which an input ends.
 fn line_of<R: Read>(lines: &LineReader<R>) -> InputLine
     ensures { result ≡ InputLine.Later (next_line_number lines.now.lines_left) }
 {
     InputLine::Later(lines.next_line_number())
 }
 
-// The refusal behind which a run in this manner ends, if it does.
+// Returns the refusal after which a run in this `manner` ends, if it does.
 fn stopping(manner: ScriptManner, refused: Option<u16>) -> Option<u16>
     ensures { result ≡ stopping manner refused }
 {
     if manner.strict { refused } else { None }
 }
 
-// How a run ends at a line, by the refusal behind which it does.
+// Returns how a run ends at `line`; `stop` is the refusal that ends it, if one does.
 fn ending_at(stop: Option<u16>, line: u32) -> Ending
     ensures { result ≡ ending_at stop line }
 {
@@ -85,7 +85,7 @@ fn ending_at(stop: Option<u16>, line: u32) -> Ending
     }
 }
 
-// Writes the dump, which ends the run so.
+// Writes the dump, and ends the run with `ending`.
 fn end<W: Write>(world: &World, writer: &mut W, ending: Ending) -> Result<Ending, WriteFault>
     ensures ending { IfOk result (λ ended. ended ≡ ending) }
     ensures dumped { OnOk result (Appends (W.contents writer.old) (W.contents writer.new)
@@ -95,7 +95,7 @@ fn end<W: Write>(world: &World, writer: &mut W, ending: Ending) -> Result<Ending
     Ok(ending)
 }
 
-// Writes what a line of a script is answered. Gives the number of a refusal.
+// Writes the answer to a line of a script. Returns the number of a refusal.
 fn write_line<W: Write>(
     alloc: Global,
     schema: &Schema,
@@ -117,8 +117,8 @@ fn write_line<W: Write>(
     }
 }
 
-// Makes the step that a line spells, and writes its answer. Gives the number of a refusal. It stays out of line: a line that
-// spells no step needs none of its values.
+// Executes the step of `line` and writes its answer. Returns the number of a refusal. Not inlined,
+// since a line without a step needs none of its values.
 #[inline(never)]
 fn make_step<W: Write>(
     world: &mut World,

@@ -12,16 +12,16 @@ use std::io::Write;
 #[derive(Clone, Copy, Debug, PartialEq, Eq)]
 pub enum Told {
     Written,
-    /// There was no memory for it, and nothing was written.
+    /// Memory ran out, and nothing was written.
     NoMemory,
 }
 
 /// A way to write what moves.
 pub trait Telling {
-    /// Its texts of a reconfiguration.
+    /// The texts that it may write for a reconfiguration.
     ghost tells: { Self → ReconValue → List ℕ → Type 0 };
 
-    /// Writes its text of a reconfiguration, and gives whether there was memory for it. An error is the writer's.
+    /// Writes what moves by `recon`, or returns [`Told::NoMemory`]. Fails if a write fails.
     fn tell<W: Write>(&self, alloc: Global, writer: &mut W, recon: &Recon) -> io::Result<Told>
         ensures { IfOk result (IsTold (tells self.now) recon.now (W.contents writer.old)
             (W.contents writer.new)) };

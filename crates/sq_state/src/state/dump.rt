@@ -13,12 +13,13 @@ use crate::queue::Queue;
 use crate::state::State;
 use sq_chunk::Chunk;
 use sq_plan::PartId;
-use sq_runs::RunStore;
+use sq_slab::SlabStore;
 use sq_text::{WriteFault, write_at, write_end, write_way};
 use std::io::Write;
 
 impl State {
-    /// Writes the phase, each partition with its families, and each link with what is under way on it.
+    /// Writes the phase, each partition with its families, and each link with its chunks under way.
+    /// Fails if a write fails.
     pub fn write_dump<W: Write>(&self, writer: &mut W) -> Result<(), WriteFault>
         requires { IsSound self.now }
         ensures { OnOk result (Appends (W.contents writer.old) (W.contents writer.new)
@@ -42,7 +43,7 @@ impl State {
         Ok(())
     }
 
-    // Writes what is under way from each partition.
+    // Writes the chunks under way from each partition.
     fn write_links<W: Write>(&self, writer: &mut W) -> Result<(), WriteFault>
         ensures { OnOk result (Appends (W.contents writer.old) (W.contents writer.new)
             (flat_map (source_lines self.now) (range_with_len 0 self.now.old.parts))) }
@@ -53,7 +54,7 @@ impl State {
         Ok(())
     }
 
-    // Writes what is under way from a partition to each.
+    // Writes the chunks under way from `src` to each partition.
     fn write_source<W: Write>(&self, writer: &mut W, src: u64) -> Result<(), WriteFault>
         ensures { OnOk result (Appends (W.contents writer.old) (W.contents writer.new)
             (source_lines self.now src)) }
@@ -64,7 +65,7 @@ impl State {
         Ok(())
     }
 
-    // Writes what is under way from one partition to another.
+    // Writes the chunks under way from `src` to `dst`.
     fn write_link<W: Write>(&self, writer: &mut W, src: u64, dst: u64) -> Result<(), WriteFault>
         ensures { OnOk result (Appends (W.contents writer.old) (W.contents writer.new)
             (link_lines self.now (link_index self.now src dst))) }
@@ -75,7 +76,8 @@ impl State {
         }
     }
 
-    // Writes the chunks of a queue's link that were cut and aren't loaded, the oldest first.
+    // Writes the chunks on the link of `queue` that were cut and aren't loaded yet, the oldest
+    // first.
     fn write_under_way<W: Write>(&self, writer: &mut W, queue: &Queue) -> Result<(), WriteFault>
         ensures { OnOk result (Appends (W.contents writer.old) (W.contents writer.new)
             (flat_map way_lines (under_way (link_of self.now queue.now)))) }
@@ -86,11 +88,11 @@ impl State {
     }
 }
 
-// Writes the families in the store of a partition, by rising root key.
+// Writes the families in the store of `part`, by rising root key.
 fn write_families<W: Write>(
     writer: &mut W,
     part: PartId,
-    store: &RunStore,
+    store: &SlabStore,
 ) -> Result<(), WriteFault>
     ensures { OnOk result (Appends (W.contents writer.old) (W.contents writer.new)
         (flat_map (at_line part) (families_in store.now))) }
@@ -122,7 +124,7 @@ fn write_queue<W: Write>(writer: &mut W, queue: &Queue) -> Result<(), WriteFault
     write_chunks(writer, back)
 }
 
-// Writes chunks, the first one first.
+// Writes `chunks` in their order.
 fn write_chunks<W: Write>(writer: &mut W, chunks: &[Chunk]) -> Result<(), WriteFault>
     ensures { OnOk result (Appends (W.contents writer.old) (W.contents writer.new)
         (flat_map way_lines chunks.now)) }

@@ -15,15 +15,15 @@ use sq_exec::PartCore;
 use sq_leader::{Idle, Leader, NextFault, Report, ReportFault};
 use sq_model::{Answer, Phase, Refusal};
 use sq_ranges::{Recon, SEGMENT_LIMIT};
-use sq_runs::RunStore;
+use sq_slab::SlabStore;
 use sq_tree::PlainTree;
 use std::mem;
 
-// How many segments there are at most, as the length of an array.
+// The most segments, as the length of an array.
 const SEGMENTS: usize = SEGMENT_LIMIT as usize;
 
 impl State {
-    /// Records that a partition is ready, which it may say until the move starts.
+    /// Records that partition `part` is ready, which it may report until the move starts.
     pub(crate) fn prepare(&mut self, part: u64) -> Result<Answer, Refusal>
         requires { IsSound self.old }
         ensures { (answer_of result, self.new) ≡ prepare_result self.old part }
@@ -50,7 +50,8 @@ impl State {
         }
     }
 
-    /// Starts the move, once every partition has prepared, and informs each partition.
+    /// Starts the move at the leader and at each partition; refused until every partition has
+    /// prepared.
     pub(crate) fn start(&mut self) -> Result<Answer, Refusal>
         requires { IsSound self.old }
         ensures { (answer_of result, self.new) ≡ start_result self.old }
@@ -68,7 +69,8 @@ impl State {
         }
     }
 
-    /// Records that a partition has all of the segments that move into it, once each of them is whole.
+    /// Records that partition `part` has all of the segments that move into it; refused until each
+    /// of them is complete.
     pub(crate) fn report(&mut self, part: u64) -> Result<Answer, Refusal>
         requires { IsSound self.old }
         ensures { (answer_of result, self.new) ≡ report_result self.old part }
@@ -88,8 +90,8 @@ impl State {
         }
     }
 
-    /// Runs the next stage, once every partition into which a segment of this one moves has reported, and informs each
-    /// partition.
+    /// Enters the next stage at the leader and at each partition; refused until every partition
+    /// that a segment of this stage moves into has reported.
     pub(crate) fn next(&mut self) -> Result<Answer, Refusal>
         requires { IsSound self.old }
         ensures { (answer_of result, self.new) ≡ next_result self.old }
@@ -108,7 +110,8 @@ impl State {
         }
     }
 
-    /// Ends the move in its last stage, once every partition into which a segment of that moves has reported.
+    /// Ends the move in its last stage; refused until every partition that a segment of that stage
+    /// moves into has reported.
     pub(crate) fn finish(&mut self) -> Result<Answer, Refusal>
         requires { IsSound self.old }
         ensures { (answer_of result, self.new) ≡ finish_result self.old }
@@ -122,7 +125,7 @@ impl State {
         }
     }
 
-    /// Folds the logs of a partition, once the reconfiguration has ended.
+    /// Folds the logs of partition `part`; refused until the reconfiguration has ended.
     pub(crate) fn fold(&mut self, part: u64) -> Result<Answer, Refusal>
         requires { IsSound self.old }
         ensures { (answer_of result, self.new) ≡ fold_result self.old part }
@@ -135,7 +138,7 @@ impl State {
         Ok(Answer::Done)
     }
 
-    // Takes the leader out for a call; an idle one is there meanwhile.
+    // Takes the leader out for a call, and leaves an idle one in its place.
     fn take_leader(&mut self) -> Leader
         ensures leader { result ≡ self.old.leader }
         ensures after { self.new ≡ record self.old {
@@ -147,7 +150,7 @@ impl State {
         mem::replace(&mut self.leader, meanwhile)
     }
 
-    // The leader after a call that went.
+    // Puts the leader in after a call that succeeded.
     fn go_on(&mut self, leader: Leader) -> Result<Answer, Refusal>
         ensures answer { result ≡ Ok Answer.Done }
         ensures after { self.new ≡ record self.old { leader = leader } }
@@ -156,7 +159,7 @@ impl State {
         Ok(Answer::Done)
     }
 
-    // The leader as it was, after a call that was refused.
+    // Puts the leader back after a call that was refused.
     fn stay(&mut self, leader: Leader, refusal: Refusal) -> Result<Answer, Refusal>
         ensures answer { result ≡ Err refusal }
         ensures after { self.new ≡ record self.old { leader = leader } }
@@ -166,8 +169,8 @@ impl State {
     }
 }
 
-// Tells each partition that the move has started.
-fn start_all(cores: &mut [PartCore<RunStore>])
+// Starts the move at each partition.
+fn start_all(cores: &mut [PartCore<SlabStore>])
     ensures { map (λ part. part.core) cores.new
         ≡ map started_core (map (λ part. part.core) cores.old) }
 {
@@ -176,8 +179,8 @@ fn start_all(cores: &mut [PartCore<RunStore>])
     }
 }
 
-// Tells each partition which stage runs.
-fn enter_all(cores: &mut [PartCore<RunStore>], stage: u64)
+// Enters `stage` at each partition.
+fn enter_all(cores: &mut [PartCore<SlabStore>], stage: u64)
     ensures { map (λ part. part.core) cores.new
         ≡ map (entered_core stage) (map (λ part. part.core) cores.old) }
 {
@@ -186,7 +189,7 @@ fn enter_all(cores: &mut [PartCore<RunStore>], stage: u64)
     }
 }
 
-// Which segments are complete, by their trees.
+// Marks the segments that are complete, according to their trees.
 fn complete_by_trees(trees: &[PlainTree]) -> [bool; SEGMENTS]
     requires { length trees.now ≤ SEGMENT_LIMIT }
     ensures { (seg : ℕ) → seg < length trees.now
@@ -200,7 +203,7 @@ fn complete_by_trees(trees: &[PlainTree]) -> [bool; SEGMENTS]
     whole
 }
 
-// Why the next stage doesn't run.
+// Returns why the next stage was refused.
 fn next_refusal(fault: NextFault) -> Refusal
     ensures { result ≡ next_refused fault }
 {
@@ -210,7 +213,7 @@ fn next_refusal(fault: NextFault) -> Refusal
     }
 }
 
-// Why a report is refused.
+// Returns why a report was refused.
 fn report_refusal(fault: ReportFault) -> Refusal
     ensures { result ≡ report_refused fault }
 {

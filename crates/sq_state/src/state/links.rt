@@ -21,7 +21,7 @@ struct LinkPlace {
 }
 
 impl State {
-    /// The chunk that was cut goes onto its link.
+    /// Pushes the chunk that was cut at `src` onto its link to `dst`.
     pub(crate) fn push(&mut self, src: u64, dst: u64) -> Result<Answer, Refusal>
         requires { IsSound self.old }
         ensures { (answer_of result, self.new) ≡ push_result self.old src dst }
@@ -42,7 +42,7 @@ impl State {
         Ok(Answer::Done)
     }
 
-    /// The oldest chunk on a link reaches its destination.
+    /// Pops the oldest chunk off the link from `src` into the inbox at `dst`.
     pub(crate) fn pop(&mut self, src: u64, dst: u64) -> Result<Answer, Refusal>
         requires { IsSound self.old }
         ensures { (answer_of result, self.new) ≡ pop_result self.old src dst }
@@ -62,7 +62,8 @@ impl State {
         Ok(Answer::Done)
     }
 
-    /// A chunk of the work that is done next is cut for its link. Where there is no memory nothing changes.
+    /// Cuts a chunk of the next work at `src` for its link to `dst`. If memory runs out, nothing
+    /// changes.
     pub(crate) fn cut(&mut self, src: u64, dst: u64) -> Result<Answer, Refusal>
         requires { IsSound self.old }
         ensures { IsResult (Step.Cut src dst) self.old (cut_result self.old src dst)
@@ -80,7 +81,8 @@ impl State {
         }
     }
 
-    /// The chunk that came to a destination is loaded. Where there is no memory nothing changes.
+    /// Loads the chunk in the inbox at `dst` that came from `src`. If memory runs out, nothing
+    /// changes.
     pub(crate) fn load(&mut self, src: u64, dst: u64) -> Result<Answer, Refusal>
         requires { IsSound self.old }
         ensures { IsResult (Step.Load src dst) self.old (load_result self.old src dst)
@@ -96,7 +98,7 @@ impl State {
         }
     }
 
-    // The link from one partition to another; a refusal where the running stage has no such link.
+    // Returns the link from `src` to `dst`; refused if the running stage has no such link.
     fn running_link(&self, src: u64, dst: u64) -> Result<LinkPlace, Refusal>
         ensures { result ≡ running_link self.now src dst }
     {
@@ -112,7 +114,7 @@ impl State {
         }
     }
 
-    // The place of the link from one partition to another.
+    // Returns the place of the link from `src` to `dst`; `None` if there is none.
     pub(super) fn link_at(&self, src: u64, dst: u64) -> Option<usize>
         ensures { result ≡ link_index self.now src dst }
     {
@@ -120,7 +122,7 @@ impl State {
     }
 }
 
-// How many families a chunk holds; none where there is no chunk.
+// Returns the number of families in a chunk; 0 without a chunk.
 fn count(chunk: Option<&Chunk>) -> u64
     ensures { result ≡ families_of (option_copied chunk.entry) }
 {
@@ -130,7 +132,7 @@ fn count(chunk: Option<&Chunk>) -> u64
     }
 }
 
-// Why a cut is refused.
+// Returns why a cut was refused.
 fn cut_refusal(fault: CutFault) -> Refusal
     ensures { result ≡ cut_refused fault }
 {
@@ -141,7 +143,7 @@ fn cut_refusal(fault: CutFault) -> Refusal
     }
 }
 
-// Why a load is refused.
+// Returns why a load was refused.
 fn load_refusal(fault: LoadFault) -> Refusal
     ensures { result ≡ load_refused fault }
 {

@@ -11,21 +11,21 @@ use crate::state::State;
 use sq_exec::{PartCore, open_partitions};
 use sq_leader::{Idle, Leader};
 use sq_ranges::{Opening, Range, Recon};
-use sq_runs::RunStore;
+use sq_slab::SlabStore;
 use sq_tree::PlainTree;
 use std::alloc::{AllocError, Global};
 
-// What a state has beside its opening.
+// The parts of a state that aren't in its opening.
 #[derive(Drop)]
 struct Fresh {
     moves: Recon,
-    cores: Vec<PartCore<RunStore>>,
+    cores: Vec<PartCore<SlabStore>>,
     trees: Vec<PlainTree>,
     queues: Vec<Queue>,
 }
 
 impl State {
-    /// The state that a world opens in. Where there is no memory for it the opening comes back.
+    /// Creates the state that a world opens in. If memory runs out, `opening` is returned.
     pub fn open(alloc: Global, opening: Opening) -> Result<State, Opening>
         ensures opened { IfOk result (Holds opening []) }
         ensures set_up { IfOk result (λ _. IsSetUp opening) }
@@ -51,7 +51,7 @@ impl State {
     }
 }
 
-// What a state has beside this opening.
+// Creates the parts of a state that aren't in `opening`.
 fn fresh_state(alloc: Global, opening: &Opening) -> Result<Fresh, AllocError>
     ensures cores { IfOk result (λ fresh. map (λ part. part.core) fresh.cores.items
         ≡ map (opened_part opening.now) (range_with_len 0 opening.now.old.parts)) }
@@ -69,7 +69,7 @@ fn fresh_state(alloc: Global, opening: &Opening) -> Result<Fresh, AllocError>
     })
 }
 
-// The trees of segments, with all nodes free.
+// Creates a tree for each segment, with all nodes free.
 fn trees(alloc: Global, segments: &[Range]) -> Result<Vec<PlainTree>, AllocError>
     ensures { IfOk result (λ trees. AreNewTrees segments.now trees.items) }
 {
@@ -80,7 +80,7 @@ fn trees(alloc: Global, segments: &[Range]) -> Result<Vec<PlainTree>, AllocError
     Ok(trees)
 }
 
-// The queues of the links of a reconfiguration, which nothing went onto.
+// Creates an empty queue for each link of a reconfiguration.
 fn queues(alloc: Global, recon: &Recon) -> Result<Vec<Queue>, AllocError>
     ensures { IfOk result (λ queues. AreNewQueues recon.now.ranges queues.items) }
 {

@@ -1,4 +1,4 @@
-// What is read of a world.
+// Reads the state of a world.
 ghost use Rattle.std.specs.Prelude.{◌≡◌, slice_get};
 ghost use Rattle.std.specs.Option.{option_copied};
 ghost use Rattle.sq_transition.specs.Prelude.{running_stage, link_of, under_way, phase_of};
@@ -9,11 +9,11 @@ use crate::state::State;
 use sq_chunk::Chunk;
 use sq_leader::Leader;
 use sq_model::Phase;
-use sq_runs::RunStore;
+use sq_slab::SlabStore;
 use sq_tree::{NodeId, Status};
 
 impl State {
-    /// How far the leader is.
+    /// Returns the phase that the leader is in.
     pub fn phase(&self) -> Phase
         ensures { result ≡ phase_of self.now.leader }
     {
@@ -25,7 +25,7 @@ impl State {
         }
     }
 
-    /// The stage that runs: 0 before the start, and the last once the move has ended.
+    /// Returns the running stage: 0 before the start, and the last one once the move has ended.
     pub fn stage(&self) -> u64
         ensures { result ≡ running_stage self.now }
     {
@@ -36,16 +36,16 @@ impl State {
         }
     }
 
-    /// The families of a partition; `None` where there is no such partition.
-    pub fn store(&self, part: u64) -> Option<&RunStore>
+    /// Returns the families of partition `part`; `None` if there is no such partition.
+    pub fn store(&self, part: u64) -> Option<&SlabStore>
         ensures { option_copied result ≡ store_at self.now part }
     {
         let core = self.cores.get(part as usize)?;
         Some(core.store())
     }
 
-    /// The chunk of this number, from 0, of those from one partition to another that were cut and aren't loaded, the
-    /// oldest first; `None` where there is none.
+    /// Returns chunk number `i`, from 0, of those that were cut from `src` for `dst` and aren't
+    /// loaded yet, the oldest first; `None` if there is none.
     pub fn under_way(&self, src: u64, dst: u64, i: u64) -> Option<&Chunk>
         ensures { option_copied result ≡ chunk_at self.now src dst i }
     {
@@ -53,7 +53,7 @@ impl State {
         self.chunk_on(&self.queues[at], i as usize)
     }
 
-    /// The status of a node; `None` where there is no such segment or node.
+    /// Returns the status of `node` in segment `seg`; `None` if there is no such segment or node.
     pub fn status(&self, seg: u64, node: u64) -> Option<Status>
         ensures { result ≡ status_there self.now seg node }
     {
@@ -62,7 +62,8 @@ impl State {
         Some(tree.status(node))
     }
 
-    // The chunk of this number, from 0, of those of a queue's link that were cut and aren't loaded, the oldest first.
+    // Returns chunk number `i`, from 0, of those on the link of `queue` that were cut and aren't
+    // loaded yet, the oldest first.
     fn chunk_on<'a>(&'a self, queue: &'a Queue, i: usize) -> Option<&'a Chunk>
         ensures { option_copied result ≡ slice_get (under_way (link_of self.now queue.now)) i }
     {
@@ -78,7 +79,7 @@ impl State {
         }
     }
 
-    // The chunk that came off a queue and isn't loaded.
+    // Returns the chunk that was popped off `queue` and isn't loaded yet; `None` if there is none.
     pub(super) fn inbox(&self, queue: &Queue) -> Option<&Chunk>
         ensures { option_copied result ≡ (link_of self.now queue.now).inbox }
     {
@@ -86,7 +87,7 @@ impl State {
         core.inbox(queue.src())
     }
 
-    // The chunk that was cut for a queue and isn't on it.
+    // Returns the chunk that was cut for `queue` and isn't pushed yet; `None` if there is none.
     pub(super) fn outbox(&self, queue: &Queue) -> Option<&Chunk>
         ensures { option_copied result ≡ (link_of self.now queue.now).out.outbox }
     {

@@ -6,7 +6,7 @@ use crate::state::State;
 use sq_model::{Answer, Step};
 
 impl State {
-    /// Makes one step, and answers it.
+    /// Executes `step` and returns its answer.
     pub fn step(&mut self, step: &Step) -> Answer
         requires { IsSound self.old }
         ensures { IsTransition self.old step.now result self.new }

@@ -13,7 +13,7 @@ use sq_schema::{Root, Txn};
 use sq_tree::Status;
 
 impl State {
-    /// A transaction is submitted at a partition. Where there is no memory nothing changes.
+    /// Submits `txn` at partition `part`. If memory runs out, nothing changes.
     pub(crate) fn submit(&mut self, part: u64, txn: &Txn) -> Result<Answer, Refusal>
         requires { IsSound self.old }
         ensures { IsResult (Step.Submit part txn.now) self.old (submit_result self.old part txn.now)
@@ -26,7 +26,8 @@ impl State {
         }
     }
 
-    /// The first transaction that waits at a partition and can run is run. Where there is no memory nothing changes.
+    /// Runs the first waiting transaction at partition `part` that can run. If memory runs out,
+    /// nothing changes.
     pub(crate) fn resume(&mut self, part: u64) -> Result<Answer, Refusal>
         requires { IsSound self.old }
         ensures { IsResult (Step.Resume part) self.old (resume_result self.old part)
@@ -60,7 +61,7 @@ impl State {
         }
     }
 
-    // Where a transaction is sent on to that a partition sends to this one.
+    // Returns where a transaction on `root` is forwarded to, if a partition forwards it to `who`.
     fn sent_to(&self, root: Root, who: PartId) -> PartId
         requires { length self.now.trees ≡ length self.now.recon.segments }
         ensures { result ≡ sent_to self.now root who }
@@ -72,7 +73,7 @@ impl State {
         }
     }
 
-    // Whether the node over a root key was begun.
+    // Returns true if the node over `root` was begun.
     fn is_given_up(&self, root: Root) -> bool
         requires { length self.now.trees ≡ length self.now.recon.segments }
         ensures { result ≡ is_root_given_up self.now root }
@@ -89,7 +90,7 @@ impl State {
     }
 }
 
-// Why a transaction isn't taken.
+// Returns why a transaction was refused.
 fn submit_refusal(fault: SubmitFault) -> Refusal
     ensures { result ≡ submit_refused fault }
 {
@@ -100,7 +101,7 @@ fn submit_refusal(fault: SubmitFault) -> Refusal
     }
 }
 
-// Why no waiting transaction is taken up.
+// Returns why no waiting transaction was resumed.
 fn resume_refusal(fault: ResumeFault) -> Refusal
     ensures { result ≡ resume_refused fault }
 {

@@ -15,7 +15,7 @@ use sq_ranges::SegId;
 use sq_tree::{ClaimFault, CompleteFault, NodeId, PlainTree, SplitFault, Status};
 
 impl State {
-    /// A node of a segment is split.
+    /// Splits `node` of segment `seg`.
     pub(crate) fn split(&mut self, seg: u64, node: u64) -> Result<Answer, Refusal>
         requires { IsSound self.old }
         ensures { (answer_of result, self.new) ≡ split_result self.old seg node }
@@ -27,7 +27,7 @@ impl State {
         Ok(Answer::Done)
     }
 
-    /// A node of a segment is claimed for a pull.
+    /// Claims `node` of segment `seg` for `pull`.
     pub(crate) fn claim(&mut self, seg: u64, node: u64, pull: u32) -> Result<Answer, Refusal>
         requires { IsSound self.old }
         ensures { (answer_of result, self.new) ≡ claim_result self.old seg node pull }
@@ -39,8 +39,8 @@ impl State {
         Ok(Answer::Done)
     }
 
-    /// A node of a segment is given up to the pull that claimed it, and its source has all of it to cut. Where there is
-    /// no memory nothing changes.
+    /// Gives `node` of segment `seg` up to `pull`, which claimed it; all of it is then to be cut at
+    /// its source. If memory runs out, nothing changes.
     pub(crate) fn begin(&mut self, seg: u64, node: u64, pull: u32) -> Result<Answer, Refusal>
         requires { IsSound self.old }
         ensures { IsResult (Step.Begin seg node pull) self.old (begin_result self.old seg node pull)
@@ -60,7 +60,7 @@ impl State {
         Ok(Answer::Done)
     }
 
-    /// A node of a segment is completed, whose last chunk is loaded.
+    /// Completes `node` of segment `seg` for `pull`; refused until its last chunk is loaded.
     pub(crate) fn complete(&mut self, seg: u64, node: u64, pull: u32) -> Result<Answer, Refusal>
         requires { IsSound self.old }
         ensures { (answer_of result, self.new) ≡ complete_result self.old seg node pull }
@@ -73,7 +73,7 @@ impl State {
         Ok(Answer::Done)
     }
 
-    /// The status of a node of a segment, and what the node reads as.
+    /// Returns the status of `node` in segment `seg`, and its reading.
     pub(crate) fn status_of(&self, seg: u64, node: u64) -> Result<Answer, Refusal>
         requires { IsSound self.now }
         ensures { (answer_of result, self.now) ≡ status_result self.now seg node }
@@ -87,7 +87,7 @@ impl State {
         })
     }
 
-    // Whether the last chunk of a node is loaded at its destination.
+    // Returns true if the last chunk of `node` is loaded at its destination.
     fn is_loaded_whole(&self, seg: SegId, node: NodeId) -> bool
         requires sound { IsSound self.now }
         requires exists { seg < length self.now.recon.segments }
@@ -114,7 +114,7 @@ fn claim_node(tree: &mut PlainTree, node: NodeId, pull: u32) -> Result<(), Refus
     tree.claim(node, pull).map_err(claim_refusal)
 }
 
-// Whether a node may be given up to a pull, and why not.
+// Refuses unless `node` may be given up to `pull`.
 fn check_begin(tree: &PlainTree, node: NodeId, pull: u32) -> Result<(), Refusal>
     ensures { done_or result ≡ begin_answered (begin_answer (status_at tree.now) node pull) }
 {
@@ -125,7 +125,7 @@ fn check_begin(tree: &PlainTree, node: NodeId, pull: u32) -> Result<(), Refusal>
     }
 }
 
-// Gives a node up to a pull that it may be given up to.
+// Gives `node` up to `pull`, which may have it.
 fn begin_node(tree: &mut PlainTree, node: NodeId, pull: u32)
     requires { begin_answer (status_at tree.old) node pull ≡ Ok tt }
     ensures { tree.new ≡ with_status tree.old node (Status.Partial pull) }
@@ -135,7 +135,7 @@ fn begin_node(tree: &mut PlainTree, node: NodeId, pull: u32)
     };
 }
 
-// Completes a node that a pull began, if its last chunk is loaded.
+// Completes `node` for `pull`, which began it, if its last chunk is `loaded`.
 fn complete_node(tree: &mut PlainTree, node: NodeId, pull: u32, loaded: bool) -> Result<(), Refusal>
     ensures answer { done_or result
         ≡ complete_answered loaded (complete_answer (status_at tree.old) node pull) }
@@ -148,7 +148,7 @@ fn complete_node(tree: &mut PlainTree, node: NodeId, pull: u32, loaded: bool) ->
     }
 }
 
-// Why a split is refused.
+// Returns why a split was refused.
 fn split_refusal(fault: SplitFault) -> Refusal
     ensures { Answer.Refused result ≡ split_answered (Err fault) }
 {
@@ -159,7 +159,7 @@ fn split_refusal(fault: SplitFault) -> Refusal
     }
 }
 
-// Why a claim is refused.
+// Returns why a claim was refused.
 fn claim_refusal(fault: ClaimFault) -> Refusal
     ensures { Answer.Refused result ≡ claim_answered (Err fault) }
 {
@@ -169,7 +169,7 @@ fn claim_refusal(fault: ClaimFault) -> Refusal
     }
 }
 
-// Why a completion is refused of a node that is loaded.
+// Returns why the completion of a loaded node was refused.
 fn complete_refusal(fault: CompleteFault) -> Refusal
     ensures { Answer.Refused result ≡ complete_answered true (Err fault) }
 {
