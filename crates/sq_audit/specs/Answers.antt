@@ -3,7 +3,8 @@ use Rattle.std.specs.Prelude.{◌≡◌, ◌≤◌, ◌⊎◌, ℕ, Bool, true, 
 use Rattle.sq_gather.specs.Prelude.{TxnValue, replay_rows, reply, FamilyValue, absent, ReceiptValue, is_commit, Spot, GatheredValue, StandsAt}
 use Rattle.sq_audit.specs.declared.job.Job.{Job}
 
--- the receipt is what the transaction had to be answered at its position of the family's log, and a commit is there
+-- the receipt is the right answer to the transaction at its position of the family's log, and a
+-- commit is at that position
 pub record IsAnswerTo (family : FamilyValue) (txn : TxnValue) (receipt : ReceiptValue) : Type 0 where
   pub id : receipt.id ≡ txn.id
   pub root : receipt.root ≡ txn.root
@@ -11,7 +12,7 @@ pub record IsAnswerTo (family : FamilyValue) (txn : TxnValue) (receipt : Receipt
   pub told : receipt.reply ≡ reply (replay_rows family.base (take receipt.position family.log)) txn
   pub there : is_commit receipt.reply ≡ true → slice_get family.log receipt.position ≡ Some txn
 
--- the root key has this family somewhere, or it has none, which is as an empty one
+-- the root key has this family somewhere, or has none, which counts as an empty one
 abbrev pub IsFamilyOf : GatheredValue → ℕ → FamilyValue → Type 0
 IsFamilyOf g root family =
     ((spot : Spot) × StandsAt g spot root family)
@@ -27,11 +28,11 @@ AreKnown g jobs =
 abbrev pub is_of : TxnValue → ReceiptValue → Bool
 is_of txn receipt = (receipt.id == txn.id) && (receipt.root == txn.root)
 
--- each job has one of these receipts
+-- each job has exactly one of these receipts
 abbrev pub AreAnsweredBy : List ReceiptValue → List Job → Type 0
 AreAnsweredBy receipts jobs = (job : Job) → Contains jobs job → count_by (is_of job.txn) receipts ≡ 1
 
--- each job has one receipt
+-- each job has exactly one receipt
 abbrev pub AreAnswered : GatheredValue → List Job → Type 0
 AreAnswered g jobs = AreAnsweredBy g.receipts jobs
 

@@ -4,7 +4,7 @@ use Rattle.std.specs.declared.cmp.Ordering.{Ordering}
 use Rattle.std.specs.Ordering.{nat_cmp, ordering_then}
 use Rattle.sq_gather.specs.Prelude.{ReceiptValue}
 
--- an id and a root key, in order
+-- the order of pairs of an id and a root key
 abbrev pub key_order : ℕ × ℕ → ℕ × ℕ → Ordering
 key_order one other = ordering_then (nat_cmp one.0 other.0) (nat_cmp one.1 other.1)
 

@@ -1,4 +1,5 @@
--- The defects, each the failure of its clause, and the verdict: the first of them, or that there is none.
+-- The defects, each the failure of its clause, and the verdict: the first defect, or that there is
+-- none.
 use Rattle.std.specs.Prelude.{ℕ, ◌<◌, List}
 use Rattle.sq_gather.specs.Prelude.{OpeningValue, GatheredValue, FitTogether, StandOnce, AllStand, KeepBases, NameEach}
 use Rattle.sq_audit.specs.declared.job.Job.{Job}
@@ -9,7 +10,7 @@ use Rattle.sq_audit.specs.declared.verdict.Verdict.TheVariants.{Sound, Unsound}
 use Rattle.sq_audit.specs.Answers.{AreKnown, AreAnswered}
 use Rattle.sq_audit.specs.Sound.{IsSoundRun}
 
--- its number, by which the defects are in order
+-- the number of a defect; the defects are ordered by it
 abbrev pub defect_number : Defect → ℕ
 defect_number RootMissing = 301
 defect_number RootDoubled = 302
@@ -18,7 +19,7 @@ defect_number WrongPlace = 304
 defect_number ReceiptUnknown = 305
 defect_number Unanswered = 306
 
--- what was gathered hasn't this defect
+-- what was gathered does not have this defect
 abbrev pub Clears : OpeningValue → GatheredValue → List Job → Defect → Type 0
 Clears o g jobs RootMissing = AllStand o g
 Clears o g jobs RootDoubled = StandOnce g
@@ -27,7 +28,7 @@ Clears o g jobs WrongPlace = FitTogether o g
 Clears o g jobs ReceiptUnknown = AreKnown g jobs × NameEach g
 Clears o g jobs Unanswered = AreAnswered g jobs
 
--- it has no defect with a number below this one
+-- it has no defect with a number below `number`
 abbrev pub ClearBelow : OpeningValue → GatheredValue → List Job → ℕ → Type 0
 ClearBelow o g jobs number = (other : Defect) → defect_number other < number → Clears o g jobs other
 

@@ -1,4 +1,4 @@
--- What is folded of what was gathered, once the jobs that have a receipt are found sound.
+-- A fold of what was gathered, after the jobs that have a receipt were found sound.
 use Rattle.std.specs.Prelude.{◌≡◌, ℕ, ◌≤◌, Bool, not, nat_lt, List, [], filter, count_by}
 use Rattle.sq_gather.specs.Prelude.{ROOT_END, rows_in, OpeningValue, ReceiptValue, GatheredValue, IsPlaced, IsStageDone, folded_opening, folded_gathered, IsFolded}
 use Rattle.sq_audit.specs.declared.job.Job.{Job}
@@ -14,7 +14,7 @@ use Rattle.sq_audit.specs.Rows.{rows_among}
 use Rattle.sq_audit.specs.Sound.{IsSoundRun}
 use Rattle.sq_audit.specs.Defects.{IsFirstDefect}
 
--- the job has a receipt among these
+-- one of these receipts is the job's
 abbrev pub has_receipt : List ReceiptValue → Job → Bool
 has_receipt receipts job = nat_lt 0 (count_by (is_of job.txn) receipts)
 
@@ -22,25 +22,26 @@ has_receipt receipts job = nat_lt 0 (count_by (is_of job.txn) receipts)
 abbrev pub answered_jobs : List ReceiptValue → List Job → List Job
 answered_jobs receipts jobs = filter (has_receipt receipts) jobs
 
--- the jobs that have none
+-- the jobs without a receipt
 abbrev pub jobs_left : List ReceiptValue → List Job → List Job
 jobs_left receipts jobs = filter (λ job. not (has_receipt receipts job)) jobs
 
--- the jobs that have a receipt are sound, the table has the rows of the families, and the ids are those of the receipts
+-- the jobs that have a receipt are sound, the table has the rows of the families, and the ids are
+-- those of the receipts
 pub record IsReadyToFold (o : OpeningValue) (g : GatheredValue) (jobs : List Job) (ready : Ready) : Type 0 where
   pub sound : IsSoundRun o g (answered_jobs g.receipts jobs)
   pub ids : ListsIds g.receipts ready.ids.items
   pub rows : (root : ℕ) → rows_in ready.table root ≡ rows_among [] g.stores root
   pub bound : (root : ℕ) → ROOT_END ≤ root → rows_in ready.table root ≡ []
 
--- all is ready for a fold; or the jobs that have a receipt have this defect first
+-- everything is ready for a fold, or the jobs that have a receipt have this defect first
 abbrev pub IsPrepared : OpeningValue → GatheredValue → List Job → Prepared → Type 0
 IsPrepared o g jobs (prepared.Ready ready) = IsReadyToFold o g jobs ready
 IsPrepared o g jobs (prepared.Unsound defect) = IsFirstDefect o g (answered_jobs g.receipts jobs) defect
 
--- the jobs that have a receipt are sound; folded are the opening, which has the rows of the families that stand, and what was
--- gathered, which is placed there with the segments of its stage complete; and the jobs without a receipt are left, whose ids
--- differ
+-- the jobs that have a receipt are sound; the opening is folded and has the rows of the families;
+-- what was gathered is folded too, and is placed under it with the segments of its stage complete;
+-- and the jobs without a receipt are left, whose ids differ
 pub record IsFold (o : OpeningValue) (g : GatheredValue) (jobs : List Job) (folded : Folded) : Type 0 where
   pub sound : IsSoundRun o g (answered_jobs g.receipts jobs)
   pub is_folded : IsFolded o g folded.opening.table folded.gathered.stores
@@ -51,7 +52,8 @@ pub record IsFold (o : OpeningValue) (g : GatheredValue) (jobs : List Job) (fold
   pub placed : IsPlaced folded.opening folded.gathered
   pub done : IsStageDone folded.opening folded.gathered
 
--- the jobs that have a receipt have this defect first; or there was no memory, and all is as it was
+-- the jobs that have a receipt have this defect first; or memory ran out, and everything is
+-- unchanged
 abbrev pub IsUnfolded : OpeningValue → GatheredValue → List Job → Unfolded → Type 0
 IsUnfolded o g jobs (Unsound defect) = IsFirstDefect o g (answered_jobs g.receipts jobs) defect
 IsUnfolded o g jobs (Memory back) = (back.opening ≡ o) × (back.gathered ≡ g) × (back.jobs.items ≡ jobs)

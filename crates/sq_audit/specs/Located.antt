@@ -1,4 +1,4 @@
--- The families of what was gathered, each with where it is.
+-- The gathered families, each with its site.
 use Rattle.std.specs.Prelude.{◌≡◌, ℕ, ◌+◌, ◌<◌, ◌≤◌, All, List, ◌++◌, map, slice_get, Option, Some, Contains}
 use Rattle.sq_gather.specs.Prelude.{FamilyValue, ROOT_END, StoreValue, family_in, family_from, ChunkValue, IsOf, Spot, GatheredLink, GatheredValue, StandsAt}
 use Rattle.sq_gather.specs.Prelude as spots
@@ -20,13 +20,14 @@ entry_of located = (spot_of located.site, located.family.now)
 abbrev pub entries_in : List Located → List Entry
 entries_in all = map entry_of all
 
--- their root keys don't fall
+-- the root keys are in rising order, perhaps with repeats
 abbrev pub AreByRoot : List Entry → Type 0
 AreByRoot entries =
     (i j : ℕ) (one other : Entry) → i ≤ j → slice_get entries i ≡ Some one → slice_get entries j ≡ Some other
     → one.1.root ≤ other.1.root
 
--- the family is the store's of the least root key from a number on, its log is of that root key, and the next number is behind it
+-- the family has the least root key of at least `at` in the store, its log is of that root key, and
+-- `next` is the number after it
 pub record IsNextFamily (store : StoreValue) (at : ℕ) (family : FamilyValue) (next : ℕ) : Type 0 where
   pub found : family_from store at ≡ Some family
   pub behind : next ≡ family.root + 1
@@ -34,7 +35,7 @@ pub record IsNextFamily (store : StoreValue) (at : ℕ) (family : FamilyValue) (
   pub bound : next ≤ ROOT_END
   pub own : All (λ txn. txn.root ≡ family.root) family.log
 
--- these families are just those of their root keys, and their logs are of these
+-- `families` are exactly the families of their root keys, and their logs are of these
 pub record AreAllFamilies (family_of : ℕ → Option FamilyValue) (families : List FamilyValue) : Type 0 where
   pub here : (family : FamilyValue) → Contains families family → family_of family.root ≡ Some family
   pub each : (root : ℕ) (family : FamilyValue) → family_of root ≡ Some family → Contains families family
@@ -57,13 +58,13 @@ pub record AddsLink (link : ℕ) (of : GatheredLink) (old new : List Entry) : Ty
       → Contains entries (spots.Chunk link chunk, family) × IsOf root family
   pub added : new ≡ old ++ entries
 
--- these are just the families that stand, each of its root key
+-- the entries are exactly the families that stand in `g`, each of its root key
 pub record ListsAll (g : GatheredValue) (entries : List Entry) : Type 0 where
   pub here : (entry : Entry) → Contains entries entry → StandsAt g entry.0 entry.1.root entry.1
   pub each : (spot : Spot) (root : ℕ) (family : FamilyValue) → StandsAt g spot root family → Contains entries (spot, family)
   pub keyed : (spot : Spot) (root : ℕ) (family : FamilyValue) → StandsAt g spot root family → IsOf root family
 
--- these families stand, and all those in stores are among them, each of its root key
+-- the entries stand in `g`, and all families in stores are among them, each of its root key
 pub record ListsStored (g : GatheredValue) (entries : List Entry) : Type 0 where
   pub here : (entry : Entry) → Contains entries entry → StandsAt g entry.0 entry.1.root entry.1
   pub each : (part root : ℕ) (family : FamilyValue) → StandsAt g (spots.Store part) root family

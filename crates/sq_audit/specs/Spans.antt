@@ -1,4 +1,4 @@
--- The keys that notes cover, and where the notes place them.
+-- The keys that notes cover, and where the notes place these keys.
 use Rattle.std.specs.Prelude.{◌≡◌, ℕ, Bool, true, false, nat_lt, if◌then◌else◌, List, ◌++◌, map, filter, find, drop, Option, Some, None, Contains}
 use Rattle.std.specs.List.Sorted.{IsNonDecreasingBy}
 use Rattle.sq_gather.specs.Prelude.{Note, covers, OpeningValue, owner_in, Spot, Store, Chunk, GatheredLink, loaded_count, loads_of}
@@ -32,14 +32,15 @@ first_key one = one.0.lo
 abbrev pub is_over : ℕ → Marked → Bool
 is_over key one = covers one.0 key
 
--- these notes are in the order of their first keys; each covers keys, and no two cover one
+-- the notes are sorted by their first keys; each covers keys, and no two cover the same key
 pub record AreByKey (notes : List Marked) : Type 0 where
   pub sorted : IsNonDecreasingBy first_key notes
   pub some : (one : Marked) → Contains notes one → has_keys one.0 ≡ true
   pub apart : (one other : Marked) (key : ℕ) → Contains notes one → Contains notes other
       → is_over key one ≡ true → is_over key other ≡ true → one ≡ other
 
--- the partition of a root key that this note of a stage covers; where there is none, that which owned it as the stage began
+-- the partition of a root key by the note that covers it; without one, the partition that owned it
+-- as the stage began
 abbrev pub part_by : OpeningValue → ℕ → ℕ → Option Marked → Option ℕ
 part_by o i root None = Some (owner_in o i root)
 part_by o i root (Some one) = if one.1 then Some one.0.dst else None
@@ -49,6 +50,6 @@ abbrev pub IsAtPart : Spot → Option ℕ → Type 0
 IsAtPart (Store part) at = at ≡ Some part
 IsAtPart (Chunk link chunk) at = Unit {0}
 
--- the entry is where these notes of a stage place its root key
+-- the entry is in the place that the notes of stage `i` give its root key
 abbrev pub IsPlacedBy : OpeningValue → ℕ → List Marked → Entry → Type 0
 IsPlacedBy o i notes entry = IsAtPart entry.0 (part_by o i entry.1.root (find (is_over entry.1.root) notes))

@@ -4,19 +4,20 @@ use Rattle.std.specs.BTreeSet.{BTreeSet, contains}
 use Rattle.sq_gather.specs.Prelude.{Status, is_leaf, is_free, is_split, is_live, is_complete, has_last, GatheredValue, gathered_status, loaded_notes}
 use Rattle.sq_audit.specs.Counts.{key_order}
 
--- what a tree that grew has at a node: if it isn't free it is live, and a leaf isn't split
+-- the status that a node may have in a tree that grew: a node that isn't free is live, and a leaf
+-- isn't split
 pub record IsGrownAt (status : ℕ → Status) (n : ℕ) : Type 0 where
   pub live : is_free (status n) ≡ false → is_live status n ≡ true
   pub leaf : is_leaf n ≡ true → is_split (status n) ≡ false
 
--- each complete node has its last note loaded
+-- the last note of each complete node is loaded
 abbrev pub CompleteAreLoaded : GatheredValue → Type 0
 CompleteAreLoaded g = (seg n : ℕ) → is_complete (gathered_status g seg n) ≡ true → has_last seg n (loaded_notes g) ≡ true
 
--- the node, if it is complete, is among these
+-- the node is in `ended`, if it is complete
 abbrev pub IsEnded : BTreeSet (ℕ × ℕ) → ℕ → ℕ → Status → Type 0
 IsEnded ended seg n status = is_complete status ≡ true → contains key_order ended (seg, n) ≡ true
 
--- each complete node of a segment's tree is among these
+-- each complete node of the tree of segment `seg` is in `ended`
 abbrev pub AreEnded : BTreeSet (ℕ × ℕ) → ℕ → (ℕ → Status) → Type 0
 AreEnded ended seg status = (n : ℕ) → IsEnded ended seg n (status n)

@@ -1,4 +1,4 @@
--- Whether receipts say what jobs had to be answered, and name each position of the logs.
+-- Whether the receipts are the right answers to the jobs, and name each position of the logs.
 use Rattle.std.specs.Prelude.{◌≡◌, ◌⊎◌, ◌<◌, ◌==◌, ◌&&◌, ℕ, Bool, true, nat_lt, if◌then◌else◌, List, [], map, filter, length, slice_get, count_by, Option, Some, None, Contains}
 use Rattle.std.specs.Option.{option_map_or}
 use Rattle.std.specs.declared.cmp.Ordering.{Ordering}
@@ -10,7 +10,7 @@ use Rattle.sq_audit.specs.Answers.{is_of, IsAnswerTo}
 use Rattle.sq_audit.specs.Located.{Entry}
 use Rattle.sq_audit.specs.Index.{HasFamily}
 
--- what references are to
+-- the values that these references point to
 abbrev pub values_of : List (Bor ReceiptValue) → List ReceiptValue
 values_of receipts = map (λ receipt. receipt.now) receipts
 
@@ -25,8 +25,8 @@ pub record IsOneJob (jobs : List Job) (receipt : ReceiptValue) (txn : TxnValue) 
   pub is : is_of txn receipt ≡ true
   pub only : (other : Job) → Contains jobs other → is_of other.txn receipt ≡ true → other.txn ≡ txn
 
--- on these rows, where a log continues with this transaction, the receipt is what a job is answered: a commit is that
--- transaction
+-- the receipt is the right answer to its job on `rows`, before `next` in the log: a commit has to
+-- be of `next`
 abbrev pub IsAnswerOn : List Job → RowList → Option TxnValue → ReceiptValue → Type 0
 IsAnswerOn jobs rows next receipt =
     (job : Job) × Contains jobs job × (is_of job.txn receipt ≡ true) × (receipt.reply ≡ reply rows job.txn)
@@ -36,7 +36,7 @@ IsAnswerOn jobs rows next receipt =
 abbrev pub rows_then : RowList → Option TxnValue → ReceiptValue → RowList
 rows_then rows next receipt = if is_commit receipt.reply then option_map_or (effect rows) next rows else rows
 
--- by position, and at one position the aborts first
+-- the receipts are sorted by position, and at one position the aborts come first
 abbrev pub AreInOrder : List ReceiptValue → Type 0
 AreInOrder receipts =
     (i j : ℕ) (one other : ReceiptValue) → i < j → slice_get receipts i ≡ Some one → slice_get receipts j ≡ Some other
@@ -50,7 +50,8 @@ IsKnownOn jobs family receipt = (job : Job) × Contains jobs job × IsAnswerTo f
 abbrev pub is_named : ℕ → ReceiptValue → Bool
 is_named position receipt = is_commit receipt.reply && (receipt.position == position)
 
--- the receipts, which are of the family's root key, are known, and the committed ones name each position of its log once
+-- the receipts, which are of the family's root key, are known, and those of commits name each
+-- position of its log exactly once
 pub record TellsLog (jobs : List Job) (family : FamilyValue) (receipts : List ReceiptValue) : Type 0 where
   pub known : (receipt : ReceiptValue) → Contains receipts receipt → IsKnownOn jobs family receipt
   pub named : (position : ℕ) → count_by (is_named position) receipts ≡ one_if (nat_lt position (length family.log))
@@ -63,7 +64,7 @@ receipts_of root receipts = filter (λ receipt. receipt.root == root) receipts
 abbrev pub TellsEntry : List Job → List ReceiptValue → Entry → Type 0
 TellsEntry jobs receipts entry = TellsLog jobs entry.1 (receipts_of entry.1.root receipts)
 
--- each family's log is named
+-- the log of each family is named
 abbrev pub TellLogs : List Entry → List Job → List ReceiptValue → Type 0
 TellLogs entries jobs receipts = (entry : Entry) → Contains entries entry → TellsEntry jobs receipts entry
 
@@ -74,12 +75,13 @@ TellsNoLog entries jobs receipt = (HasFamily entries receipt.root → ⊥) → (
 abbrev pub TellNoLog : List Entry → List Job → List ReceiptValue → Type 0
 TellNoLog entries jobs receipts = (receipt : ReceiptValue) → Contains receipts receipt → TellsNoLog entries jobs receipt
 
--- each family's log is named, and each receipt of a root key without a family is of an abort on no rows
+-- the log of each family is named, and each receipt of a root key without a family is of an abort
+-- on no rows
 pub record KnowsAll (entries : List Entry) (jobs : List Job) (receipts : List ReceiptValue) : Type 0 where
   pub logs : TellLogs entries jobs receipts
   pub nothing : TellNoLog entries jobs receipts
 
--- a receipt's root key, its position, and whether it is of a commit, in order
+-- the key by which receipts are sorted: root key, position, and whether it is of a commit
 abbrev pub ReceiptKey : Type 0
 ReceiptKey = ℕ × ℕ × Bool
 

@@ -1,4 +1,4 @@
-// Whether jobs are answered.
+// Which jobs have a receipt.
 ghost use Rattle.std.specs.Prelude.{◌≡◌, ◌==◌, ◌≤◌, length, filter, take_while, count_by, nat_lt, not, IfOk};
 ghost use Rattle.std.specs.Bool.{Decides};
 ghost use Rattle.sq_audit.specs.Answers.{AreAnsweredBy};
@@ -9,7 +9,7 @@ use crate::job::Job;
 use sq_gather::Receipt;
 use std::alloc::{AllocError, Global};
 
-/// Whether each job has one receipt.
+/// Returns true if each job has exactly one receipt.
 pub(crate) fn are_answered(
     alloc: Global,
     jobs: &[Job],
@@ -26,7 +26,7 @@ pub(crate) fn are_answered(
     Ok(true)
 }
 
-/// How many of the jobs have a receipt.
+/// Returns how many of the jobs have a receipt.
 pub fn count_answered(
     alloc: Global,
     receipts: &[Receipt],
@@ -45,7 +45,8 @@ pub fn count_answered(
     Ok(answered)
 }
 
-/// The ids of receipts, each with its root key, by id. They show which jobs have a receipt.
+/// Returns the ids of `receipts`, each with its root key, sorted by id. [`copy_answered`] and
+/// [`leave_unanswered`] use them to find the jobs that have a receipt.
 pub fn list_ids(alloc: Global, receipts: &[Receipt]) -> Result<Vec<(u64, u64)>, AllocError>
     ensures { IfOk result (λ ids. ListsIds receipts.now ids.items) }
 {
@@ -57,7 +58,7 @@ pub fn list_ids(alloc: Global, receipts: &[Receipt]) -> Result<Vec<(u64, u64)>, 
     Ok(ids)
 }
 
-/// Copies of the jobs that have a receipt by these ids, in their order.
+/// Returns copies of the jobs that have a receipt listed in `ids`, in their order.
 pub fn copy_answered(
     alloc: Global,
     ids: &[(u64, u64)],
@@ -75,7 +76,7 @@ pub fn copy_answered(
     Ok(answered)
 }
 
-/// Leaves the jobs that have no receipt by these ids, in their order.
+/// Removes from `jobs` those that have a receipt listed in `ids`; the others keep their order.
 pub fn leave_unanswered(ids: &[(u64, u64)], jobs: &mut Vec<Job>)
     requires { AreById ids.now }
     ensures { jobs.new.items ≡ filter (λ job. not (is_listed ids.now job)) jobs.old.items }
@@ -83,7 +84,7 @@ pub fn leave_unanswered(ids: &[(u64, u64)], jobs: &mut Vec<Job>)
     jobs.retain(|job| !is_listed(ids, job));
 }
 
-// Whether a job has a receipt by these ids.
+// Returns true if `ids` lists a receipt of `job`.
 fn is_listed(ids: &[(u64, u64)], job: &Job) -> bool
     requires { AreById ids.now }
     ensures { result ≡ is_listed ids.now job.now }
@@ -91,7 +92,7 @@ fn is_listed(ids: &[(u64, u64)], job: &Job) -> bool
     count_of(ids, job) > 0
 }
 
-// How many of these ids are a job's, with its root key.
+// Returns how often `ids` lists the job's id with its root key.
 fn count_of(ids: &[(u64, u64)], job: &Job) -> usize
     requires { AreById ids.now }
     ensures { result ≡ count_by (is_id_and_root job.now.txn.id job.now.txn.root) ids.now }
@@ -106,7 +107,7 @@ fn count_of(ids: &[(u64, u64)], job: &Job) -> usize
     count_first(&ids[first..], id, root)
 }
 
-// How many of the first of these, while they have the id, have the root key.
+// Among the entries at the start of `ids` that have `id`, counts those with `root`.
 fn count_first(ids: &[(u64, u64)], id: u64, root: u64) -> usize
     ensures { result ≡ count_by (λ one. one.1 == root) (take_while (λ one. one.0 == id) ids.now) }
 {

@@ -10,7 +10,7 @@ use crate::job::Job;
 use sq_gather::{Receipt, Txn};
 use std::alloc::{AllocError, Global};
 
-/// The ids of the jobs with their places, by id.
+/// Returns the ids of the jobs with their places in `jobs`, sorted by id.
 pub(crate) fn by_id(alloc: Global, jobs: &[Job]) -> Result<Vec<(u64, usize)>, AllocError>
     ensures { IfOk result (λ places. IsIndexOf id_of jobs.now places.items) }
 {
@@ -22,7 +22,7 @@ pub(crate) fn by_id(alloc: Global, jobs: &[Job]) -> Result<Vec<(u64, usize)>, Al
     Ok(places)
 }
 
-/// The transaction of the job with the id and the root key of a receipt.
+/// Returns the transaction of the job with the id and the root key of `receipt`.
 pub(crate) fn job_of<'a>(
     jobs: &'a [Job],
     places: &[(u64, usize)],
@@ -47,7 +47,7 @@ pub(crate) fn job_of<'a>(
     }
 }
 
-// The place that is listed with an id, the first where there are several.
+// Returns the place that is listed with `id`, the first one if there are several.
 fn place_of(places: &[(u64, usize)], id: u64) -> Option<usize>
     requires { AreById places.now }
     ensures some { IfSome result (λ place. Contains places.now (id, place)) }

@@ -1,4 +1,4 @@
-// Whether all parts of what was gathered are there and fit together.
+// Whether all parts of what was gathered exist and fit together.
 ghost use Rattle.std.specs.Prelude.{◌≡◌, count_by, IfOk};
 ghost use Rattle.std.specs.Bool.{Decides};
 ghost use Rattle.sq_gather.specs.Prelude.{IsOpening, HasEachPart, FitTogether};
@@ -12,7 +12,7 @@ use crate::statuses::{are_complete, have_grown};
 use sq_gather::{ClosedLink, Gathered, Link, Opening, Recon};
 use std::alloc::{AllocError, Global};
 
-/// Whether all parts of what was gathered are there and fit together, where these are all families.
+/// Returns true if all parts of `g` exist and fit together; `all` lists all its families.
 pub(crate) fn fit(
     alloc: Global,
     opening: &Opening,
@@ -37,7 +37,8 @@ pub(crate) fn fit(
     are_placed(alloc, opening, g, all)
 }
 
-// Whether there is a store for each partition, a link wherever a range moves in the stage, and a tree for each segment.
+// Returns true if there is a store for each partition, a link wherever a range moves in the stage,
+// and a tree for each segment.
 fn has_parts(opening: &Opening, g: &Gathered) -> bool
     ensures parts { Decides result (HasEachPart opening.now g.now) }
     ensures opening { IsOpening opening.now }
@@ -73,7 +74,7 @@ fn are_known_links(recon: &Recon, stage: u64, links: &[Link], gathered: &[Closed
     true
 }
 
-// Whether each of these links that is of the stage was gathered once.
+// Returns true if each of `links` that belongs to the stage was gathered once.
 fn have_one_each(recon: &Recon, stage: u64, links: &[Link], gathered: &[ClosedLink]) -> bool
     ensures { Decides result (HaveOneEach recon.now stage links.now gathered.now) }
 {
@@ -85,7 +86,7 @@ fn have_one_each(recon: &Recon, stage: u64, links: &[Link], gathered: &[ClosedLi
     true
 }
 
-// Whether a link was gathered once, if it is of the stage.
+// Returns true if `link` was gathered once or does not belong to the stage.
 fn has_one(recon: &Recon, stage: u64, gathered: &[ClosedLink], link: Link) -> bool
     ensures { Decides result (HasOne recon.now stage gathered.now link) }
 {
@@ -95,7 +96,7 @@ fn has_one(recon: &Recon, stage: u64, gathered: &[ClosedLink], link: Link) -> bo
     count(gathered, link) == 1
 }
 
-// How often a link was gathered.
+// Returns how often `link` was gathered.
 fn count(gathered: &[ClosedLink], link: Link) -> usize
     ensures { result ≡ count_by (is_of_link link) gathered.now }
 {

@@ -1,24 +1,23 @@
-// What is folded of what was gathered, and why nothing is.
+// The outcome of a fold.
 use crate::job::Job;
 use crate::verdict::Defect;
 use sq_gather::{Gathered, Opening};
 
-/// What was gathered of a stage, once the logs of its families are folded.
+/// A stage that was gathered, after the logs of its families were folded.
 #[derive(Drop)]
 pub struct Folded {
     /// The opening with the rows of all families.
     pub opening: Opening,
-    /// What was gathered, with families that start anew from their rows, and without receipts.
+    /// The stage, with families that start anew from their rows, and without receipts.
     pub gathered: Gathered,
-    /// The jobs that had no receipt, in their order.
+    /// The jobs without a receipt, in their order.
     pub jobs: Vec<Job>,
 }
 
-/// What was to be folded, as it was handed in.
+/// The arguments of a fold, unchanged.
 #[derive(Drop)]
 pub struct Unchanged {
     pub opening: Opening,
-    /// What was gathered.
     pub gathered: Gathered,
     pub jobs: Vec<Job>,
 }
@@ -26,7 +25,7 @@ pub struct Unchanged {
 /// Why nothing was folded.
 #[derive(Drop)]
 pub enum Unfolded {
-    /// The jobs that have a receipt have this defect first.
+    /// The first defect of the jobs that have a receipt.
     Unsound(Defect),
     Memory(Unchanged),
 }

@@ -13,13 +13,15 @@ use crate::job::Job;
 use crate::passes::{audit, audit_in_threads};
 use crate::table::table_of;
 use crate::verdict::{Defect, Verdict};
-use sq_gather::{FamilyStore, Gathered, Opening, RunStore, Table};
+use sq_gather::{FamilyStore, Gathered, Opening, SlabStore, Table};
 use std::alloc::{AllocError, Global};
 use std::thread::Threads;
 
-/// Folds `gathered`, of a stage whose segments are complete. It audits those of `jobs`, whose ids differ, that have a receipt. If
-/// they are sound, each family starts anew from its rows, the opening has these rows, there are no receipts, and the jobs without
-/// one are left. Else it returns the first defect. If memory runs out, all is returned as it was.
+/// Folds `gathered`, of a stage whose segments are complete, once those of `jobs` that have a
+/// receipt are audited; the ids of `jobs` differ. If they are sound, each family starts anew from
+/// its rows, the opening gets these rows, the receipts are dropped, and the jobs without a receipt
+/// are kept. Otherwise it returns the first defect. If memory runs out, everything is returned
+/// unchanged.
 pub fn fold(
     alloc: Global,
     opening: Opening,
@@ -35,7 +37,7 @@ pub fn fold(
     complete(alloc, opening, gathered, jobs, prepared)
 }
 
-/// Does what [`fold`] does. If there are many families, threads of their own look at parts of them.
+/// Does the same as [`fold`]; if there are many families, several threads check parts of them.
 pub fn fold_in_threads<R: Threads + Sync>(
     rt: &R,
     alloc: Global,
@@ -52,7 +54,7 @@ pub fn fold_in_threads<R: Threads + Sync>(
     complete(alloc, opening, gathered, jobs, prepared)
 }
 
-// Folds what was gathered, if the audit before it let it.
+// Folds what was gathered, if the audit before it allows it.
 fn complete(
     alloc: Global,
     opening: Opening,
@@ -77,30 +79,31 @@ fn complete(
     }
 }
 
-// The jobs that have a receipt, and the ids of the receipts with their root keys, by id.
+// The jobs that have a receipt, and the ids of the receipts with their root keys, sorted by id.
 #[derive(Drop)]
 struct Answered {
     jobs: Vec<Job>,
     ids: Vec<(u64, u64)>,
 }
 
-// What a fold needs: the ids of the receipts with their root keys, by id, and the table of the rows of all families.
+// What a fold needs: the ids of the receipts with their root keys, sorted by id, and the table of
+// the rows of all families.
 #[derive(Drop)]
 struct Ready {
     ids: Vec<(u64, u64)>,
     table: Table,
 }
 
-// What the audit before a fold came to.
+// The outcome of the audit before a fold.
 #[derive(Drop)]
 enum Prepared {
     // The jobs that have a receipt are sound.
     Ready(Ready),
-    // They have this defect first.
+    // The jobs that have a receipt have this defect first.
     Unsound(Defect),
 }
 
-// Audits the jobs that have a receipt, and makes what a fold needs.
+// Audits the jobs that have a receipt, and prepares what a fold needs.
 fn prepare(
     alloc: Global,
     opening: &Opening,
@@ -115,7 +118,7 @@ fn prepare(
     make_ready(alloc, g, answered.ids, verdict)
 }
 
-// As `prepare`, with an audit in threads.
+// Does the same as `prepare`, with an audit in threads.
 fn prepare_in_threads<R: Threads + Sync>(
     rt: &R,
     alloc: Global,
@@ -131,7 +134,7 @@ fn prepare_in_threads<R: Threads + Sync>(
     make_ready(alloc, g, answered.ids, verdict)
 }
 
-// The jobs that have a receipt.
+// Returns the jobs that have a receipt, and the ids of the receipts.
 fn list_answered(alloc: Global, g: &Gathered, jobs: &[Job]) -> Result<Answered, AllocError>
     requires { IdsDiffer jobs.now }
     ensures ids { IfOk result (λ answered. ListsIds g.now.receipts answered.ids.items) }
@@ -147,7 +150,7 @@ fn list_answered(alloc: Global, g: &Gathered, jobs: &[Job]) -> Result<Answered, 
     })
 }
 
-// What a fold needs, if the verdict on the jobs that have a receipt is that they are sound.
+// Returns what a fold needs if `verdict` is that the jobs with a receipt are sound.
 fn make_ready(
     alloc: Global,
     g: &Gathered,
@@ -168,7 +171,8 @@ fn make_ready(
     }
 }
 
-// The opening with the table, what was gathered with its logs folded and without receipts, and the jobs left.
+// Returns the opening with the new table, the gathered stage with its logs folded and without
+// receipts, and the jobs that are left.
 fn finish(
     alloc: Global,
     opening: Opening,
@@ -193,7 +197,7 @@ fn finish(
     }
 }
 
-// What was gathered, with its logs folded and without receipts.
+// Returns `gathered` with its logs folded and without receipts.
 fn with_logs_folded(alloc: Global, gathered: Gathered) -> Gathered
     ensures { result ≡ folded_gathered gathered (map folded_store gathered.stores) }
 {
@@ -217,7 +221,7 @@ fn with_logs_folded(alloc: Global, gathered: Gathered) -> Gathered
 }
 
 // Folds the logs of the families of each store.
-fn fold_stores(stores: &mut [RunStore])
+fn fold_stores(stores: &mut [SlabStore])
     ensures { stores.new ≡ map folded_store stores.old }
 {
     for store in stores.iter_mut() {

@@ -1,23 +1,24 @@
-// Families in parts, each in a thread of its own.
+// Families in parts, each checked in a thread of its own.
 ghost use Rattle.std.specs.Prelude.{◌<◌, IfOk};
 ghost use Rattle.sq_audit.specs.InThreads.{IsSaidOfAll};
 
 use std::alloc::AllocError;
 
-/// How many parts there are at most.
+/// The largest number of parts.
 const PARTS: usize = 8;
 
-/// How many families are worth a thread, at least.
+/// The fewest families that are worth a thread.
 const FEWEST: usize = 2_048;
 
-/// How many families a part has, of so many.
+/// Returns how many of `families` families go into one part: at least [`FEWEST`].
 pub(crate) fn part_size(families: usize) -> usize
     ensures { 0 < result }
 {
     (families / PARTS + 1).max(FEWEST)
 }
 
-/// Whether all parts were found to hold. The error of one is the error of all.
+/// Returns true if every part was found to hold. The first part that failed decides: its error is
+/// returned, or false.
 pub(crate) fn all_hold(said: &[Result<bool, AllocError>]) -> Result<bool, AllocError>
     ensures { IfOk result (λ all. IsSaidOfAll all said.now) }
 {

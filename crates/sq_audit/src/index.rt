@@ -1,5 +1,5 @@
-// Checks of root keys where all families are listed by them: each of a table has a family, each has one alone, and its
-// family starts from its opening rows.
+// Checks over all families sorted by root key: each root key of a table has a family, in one place
+// only, and this family starts from its opening rows.
 ghost use Rattle.std.specs.Prelude.{◌≡◌, nat_lt, IfOk};
 ghost use Rattle.std.specs.Bool.{Decides};
 ghost use Rattle.sq_gather.specs.Prelude.{rows_in};
@@ -13,7 +13,7 @@ use std::alloc::{AllocError, Global};
 use std::thread;
 use std::thread::Threads;
 
-/// Whether each root key of a table has one of these families, which are by root key.
+/// Returns true if each root key of `table` has a family in `all`, which is sorted by root key.
 pub(crate) fn have_families(table: &Table, all: &[Located]) -> bool
     requires { AreByRoot (entries_in all.now) }
     ensures { Decides result (HaveFamilies table.now (entries_in all.now)) }
@@ -26,7 +26,7 @@ pub(crate) fn have_families(table: &Table, all: &[Located]) -> bool
     true
 }
 
-/// Whether a root key has one of these families, which are by root key.
+/// Returns true if `root` has a family in `all`, which is sorted by root key.
 pub(crate) fn has_family(all: &[Located], root: Root) -> bool
     requires { AreByRoot (entries_in all.now) }
     ensures { Decides result (HasFamily (entries_in all.now) root) }
@@ -42,7 +42,8 @@ pub(crate) fn has_family(all: &[Located], root: Root) -> bool
     }
 }
 
-/// Whether these families, which are by root key, are at one site for each root key.
+/// Returns true if all families of a root key in `all`, which is sorted by root key, are at the
+/// same site.
 pub(crate) fn stand_once(all: &[Located]) -> bool
     requires { AreByRoot (entries_in all.now) }
     ensures { Decides result (AgreeOnSpots (entries_in all.now)) }
@@ -55,7 +56,7 @@ pub(crate) fn stand_once(all: &[Located]) -> bool
     true
 }
 
-// Whether two families are at one site, if they have one root key.
+// Returns true if two families are at the same site or differ in their root keys.
 fn agree(one: &Located, other: &Located) -> bool
     ensures { Decides result (Agree (entry_of one.now) (entry_of other.now)) }
 {
@@ -66,7 +67,7 @@ fn agree(one: &Located, other: &Located) -> bool
     }
 }
 
-/// Returns what [`start_from`] does: threads of their own look at parts of the families.
+/// Does the same as [`start_from`]: several threads check parts of the families.
 pub(crate) fn all_start_from<R: Threads + Sync>(
     rt: &R,
     alloc: Global,
@@ -90,7 +91,7 @@ pub(crate) fn all_start_from<R: Threads + Sync>(
     all_hold(&said)
 }
 
-/// Whether each family starts from the rows that the table has of its root key.
+/// Returns true if each family starts from the rows that `table` has for its root key.
 pub(crate) fn start_from(table: &Table, all: &[Located]) -> bool
     ensures { Decides result (StartFrom (rows_in table.now) (entries_in all.now)) }
 {
@@ -102,7 +103,7 @@ pub(crate) fn start_from(table: &Table, all: &[Located]) -> bool
     true
 }
 
-// Whether a family starts from the rows that the table has of its root key.
+// Returns true if `family` starts from the rows that `table` has for its root key.
 fn starts_from(table: &Table, family: &Family) -> bool
     ensures { Decides result (StartsFrom (rows_in table.now) family.now) }
 {

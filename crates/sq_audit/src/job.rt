@@ -1,11 +1,9 @@
 // Jobs.
 use sq_gather::{PartId, Txn};
 
-/// A job: a transaction, and where it was posted.
+/// A job: a transaction, and the partition that it was posted to.
 #[derive(Debug, Drop)]
 pub struct Job {
-    /// The partition that it was posted to.
     pub part: PartId,
-    /// The transaction.
     pub txn: Txn,
 }

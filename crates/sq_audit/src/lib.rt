@@ -1,5 +1,5 @@
-//! The audit of what a run left: where its families are, and whether they and the receipts are what the run was to give.
-//! And what is folded of it between stages.
+//! The audit of what a run left: where its families are, and whether they and the receipts are as
+//! the run should leave them. Also the fold of logs between stages.
 #![tactic(auto)]
 
 mod answered;

@@ -1,13 +1,13 @@
-// The families of what was gathered, each with where it is.
+// The gathered families, each with its site.
 ghost use Rattle.std.specs.Prelude.{◌≡◌, ◌++◌, ◌∷◌, [], List, map, IfOk, OnOk};
 ghost use Rattle.std.specs.FinMap.{get};
 ghost use Rattle.sq_gather.specs.Prelude.{FamilyValue, family_in};
 ghost use Rattle.sq_audit.specs.Located.{spot_of, entries_in, ListsAll, ListsStored, AreByRoot, AddsAll, AddsLink};
 
-use sq_gather::{Chunk, ClosedLink, Family, Gathered, RunStore};
+use sq_gather::{Chunk, ClosedLink, Family, Gathered, SlabStore};
 use std::alloc::{AllocError, Global};
 
-/// Where a family is: in a store or in a chunk, by their places from 0.
+/// Where a family is: in a store or in a chunk, by their places, counted from 0.
 #[derive(Clone, Copy, Debug, PartialEq, Eq)]
 pub(crate) enum Site {
     Store(usize),
@@ -21,7 +21,7 @@ pub(crate) struct Located<'a> {
     pub(crate) family: &'a Family,
 }
 
-/// All families of what was gathered, by root key.
+/// Returns all gathered families, sorted by root key.
 pub(crate) fn locate(alloc: Global, g: &Gathered) -> Result<Vec<Located<'_>>, AllocError>
     ensures all { IfOk result (λ all. ListsAll g.now (entries_in all.items)) }
     ensures rise { IfOk result (λ all. AreByRoot (entries_in all.items)) }
@@ -31,7 +31,7 @@ pub(crate) fn locate(alloc: Global, g: &Gathered) -> Result<Vec<Located<'_>>, Al
     Ok(all)
 }
 
-// All families of what was gathered.
+// Returns all gathered families.
 fn list(alloc: Global, g: &Gathered) -> Result<Vec<Located<'_>>, AllocError>
     ensures { IfOk result (λ all. ListsAll g.now (entries_in all.items)) }
 {
@@ -42,7 +42,7 @@ fn list(alloc: Global, g: &Gathered) -> Result<Vec<Located<'_>>, AllocError>
     Ok(all)
 }
 
-// The families in stores.
+// Returns the families in stores.
 fn list_stored(alloc: Global, g: &Gathered) -> Result<Vec<Located<'_>>, AllocError>
     ensures { IfOk result (λ all. ListsStored g.now (entries_in all.items)) }
 {
@@ -53,24 +53,25 @@ fn list_stored(alloc: Global, g: &Gathered) -> Result<Vec<Located<'_>>, AllocErr
     Ok(all)
 }
 
-// Adds the families of a store.
+// Adds the families of `store`.
 fn add_stored<'a>(
     all: &mut Vec<Located<'a>>,
     site: Site,
-    store: &'a RunStore,
+    store: &'a SlabStore,
 ) -> Result<(), AllocError>
     ensures { OnOk result (AddsAll (spot_of site) (get store.now) (entries_in all.old.items)
         (entries_in all.new.items)) }
 {
     for family in store.families() {
-        // For the proof alone: the log is of the family's own root key, as that of each family is.
+        // For the proof alone: the log belongs to the family's own root key, as every family's
+        // does.
         family.log();
         all.push(Located { site, family })?;
     }
     Ok(())
 }
 
-// Adds the families of the chunks of a link that are under way.
+// Adds the families of the chunks that are under way on link `of`.
 fn add_under_way<'a>(
     all: &mut Vec<Located<'a>>,
     link: usize,

@@ -1,4 +1,4 @@
-// Whether the notes of links are as they have to be.
+// Whether the notes of links are well formed.
 ghost use Rattle.std.specs.Prelude.{◌≡◌, [], true, reverse, slice_index_or, IsTrue, IfOk};
 ghost use Rattle.std.specs.Option.{option_copied};
 ghost use Rattle.std.specs.Bool.{Decides};
@@ -11,8 +11,8 @@ use sq_gather::{
 };
 use std::alloc::{AllocError, Global};
 
-/// Whether the notes of each link are numbered from 0, are about begun nodes of the link's segments and tile them, and
-/// the chunks under way are those of the last ones.
+/// Returns true if the notes of each link are numbered from 0, are about begun nodes of the link's
+/// segments and tile them, and the chunks under way are those of the last notes.
 pub(crate) fn links_fit(alloc: Global, opening: &Opening, g: &Gathered) -> Result<bool, AllocError>
     ensures { IfOk result (λ fit. Decides fit (LinksPlaced opening.now g.now)) }
 {
@@ -24,7 +24,7 @@ pub(crate) fn links_fit(alloc: Global, opening: &Opening, g: &Gathered) -> Resul
     Ok(true)
 }
 
-// Whether the notes and the chunks of a link are so.
+// Returns true if this holds of the notes and the chunks of `link`.
 fn link_fits(
     alloc: Global,
     opening: &Opening,
@@ -45,7 +45,7 @@ fn link_fits(
     tile(alloc, opening, &link.notes)
 }
 
-// Whether each chunk has its note among the last ones, in their order.
+// Returns true if the chunks are those of the last notes, in the same order.
 fn are_of_last(chunks: &[Chunk], notes: &[Note]) -> bool
     ensures last { Decides result (AreOfLast chunks.now notes.now) }
     ensures within { result ≡ true → HoldTheirKeys chunks.now }
@@ -57,13 +57,14 @@ fn are_of_last(chunks: &[Chunk], notes: &[Note]) -> bool
         if chunk.note() != notes[loaded + at] {
             return false;
         }
-        // For the proof alone: the families are of keys that the note covers, as those of each chunk are.
+        // For the proof alone: a chunk's families have keys that its note covers, as every chunk's
+        // have.
         chunk.families();
     }
     true
 }
 
-// Whether the notes, the oldest first, are numbered from 0.
+// Returns true if the notes, the oldest first, are numbered from 0.
 fn are_numbered(notes: &[Note]) -> bool
     ensures { Decides result (AreNumbered (reverse notes.now)) }
 {
@@ -75,7 +76,7 @@ fn are_numbered(notes: &[Note]) -> bool
     true
 }
 
-// Whether each note is one of the link's.
+// Returns true if each note of `link` belongs to it.
 fn are_link_notes(opening: &Opening, g: &Gathered, link: &ClosedLink) -> bool
     ensures { Decides result (AreLinkNotes opening.now g.now link.now) }
 {
@@ -87,7 +88,8 @@ fn are_link_notes(opening: &Opening, g: &Gathered, link: &ClosedLink) -> bool
     true
 }
 
-// Whether the note goes along the link, and is about a begun node of one of its segments, which the stage moves.
+// Returns true if `note` goes along `link`, and is about a begun node of one of its segments, which
+// the stage moves.
 fn is_link_note(opening: &Opening, g: &Gathered, link: &ClosedLink, note: &Note) -> bool
     ensures { Decides result (IsLinkNote opening.now g.now link.now note.now) }
 {
@@ -107,7 +109,7 @@ fn is_link_note(opening: &Opening, g: &Gathered, link: &ClosedLink, note: &Note)
     is_begun(status_of(&g.statuses, note.seg, note.node))
 }
 
-// Whether there is a segment, and it goes from the one partition to the other.
+// Returns true if the segment exists and goes from `src` to `dst`.
 fn goes(segment: Option<&Range>, src: PartId, dst: PartId) -> bool
     ensures { result ≡ goes (option_copied segment.entry) src dst }
 {
@@ -117,7 +119,8 @@ fn goes(segment: Option<&Range>, src: PartId, dst: PartId) -> bool
     }
 }
 
-// The status of a node of a segment's tree; that of a free one where there is no such segment.
+// Returns the status of node `node` in the tree of segment `seg`, or `Free` if there is no such
+// segment.
 fn status_of(statuses: &[[Status; NODES]], seg: SegId, node: NodeId) -> Status
     ensures status { result ≡ status_at (slice_index_or statuses.now seg []) node }
     ensures node { IsTrue (is_node node) }
@@ -129,7 +132,7 @@ fn status_of(statuses: &[[Status; NODES]], seg: SegId, node: NodeId) -> Status
     }
 }
 
-// Whether the source gave a node with this status up.
+// Returns true if the source gave up a node with this status.
 fn is_begun(status: Status) -> bool
     ensures { result ≡ is_begun status }
 {

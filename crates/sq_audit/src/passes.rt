@@ -19,8 +19,8 @@ use sq_gather::{Gathered, Opening};
 use std::alloc::{AllocError, Global};
 use std::thread::Threads;
 
-/// Returns whether `g`, which was gathered of a run of `jobs`, whose ids differ, is sound, or else its first defect. It is
-/// refused only if memory runs out.
+/// Returns the verdict on `g`, gathered of a run of `jobs`: sound, or the first defect. The ids of
+/// `jobs` differ. It fails only if memory runs out.
 pub fn audit(opening: &Opening, g: &Gathered, jobs: &[Job]) -> Result<Verdict, AllocError>
     requires { IdsDiffer jobs.now }
     ensures { IfOk result (IsVerdict opening.now g.now jobs.now) }
@@ -33,7 +33,7 @@ pub fn audit(opening: &Opening, g: &Gathered, jobs: &[Job]) -> Result<Verdict, A
     first_defect(alloc, opening, g, all, jobs, Found { start, known })
 }
 
-/// Returns what [`audit`] does. If there are many families, threads of their own look at parts of them.
+/// Does the same as [`audit`]; if there are many families, several threads check parts of them.
 pub fn audit_in_threads<R: Threads + Sync>(
     rt: &R,
     opening: &Opening,
@@ -51,16 +51,18 @@ pub fn audit_in_threads<R: Threads + Sync>(
     first_defect(alloc, opening, g, all, jobs, Found { start, known })
 }
 
-// What may be looked for in parts of the families.
+// What was found of all families, perhaps in parts.
 #[derive(Clone, Copy, Debug)]
 struct Found {
     // Whether each family starts from its opening rows.
     start: bool,
-    // Whether each receipt is the answer to a job, and the committed ones name each position of each log once.
+    // Whether each receipt is the answer to a job, and the receipts of commits name each position
+    // of each log once.
     known: bool,
 }
 
-// The first defect, if there is one. These are all families, by root key, and this was found of them.
+// Returns the first defect, if there is one. `all` lists all families by root key, and `found`
+// holds of them.
 fn first_defect(
     alloc: Global,
     opening: &Opening,
@@ -84,7 +86,8 @@ fn first_defect(
     Ok(Verdict::Sound)
 }
 
-// Whether what was gathered hasn't this defect, if it has none with a lower number.
+// Returns true if what was gathered does not have `defect`, provided it has no defect with a lower
+// number.
 fn clears(
     alloc: Global,
     opening: &Opening,

@@ -12,7 +12,8 @@ use crate::spans::{Span, by_key, part_of};
 use sq_gather::{Gathered, Opening};
 use std::alloc::{AllocError, Global};
 
-/// Whether each of all families is where the notes of links that are placed, which share no key, place its root key.
+/// Returns true if each family in `all` is where the notes place its root key. The notes are
+/// placed, and no two of them share a key.
 pub(crate) fn are_placed(
     alloc: Global,
     opening: &Opening,
@@ -34,7 +35,8 @@ pub(crate) fn are_placed(
     Ok(true)
 }
 
-// Whether a family that is in a store is where the notes of a stage place its root key. One that is in a chunk always is.
+// Returns true if the family is in a chunk, or in the store where the notes of the stage place its
+// root key.
 fn is_placed(opening: &Opening, stage: u64, spans: &[Span], located: &Located) -> bool
     requires { AreByKey (marked_in spans.now) }
     ensures { Decides result (IsPlacedBy opening.now stage (marked_in spans.now)

@@ -1,4 +1,4 @@
-// The keys that notes cover, and where the notes place them.
+// The keys that notes cover, and where the notes place these keys.
 ghost use Rattle.std.specs.Prelude.{◌≡◌, ◌≤◌, ◌++◌, nat_le, length, find, IfOk, OnOk};
 ghost use Rattle.std.specs.Option.{option_map};
 ghost use Rattle.std.specs.List.{flat_map};
@@ -16,14 +16,14 @@ pub(crate) struct Span<'a> {
     pub(crate) loaded: bool,
 }
 
-/// The notes of the chunks of a link that were loaded.
+/// Returns the notes of the loaded chunks of `link`.
 pub(crate) fn loads(link: &ClosedLink) -> &[Note]
     ensures { result.now ≡ loads_of link.now }
 {
     &link.notes[..loaded_count(link)]
 }
 
-// How many chunks of a link were loaded.
+// Returns how many chunks of `link` were loaded.
 fn loaded_count(link: &ClosedLink) -> usize
     ensures count { result ≡ loaded_count link.now }
     ensures within { result ≤ length link.now.notes }
@@ -31,7 +31,7 @@ fn loaded_count(link: &ClosedLink) -> usize
     link.notes.len().saturating_sub(link.under_way.len())
 }
 
-/// The notes of links that cover keys, by the first keys.
+/// Returns the notes of `links` that cover keys, sorted by their first keys.
 pub(crate) fn by_key(alloc: Global, links: &[ClosedLink]) -> Result<Vec<Span<'_>>, AllocError>
     ensures all { IfOk result (λ spans. IsPermutation (flat_map notes_of links.now)
         (marked_in spans.items)) }
@@ -45,7 +45,7 @@ pub(crate) fn by_key(alloc: Global, links: &[ClosedLink]) -> Result<Vec<Span<'_>
     Ok(spans)
 }
 
-// Adds the notes of a link that cover keys.
+// Adds the notes of `link` that cover keys.
 fn add_link<'a>(spans: &mut Vec<Span<'a>>, link: &'a ClosedLink) -> Result<(), AllocError>
     ensures { OnOk result (marked_in spans.new.items
         ≡ marked_in spans.old.items ++ notes_of link.now) }
@@ -55,7 +55,7 @@ fn add_link<'a>(spans: &mut Vec<Span<'a>>, link: &'a ClosedLink) -> Result<(), A
     add(spans, &link.notes[count..], false)
 }
 
-// Adds those of these notes that cover keys.
+// Adds those of `notes` that cover keys.
 fn add<'a>(spans: &mut Vec<Span<'a>>, notes: &'a [Note], loaded: bool) -> Result<(), AllocError>
     ensures { OnOk result (marked_in spans.new.items
         ≡ marked_in spans.old.items ++ marked loaded notes.now) }
@@ -68,7 +68,7 @@ fn add<'a>(spans: &mut Vec<Span<'a>>, notes: &'a [Note], loaded: bool) -> Result
     Ok(())
 }
 
-/// The partition at which notes of a stage place a root key; `None` where it is under way.
+/// Returns the partition where the notes of the stage place `root`, or `None` if it is under way.
 pub(crate) fn part_of(opening: &Opening, stage: u64, spans: &[Span], root: Root) -> Option<PartId>
     requires { AreByKey (marked_in spans.now) }
     ensures { result ≡ part_by opening.now stage root (find (is_over root) (marked_in spans.now)) }
@@ -83,7 +83,8 @@ pub(crate) fn part_of(opening: &Opening, stage: u64, spans: &[Span], root: Root)
     }
 }
 
-// The owner of a root key as a stage began: the new one where it had moved before, else the old one.
+// Returns the owner of `root` when the stage began: the new owner if the root key had moved before,
+// else the old one.
 fn owner_in(opening: &Opening, stage: u64, root: Root) -> PartId
     ensures { result ≡ owner_in opening.now stage root }
 {

@@ -1,5 +1,5 @@
-// The statuses of the trees: whether each tree grew from a free one, and whether each complete node has its last note
-// loaded.
+// The statuses of the trees: whether each tree grew from a free one, and whether the last note of
+// each complete node is loaded.
 ghost use Rattle.std.specs.Prelude.{◌≡◌, ℕ, ◌||◌, IfOk, OnOk};
 ghost use Rattle.std.specs.List.{flat_map};
 ghost use Rattle.std.specs.Bool.{Decides};
@@ -13,7 +13,7 @@ use sq_gather::{ClosedLink, Gathered, NODES, NodeId, Note, Status};
 use std::alloc::{AllocError, Global};
 use std::collections::BTreeSet;
 
-/// Whether each of these trees grew from a free one.
+/// Returns true if each tree grew from a free one.
 pub(crate) fn have_grown(statuses: &[[Status; NODES]]) -> bool
     ensures { Decides result (AllGrown statuses.now) }
 {
@@ -25,7 +25,7 @@ pub(crate) fn have_grown(statuses: &[[Status; NODES]]) -> bool
     true
 }
 
-// Whether a tree grew from a free one.
+// Returns true if `tree` grew from a free one.
 fn has_grown(tree: &[Status; NODES]) -> bool
     ensures { Decides result (IsGrown (status_at tree.now)) }
 {
@@ -37,7 +37,7 @@ fn has_grown(tree: &[Status; NODES]) -> bool
     true
 }
 
-// Whether a node of a tree that grew may have the status that this one has.
+// Returns true if `node` has a status that it may have in a tree that grew.
 fn has_grown_at(tree: &[Status; NODES], node: NodeId) -> bool
     ensures { Decides result (IsGrownAt (status_at tree.now) node) }
 {
@@ -48,14 +48,14 @@ fn has_grown_at(tree: &[Status; NODES], node: NodeId) -> bool
     }
 }
 
-// Whether a node is the whole segment, or a half of a split node.
+// Returns true if `node` is the whole segment or a half of a split node.
 fn is_live(tree: &[Status; NODES], node: NodeId) -> bool
     ensures { result ≡ is_live (status_at tree.now) node }
 {
     node == NodeId::WHOLE || tree[node.parent().index()].is_split()
 }
 
-/// Whether each complete node has its last note loaded.
+/// Returns true if the last note of each complete node is loaded.
 pub(crate) fn are_complete(alloc: Global, g: &Gathered) -> Result<bool, AllocError>
     ensures { IfOk result (λ complete. Decides complete (CompleteAreLoaded g.now)) }
 {
@@ -68,7 +68,7 @@ pub(crate) fn are_complete(alloc: Global, g: &Gathered) -> Result<bool, AllocErr
     Ok(true)
 }
 
-// Whether each complete node of the tree of a segment is among these.
+// Returns true if each complete node in the tree of segment `seg` is in `ended`.
 fn are_ended(ended: &BTreeSet<(u64, u64)>, seg: u64, tree: &[Status; NODES]) -> bool
     ensures { Decides result (AreEnded ended.now seg (status_at tree.now)) }
 {
@@ -80,7 +80,7 @@ fn are_ended(ended: &BTreeSet<(u64, u64)>, seg: u64, tree: &[Status; NODES]) -> 
     true
 }
 
-// Whether a node with this status is among these, if it is complete.
+// Returns true if the node is in `ended` or its status is not complete.
 fn is_ended(ended: &BTreeSet<(u64, u64)>, seg: u64, node: NodeId, status: Status) -> bool
     ensures { Decides result (IsEnded ended.now seg node status) }
 {
@@ -90,7 +90,7 @@ fn is_ended(ended: &BTreeSet<(u64, u64)>, seg: u64, node: NodeId, status: Status
     }
 }
 
-// The nodes, by segment and number, whose last notes were loaded.
+// Returns the nodes, by segment and number, whose last notes are loaded.
 fn ended(alloc: Global, links: &[ClosedLink]) -> Result<BTreeSet<(u64, u64)>, AllocError>
     ensures { IfOk result (λ ended. (seg node : ℕ)
         → contains key_order ended (seg, node) ≡ has_last seg node (flat_map loads_of links.now)) }
@@ -102,7 +102,7 @@ fn ended(alloc: Global, links: &[ClosedLink]) -> Result<BTreeSet<(u64, u64)>, Al
     Ok(ended)
 }
 
-// Adds the nodes that have their last note among these.
+// Adds the nodes whose last note is among `notes`.
 fn add_ended(ended: &mut BTreeSet<(u64, u64)>, notes: &[Note]) -> Result<(), AllocError>
     ensures { OnOk result ((seg node : ℕ) → contains key_order ended.new (seg, node)
         ≡ (contains key_order ended.old (seg, node) || has_last seg node notes.now)) }

@@ -1,15 +1,15 @@
-// The table of the rows that families have.
+// A table of the rows in stores.
 ghost use Rattle.std.specs.Prelude.{◌≡◌, ℕ, ◌≤◌, [], IfOk, OnOk};
 ghost use Rattle.std.specs.FinMap.{get};
 ghost use Rattle.sq_gather.specs.Prelude.{ROOT_END, rows_in};
 ghost use Rattle.sq_audit.specs.Rows.{rows_with, rows_beside, rows_among};
 
 use crate::stored::next_family;
-use sq_gather::{Family, RunStore, Table};
+use sq_gather::{Family, SlabStore, Table};
 use std::alloc::{AllocError, Global};
 
-/// The table of the rows that the families of these stores have.
-pub(crate) fn table_of(alloc: Global, stores: &[RunStore]) -> Result<Table, AllocError>
+/// Returns the table of the rows that the families in `stores` have.
+pub(crate) fn table_of(alloc: Global, stores: &[SlabStore]) -> Result<Table, AllocError>
     ensures rows { IfOk result (λ table. (root : ℕ)
         → rows_in table root ≡ rows_among [] stores.now root) }
     ensures bound { IfOk result (λ table. (root : ℕ) → ROOT_END ≤ root → rows_in table root ≡ []) }
@@ -21,8 +21,8 @@ pub(crate) fn table_of(alloc: Global, stores: &[RunStore]) -> Result<Table, Allo
     Ok(table)
 }
 
-// Adds the rows of the families of a store.
-fn add_store(table: &mut Table, store: &RunStore) -> Result<(), AllocError>
+// Adds the rows of the families in `store`.
+fn add_store(table: &mut Table, store: &SlabStore) -> Result<(), AllocError>
     ensures rows { OnOk result ((root : ℕ)
         → rows_in table.new root ≡ rows_with (rows_in table.old root) (get store.now root)) }
     ensures bound { OnOk result ((root : ℕ) → ROOT_END ≤ root
@@ -36,7 +36,7 @@ fn add_store(table: &mut Table, store: &RunStore) -> Result<(), AllocError>
     Ok(())
 }
 
-// Adds the rows of a family, if it has some.
+// Adds the rows of `family`, if it has any.
 fn add_family(table: &mut Table, family: &Family) -> Result<(), AllocError>
     ensures { OnOk result ((root : ℕ)
         → rows_in table.new root ≡ rows_beside (rows_in table.old) family.now root) }

@@ -1,4 +1,4 @@
-// Whether notes tile the nodes that they are about.
+// Whether notes tile their nodes.
 ghost use Rattle.std.specs.Prelude.{◌≡◌, reverse, slice_get, IfOk};
 ghost use Rattle.std.specs.Bool.{Decides};
 ghost use Rattle.sq_gather.specs.Prelude.{extent_in, Tiles};
@@ -8,7 +8,7 @@ use sq_gather::{Extent, NodeId, Note, Opening, Recon, SegId};
 use std::alloc::{AllocError, Global};
 use std::collections::BTreeMap;
 
-/// Whether the notes, the oldest first, tile their nodes from the low ends on.
+/// Returns true if the notes, the oldest first, tile their nodes from the low ends on.
 pub(crate) fn tile(alloc: Global, opening: &Opening, notes: &[Note]) -> Result<bool, AllocError>
     ensures { IfOk result (λ tile. Decides tile (Tiles opening.now (reverse notes.now))) }
 {
@@ -24,14 +24,15 @@ pub(crate) fn tile(alloc: Global, opening: &Opening, notes: &[Note]) -> Result<b
     Ok(true)
 }
 
-// The root keys of a node; none where there is no such segment.
+// Returns the extent of a node, which is empty if there is no such segment.
 fn extent_of(recon: &Recon, seg: SegId, node: NodeId) -> Extent
     ensures { result ≡ extent_in recon.now.width (slice_get recon.now.segments seg) node }
 {
     recon.extent(seg, node).unwrap_or(Extent { lo: 0, hi: 0 })
 }
 
-// Whether a note continues where the newest one of its node, which has this extent, ends.
+// Returns true if `note` begins where `newest`, the newest note of its node, ends, or at the start
+// of `extent` if there is none. A note after the node's last one fails.
 fn continues(extent: Extent, newest: Option<Note>, note: Note) -> bool
     ensures { Decides result (FollowsNewest extent newest note) }
 {
@@ -42,7 +43,8 @@ fn continues(extent: Extent, newest: Option<Note>, note: Note) -> bool
     }
 }
 
-// Whether a note goes from here on to at most the high end of an extent, and is last exactly if it ends there.
+// Returns true if `note` begins at `from`, ends at most at the end of `extent`, and is last exactly
+// if it ends there.
 fn is_part(extent: Extent, from: u64, note: Note) -> bool
     ensures { Decides result (IsPart extent from note) }
 {

@@ -1,4 +1,4 @@
-// Whether receipts say what jobs had to be answered, and name each position of the logs.
+// Whether the receipts are the right answers to the jobs, and name each position of the logs.
 ghost use Rattle.std.specs.Prelude.{◌≡◌, ℕ, ◌<◌, ◌≤◌, [], true, length, slice_get, Some, option_copied, IfOk};
 ghost use Rattle.std.specs.Bool.{Decides};
 ghost use Rattle.std.specs.List.Sorted.{IsPermutation, IsSortedByKey};
@@ -18,8 +18,8 @@ use std::alloc::{AllocError, Global};
 use std::thread;
 use std::thread::Threads;
 
-/// Whether each receipt is the answer to a job, and the committed ones name each position of each log once, where these are
-/// all families, by root key.
+/// Returns true if each receipt is the answer to a job, and the receipts of commits name each
+/// position of each log once. `all` lists all families, sorted by root key.
 pub(crate) fn are_known(
     alloc: Global,
     all: &[Located],
@@ -39,7 +39,7 @@ pub(crate) fn are_known(
     know(alloc, all, jobs, ids, receipts, sorted, told)
 }
 
-/// Returns what [`are_known`] does: threads of their own look at parts of the families.
+/// Does the same as [`are_known`]: several threads check parts of the families.
 pub(crate) fn are_known_in_threads<R: Threads + Sync>(
     rt: &R,
     alloc: Global,
@@ -60,8 +60,8 @@ pub(crate) fn are_known_in_threads<R: Threads + Sync>(
     know(alloc, all, jobs, ids, receipts, sorted, told)
 }
 
-// Whether the receipts name all logs, which `told` says of them in order, and those of root keys without a family are of aborts
-// on no rows.
+// Returns true if the receipts name all logs, which `told` states, and the receipts of root keys
+// without a family are of aborts on no rows.
 fn know(
     alloc: Global,
     all: &[Located],
@@ -85,7 +85,7 @@ fn know(
     tell_no_log(alloc, all, jobs, ids, receipts)
 }
 
-// As `tell_logs`: threads of their own look at parts of the families.
+// Does the same as `tell_logs`: several threads check parts of the families.
 fn tell_all_logs<R: Threads + Sync>(
     rt: &R,
     alloc: Global,
@@ -120,7 +120,8 @@ fn tell_all_logs<R: Threads + Sync>(
     all_hold(&said)
 }
 
-// Whether receipts, in order, name the logs of families that are by root key.
+// Returns true if the receipts in `sorted` name the logs of the families in `all`, which is sorted
+// by root key.
 fn tell_logs(
     alloc: Global,
     all: &[Located],
@@ -147,7 +148,7 @@ fn tell_logs(
     Ok(true)
 }
 
-// Whether the receipts of root keys without a family are of aborts on no rows.
+// Returns true if the receipts of root keys without a family are of aborts on no rows.
 fn tell_no_log(
     alloc: Global,
     all: &[Located],
@@ -172,7 +173,7 @@ fn tell_no_log(
     Ok(true)
 }
 
-// Whether a receipt is of an abort on no rows.
+// Returns true if `receipt` is of an abort on no rows.
 fn tells_no_log(
     alloc: Global,
     jobs: &[Job],
@@ -190,7 +191,8 @@ fn tells_no_log(
     is_answered(alloc, jobs, ids, &mut Rows::new(alloc), None, receipt)
 }
 
-// Whether receipts of a family's root key, by position and at one position the aborts first, name its log.
+// Returns true if `receipts` name the log of `family`. They are those of its root key, sorted by
+// position, and at one position the aborts come first.
 fn tells_log(
     alloc: Global,
     jobs: &[Job],
@@ -224,8 +226,8 @@ fn tells_log(
     Ok(position == family.log().len())
 }
 
-// Whether the receipt is what its job is answered on rows, where the log continues with `next`: a commit has to be that
-// one. The rows are then those after the job.
+// Returns true if `receipt` is the right answer to its job on `rows`, before `next` in the log: a
+// commit has to be of `next`. Then `rows` are those after the job.
 fn is_answered(
     alloc: Global,
     jobs: &[Job],
@@ -251,7 +253,7 @@ fn is_answered(
     Ok(reply == receipt.reply)
 }
 
-// Whether the transaction comes next, if the receipt is of a commit.
+// Returns true if `receipt` is of an abort, or `txn` is the next one of the log.
 fn may_stand(next: Option<&Txn>, txn: &Txn, receipt: &Receipt) -> bool
     ensures { Decides result (is_commit receipt.now.reply ≡ true
         → option_copied next.entry ≡ Some txn.now) }
@@ -263,7 +265,7 @@ fn may_stand(next: Option<&Txn>, txn: &Txn, receipt: &Receipt) -> bool
     }
 }
 
-// Whether the transaction comes next.
+// Returns true if `txn` is the next one of the log.
 fn is_next(next: Option<&Txn>, txn: &Txn) -> bool
     ensures { Decides result (option_copied next.entry ≡ Some txn.now) }
 {
@@ -282,7 +284,7 @@ fn commits(receipt: &Receipt) -> bool
     }
 }
 
-// Receipts by root key, then by position, and at one position those of aborts first.
+// Returns the receipts sorted by root key, then by position, and at one position the aborts first.
 fn sort(alloc: Global, receipts: &[Receipt]) -> Result<Vec<&Receipt>, AllocError>
     ensures all { IfOk result (λ sorted. IsPermutation receipts.now (values_of sorted.items)) }
     ensures sorted { IfOk result (λ sorted. IsSortedByKey receipt_key key_order
@@ -300,7 +302,8 @@ fn sort(alloc: Global, receipts: &[Receipt]) -> Result<Vec<&Receipt>, AllocError
     Ok(sorted)
 }
 
-// The place of the first of receipts by root key, from here on, whose root key isn't below this.
+// Returns the place of the first receipt at or after `from` whose root key is at least `root`, or
+// the length if there is none. The receipts are sorted by root key.
 fn first_from(sorted: &[&Receipt], from: usize, root: u64) -> usize
     requires { from ≤ length sorted.now }
     ensures from { from ≤ result }

@@ -1,12 +1,12 @@
-// What the audit says.
+// The verdict of an audit.
 ghost use Rattle.std.specs.Prelude.{◌≡◌};
 ghost use Rattle.sq_audit.specs.Defects.{defect_number};
 
 use sq_explain::meaning;
 use thiserror::Error;
 
-/// What is wrong with what was gathered, in the order in which it is looked for, in which the numbers rise by one. The
-/// table of `sq_explain` says what each means.
+/// A defect of what was gathered. The audit looks for the defects in this order, in which their
+/// numbers rise by one. The table of `sq_explain` says what each means.
 #[derive(Clone, Copy, Debug, PartialEq, Eq, Error)]
 #[error("{}", meaning(self.number()))]
 pub enum Defect {
@@ -18,7 +18,7 @@ pub enum Defect {
     Unanswered,
 }
 
-/// The defects, in the order in which they are looked for, which is that of their numbers.
+/// The defects in the order in which the audit looks for them, which is that of their numbers.
 pub const ALL_DEFECTS: [Defect; 6] = [
     Defect::RootMissing,
     Defect::RootDoubled,
@@ -29,7 +29,7 @@ pub const ALL_DEFECTS: [Defect; 6] = [
 ];
 
 impl Defect {
-    /// The number that a user sees.
+    /// Returns the number that a user sees.
     pub fn number(self) -> u16
         ensures { result ≡ defect_number self }
     {
@@ -37,11 +37,11 @@ impl Defect {
     }
 }
 
-/// What the audit says.
+/// The verdict of an audit.
 #[derive(Clone, Copy, Debug, PartialEq, Eq)]
 pub enum Verdict {
-    /// All is as it should be.
+    /// No defect was found.
     Sound,
-    /// This is the first defect.
+    /// The first defect.
     Unsound(Defect),
 }

@@ -5,8 +5,10 @@ use denote.Param.Send.{IsSend, IsSync, sendable, whole-keyless, view_sync}
 use denote.Param.SendFields.{declared_sync}
 use Rattle.std.specs.contracts.alloc.Global as Global
 use Rattle.std.specs.contracts.impls.GlobalAllocator.TheImpl as Impl
+use Rattle.std.specs.contracts.boxed.Box as Box
 use Rattle.std.specs.contracts.vec.Vec as Vec
 use Rattle.std.proofs.Crossing.{frees}
+use Rattle.std.proofs.boxed.Box.TheSendSync as boxed
 use Rattle.std.proofs.vec.Vec.TheSendSync as vec
 use Rattle.std.proofs.alloc.Global.TheSendSync as global
 use Rattle.std.proofs.sync.atomic.AtomicU64.TheSendSync as atomic
@@ -43,6 +45,9 @@ vec_sync T y = vec.the_sync T Global.the_row Impl.ghosts y global.the_sync
 queue_sync : (T : RattleType) → IsSend T → IsSync (ArrayQueue.the_row T Global.the_row Impl.ghosts)
 queue_sync T s = search (queue.the_sync, global.the_send, global.the_sync, frees) depth 10
 
+boxed_send : (T : RattleType) → IsSend T → IsSend (Box.the_row T Global.the_row Impl.ghosts)
+boxed_send T s = boxed.the_send T Global.the_row Impl.ghosts s global.the_send frees
+
 -- threads may share what a run shares
 pub fabric_sync : IsSync Fabric.the_row
 fabric_sync =
@@ -63,7 +68,7 @@ fabric_sync =
                   vec_sync SharedLink.the_row link.the_sync,
                   (
                     vec_sync Receipt.the_row receipt.the_sync,
-                    (vec_sync _ (queue_sync Request.the_row request.the_send), (vec_sync _ (queue_sync Txn.the_row txn.the_send), (atomic.the_sync, (atomic.the_sync, tt)))),
+                    (vec_sync _ (queue_sync Request.the_row request.the_send), (vec_sync _ (queue_sync _ (boxed_send Txn.the_row txn.the_send)), (atomic.the_sync, (atomic.the_sync, tt)))),
                   ),
                 ),
               ),

@@ -1,4 +1,4 @@
--- The workers with which a stage of a run begins.
+-- The workers that a stage of a run begins with.
 use Rattle.std.specs.Prelude.{ℕ, List}
 use Rattle.sq_ranges.specs.OpeningValue.{OpeningValue}
 use Rattle.sq_pull.specs.Pump.{PumpValue}
@@ -8,7 +8,7 @@ use Rattle.sq_node.specs.FabricValue.{FabricValue}
 use Rattle.sq_node.specs.NodeState.{NodeState}
 use Rattle.sq_node.specs.Opened.{IsReopened}
 
--- some stage of a run, of whichever opening, begins with these nodes and pumps
+-- some stage of a run, of any opening, begins with these nodes and pumps
 pub record BeginStage (fabric : FabricValue) (nodes : List NodeState) (pumps : List PumpValue) : Type 0 where
   pub o : OpeningValue
   pub stage : ℕ

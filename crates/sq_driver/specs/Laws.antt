@@ -1,5 +1,5 @@
--- What holds of workers that are driven, as each worker has to prove it: without a turn all is as it was, a worker stays one
--- of its fabric, and what is driven further was driven.
+-- What each worker has to prove of being driven: a worker that takes no turn is unchanged, a worker
+-- still belongs to its fabric, and a worker that was driven and then driven further was driven.
 use Rattle.std.proofs.Common.{List, [], ◌∷◌, ◌++◌, refl, sym, ap, ◌∙◌, subst, append_assoc}
 use Rattle.std.proofs.lemmas.List.{append-nil}
 use Rattle.sq_node_model.specs.NodeValue.{ReceiptValue}
@@ -16,7 +16,7 @@ goes_on : {X : Type 0} (step : X → X → Type 0) (first mid last : X) (way mor
 goes_on step first mid last way [] came same = subst (ComesBySteps step first way) (sym same) came
 goes_on step first mid last way (before ∷ earlier) came goes = (goes_on step first mid before way earlier came goes.0, goes.1)
 
--- what comes from a state that comes from the first comes from the first
+-- a state that is reached from one that was reached from the first is reached from the first
 comes_further : {X : Type 0} (step : X → X → Type 0) (first mid last : X)
     → ComesStepByStep step first mid → ComesStepByStep step mid last → ComesStepByStep step first last
 comes_further step first mid last came more = (more.0 ++ came.0, goes_on step first mid last came.0 more.0 came.1 more.1)
@@ -36,7 +36,7 @@ node_further fabric first old new driven more = record {
   holds = λ o began is held. more.holds o began is (driven.holds o began is held);
 }
 
--- nothing was written, and nothing heard
+-- nothing was written, and nothing told
 pub told_none : {X : Type 0} (tells : X → ReceiptValue → X → Type 0)
     (receipts : List ReceiptValue) (teller : X) → HasTold tells receipts teller receipts teller
 told_none tells receipts teller =
@@ -50,7 +50,7 @@ tells_on tells first mid last [] more same goes = subst (λ x. TellsEach tells x
 tells_on tells first mid last (receipt ∷ receipts) more told goes =
     (told.0, told.1, tells_on tells told.0 mid last receipts more told.2 goes)
 
--- what is heard further was heard
+-- what was told, and what was told after it, was told
 told_further : {X : Type 0} (tells : X → ReceiptValue → X → Type 0)
     (first : List ReceiptValue) (before : X) (old : List ReceiptValue) (between : X)
     (new : List ReceiptValue) (after : X)

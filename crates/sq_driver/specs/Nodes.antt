@@ -1,4 +1,4 @@
--- How nodes change that are driven.
+-- How driven nodes change.
 use Rattle.std.specs.Prelude.{◌≡◌, ◌⊎◌, List}
 use Rattle.sq_node.specs.declared.stepped.Stepped.{Stepped}
 use Rattle.sq_node.specs.declared.stepped.Stepped.TheVariants.{Nothing}
@@ -10,7 +10,7 @@ use Rattle.sq_driver.specs.declared.gate.NodeStep.{NodeStep}
 use Rattle.sq_driver.specs.declared.gate.NodeStep.TheVariants.{Job, Request, Cut, Send, Recv, Load, Complete, Resume, Pump, Answered}
 use Rattle.sq_driver.specs.Ways.{ComesStepByStep, EachDriven}
 
--- a node made the step. A turn of a pump and an answer are no steps of a node
+-- a node performed the step. `Pump` and `Answered` are not steps of a node
 abbrev pub MakesStep : FabricValue → NodeStep → NodeState → Stepped → NodeState → Type 0
 MakesStep fabric Job old answer new = JobStep old answer new
 MakesStep fabric Request old answer new = RequestStep old answer new
@@ -23,12 +23,13 @@ MakesStep fabric Resume old answer new = ResumeStep old answer new
 MakesStep fabric Pump old answer new = (answer ≡ Nothing) × (new ≡ old)
 MakesStep fabric Answered old answer new = (answer ≡ Nothing) × (new ≡ old)
 
--- a node made one of its steps, or looked at trees
+-- a node performed one of its steps, or looked at trees
 abbrev pub StepsOrLooks : FabricValue → NodeState → NodeState → Type 0
 StepsOrLooks fabric old new = ((step : NodeStep) × (answer : Stepped) × MakesStep fabric step old answer new) ⊎ Looks old new
 
--- a node was driven: it changed by its own steps, it is the same partition's and one of the fabric, and what a node
--- keeps holds still, under each opening under which it did
+-- a node was driven: it changed by its own steps, still belongs to the same partition and to the
+-- fabric, and the invariant of nodes still holds of it, under each opening, and each beginning of a
+-- stage, under which it did
 pub record Driven (fabric : FabricValue) (old new : NodeState) : Type 0 where
   pub steps : ComesStepByStep (StepsOrLooks fabric) old new
   pub part : new.core.part ≡ old.core.part

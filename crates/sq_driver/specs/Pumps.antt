@@ -1,4 +1,4 @@
--- How pumps change that are driven.
+-- How driven pumps change.
 use Rattle.std.specs.Prelude.{◌≡◌, ◌⊎◌, ℕ, List}
 use Rattle.sq_ranges.specs.ReconValue.{ReconValue}
 use Rattle.sq_pull.specs.declared.pump.PumpTurn.{PumpTurn}
@@ -16,8 +16,8 @@ abbrev pub TakesTurn : ReconValue → PumpValue → PumpValue → Type 0
 TakesTurn recon old new =
     ((turn : PumpTurn) × HasTurned recon old new turn) ⊎ (PutsOff old new ⊎ ((node : ℕ) × SplitsNext node old new))
 
--- a pump was driven: it changed by its own turns, it has the same number and is of the fabric, and its seats began and
--- completed nothing more
+-- a pump was driven: it changed by its own turns, has the same number and still belongs to the
+-- fabric, and its seats began and completed nothing more
 pub record PumpDriven (fabric : FabricValue) (old new : PumpValue) : Type 0 where
   pub turns : ComesStepByStep (TakesTurn fabric.recon) old new
   pub number : new.number ≡ old.number

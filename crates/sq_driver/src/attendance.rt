@@ -4,27 +4,29 @@ use std::sync::atomic::{AtomicBool, AtomicU64, Ordering};
 /// How workers that were driven in threads ended.
 #[derive(Clone, Copy, Debug, PartialEq, Eq)]
 pub enum WorkersEnd {
-    /// Each of them took its turns, or ended before: it was done, or its gate ended it.
+    /// Each of them took its turns, or ended earlier because it was done or its gate ended it.
     Done,
-    /// One of them had no work for some 3 seconds while a node or all pumps had no thread. Then all gave up.
+    /// One of them had no work for about 3 seconds while a node or all pumps had no thread. Then
+    /// all gave up.
     LacksThreads,
-    /// One of them lacked memory for some 3 seconds, and could do nothing meanwhile. Then all gave up.
+    /// One of them lacked memory for about 3 seconds, and could do nothing meanwhile. Then all gave
+    /// up.
     LacksMemory,
 }
 
-/// Which of the workers that are driven together have come, and whether they give up.
+/// Which of the workers that are driven together have started, and whether they give up.
 #[derive(Drop)]
 pub(crate) struct Attendance {
     nodes: u64,
     nodes_come: AtomicU64,
-    // One pump is enough: those that have no thread of their own take their turns after it.
+    // One pump is enough: those without a thread of their own take their turns after it.
     has_pump: AtomicBool,
     lacks_threads: AtomicBool,
     lacks_memory: AtomicBool,
 }
 
 impl Attendance {
-    /// For `nodes` nodes and `pumps` pumps, none of which has come.
+    /// Returns the attendance of `nodes` nodes and `pumps` pumps, none of which has started.
     pub(crate) fn new(nodes: usize, pumps: usize) -> Attendance {
         Attendance {
             nodes: nodes as u64,
@@ -35,32 +37,32 @@ impl Attendance {
         }
     }
 
-    /// For one worker, which waits for no other.
+    /// Returns the attendance of a single worker, which waits for no other.
     pub(crate) fn alone() -> Attendance {
         Attendance::new(0, 0)
     }
 
-    /// Takes note of a node that comes. Each comes once.
+    /// Records that a node has started. Each does so once.
     pub(crate) fn note_node(&self) {
         self.nodes_come.fetch_add(1, Ordering::SeqCst);
     }
 
-    /// Takes note of a pump that comes.
+    /// Records that a pump has started.
     pub(crate) fn note_pump(&self) {
         self.has_pump.store(true, Ordering::SeqCst);
     }
 
-    /// Returns whether each node has come, and a pump if there are any.
+    /// Returns true if each node has started, and a pump if there are any.
     pub(crate) fn is_whole(&self) -> bool {
         self.nodes_come.load(Ordering::SeqCst) >= self.nodes && self.has_pump.load(Ordering::SeqCst)
     }
 
-    /// All give up, since there is no thread for one of them.
+    /// Makes all give up, because one of them has no thread.
     pub(crate) fn lack_threads(&self) {
         self.lacks_threads.store(true, Ordering::SeqCst);
     }
 
-    /// All give up, since there is no memory for one of them.
+    /// Makes all give up, because one of them lacks memory.
     pub(crate) fn lack_memory(&self) {
         self.lacks_memory.store(true, Ordering::SeqCst);
     }

@@ -4,10 +4,10 @@ use std::sync::atomic::AtomicU64;
 use std::thread;
 use std::time::Duration;
 
-// After how many tries what waits sleeps, where before it only lets other threads go first.
+// The number of tries during which a waiting thread only yields; after more, it sleeps.
 const TRIES_AWAKE: u64 = 256;
 
-// How many microseconds a worker sleeps where it finds no work.
+// How long a worker without work sleeps, in microseconds.
 const SLEEP: u64 = 50;
 
 /// What a worker asks its gate for: a step, or whether it continues after a receipt.
@@ -27,7 +27,7 @@ pub enum NodeStep {
     Load,
     /// A node completes a tree node whose last chunk was loaded.
     Complete,
-    /// A node takes up a transaction that waits.
+    /// A node resumes a waiting transaction.
     Resume,
     /// A pump takes a turn.
     Pump,
@@ -35,59 +35,63 @@ pub enum NodeStep {
     Answered,
 }
 
-/// What a worker reports of a step in which there was something to do.
+/// What a worker reports of a step that did something.
 #[derive(Clone, Copy, Debug, PartialEq, Eq)]
 pub enum WorkerEvent {
-    /// A node has written a receipt in this step.
+    /// A node wrote a receipt in this step.
     Answered(NodeStep),
-    /// A node has taken a job, which waits for rows from now on.
+    /// A node took a job, which now waits for rows.
     Waits {
         /// The id of the job.
         id: u64,
     },
-    /// A segment is complete: the partition that it moves to has completed the last of its tree nodes.
+    /// A segment is complete: the partition that it moves to has completed the last of its tree
+    /// nodes.
     SegmentComplete,
-    /// A node has loaded a chunk.
+    /// A node loaded a chunk.
     Loaded {
-        /// How many families the chunk had, and how many bytes these have.
+        /// How many families the chunk had, and how many bytes they have.
         families: u64,
         bytes: u64,
     },
-    /// The worker has made this step, in which it did none of these.
+    /// The worker performed this step, in which it did none of these.
     Made(NodeStep),
 }
 
-/// Decides whether the workers of a run continue, and hears what they did. All of them share it.
+/// Decides whether the workers of a run continue, and is told what they did. All of them share it.
 ///
-/// A worker has a number, `who`: that of a node is its partition's, `p`, and that of pump `u` of a run of `P` partitions is
-/// `P + u`.
+/// A worker has a number, `who`: that of a node is its partition's, `p`, and that of pump `u` of a
+/// run of `P` partitions is `P + u`.
 pub trait Gate: Sync {
-    /// Returns whether worker `who` may perform `step`; if not, the worker ends. It is asked before each step, and with
-    /// [`NodeStep::Answered`] after each receipt, once the teller of the node has it and [`Gate::did`] was called. If the
-    /// answer to `Answered` is false, the worker ends after the step that wrote the receipt, which stays written. A call
-    /// may keep the worker for a while, and has to return.
+    /// Returns true if worker `who` may perform `step`; otherwise the worker ends. It is called
+    /// before each step, and with [`NodeStep::Answered`] after each receipt, once the teller of the
+    /// node has it and [`Gate::did`] was called. If the answer to `Answered` is false, the worker
+    /// ends after the step that wrote the receipt, which stays written. A call may delay the
+    /// worker, and has to return.
     fn pass(&self, who: u64, step: NodeStep) -> bool;
 
-    /// Called after each step in which worker `who` did something, in its thread. A gate that ends the worker for it says
-    /// so the next time that it is asked.
+    /// Called after each step in which worker `who` did something, in its thread. A gate that ends
+    /// the worker for it does so at the next call of [`Gate::pass`].
     fn did(&self, _who: u64, _event: WorkerEvent) {}
 
-    /// Called after a turn in which worker `who` found no work; `turns` is how many such turns it has taken in a row. A
-    /// call may keep the worker for a while. By default other threads go first, and after 256 turns the worker sleeps for
-    /// 50 microseconds. It isn't called after a turn that lacked memory, or while another worker has no thread yet.
+    /// Called after a turn in which worker `who` found no work; `turns` is how many such turns it
+    /// has taken in a row. A call may delay the worker. By default it yields to other threads, and
+    /// after 256 turns it sleeps for 50 microseconds. It isn't called after a turn that lacked
+    /// memory, or while another worker has no thread yet.
     fn rests<R: Wait>(&self, rt: &R, _who: u64, turns: u64) {
         rest(rt, turns, SLEEP);
     }
 
-    /// Returns whether a node ends once it is idle: the default. If not, it continues until it may not pass, since more
-    /// may come. It is asked after each turn of a node. A pump that is done ends in any case.
+    /// Returns true, the default, if a node ends once it is idle. Otherwise it continues until it
+    /// may not pass, since more work may arrive. It is called after each turn of a node. A pump
+    /// that is done ends in any case.
     fn ends_idle(&self) -> bool {
         true
     }
 }
 
-/// A gate, as the worker in one thread asks it. It isn't `Sync`: the checker covers no method of a trait that calls a
-/// function with a bound that has `Sync` among its supertraits.
+/// A gate, as the worker in one thread calls it. It isn't `Sync`: the checker covers no method of a
+/// trait that calls a function with a bound that has `Sync` among its supertraits.
 pub(crate) trait OwnGate {
     /// [`Gate::pass`].
     fn lets_pass(&self, who: u64, step: NodeStep) -> bool;
@@ -130,8 +134,8 @@ impl Gate for OpenGate {
     }
 }
 
-/// Lets other threads go first after each of the first 256 tries in a row that found nothing. After each further one it sleeps for
-/// as many microseconds as there were tries, but no longer than `longest`.
+/// Yields to other threads after each of the first 256 tries in a row that found nothing. After
+/// each further one it sleeps for `tries` microseconds, but no longer than `longest`.
 pub fn rest<R: Wait>(rt: &R, tries: u64, longest: u64) {
     if tries <= TRIES_AWAKE {
         thread::yield_now();

@@ -1,4 +1,5 @@
-//! What holds of the workers of a run. The functions do nothing: each states a law, which the checker proves.
+//! Laws of the workers of a run. The functions do nothing: each states a law, which the checker
+//! proves.
 ghost use Rattle.std.specs.Prelude.{ℕ, Bool, List, All};
 ghost use Rattle.sq_ranges.specs.Prelude.{OpeningValue, IsOpening};
 ghost use Rattle.sq_pull.specs.Pump.{PumpValue};
@@ -12,8 +13,8 @@ ghost use Rattle.sq_driver.specs.Pumps.{HasAllSeats, AllPumpsDriven};
 
 use crate::teller::Teller;
 
-/// The nodes and the pumps that a run opens with can be driven, and what a node keeps holds of each node, as
-/// the first stage begins.
+/// The nodes and the pumps that a run opens with can be driven, and the invariant of nodes
+/// (`NodeHolds`) holds of each node as the first stage begins.
 pub fn opened_workers_can_be_driven()
     ensures nodes { (o : OpeningValue) (count : ℕ) (fabric : FabricValue) (nodes : List NodeState)
         (pumps : List PumpValue)
@@ -34,8 +35,8 @@ pub fn resumed_workers_can_be_driven()
         → BeginStage fabric nodes pumps → All (HasAllSeats fabric) pumps }
 {}
 
-/// What a node keeps holds of all nodes of a run once they were driven, under each opening, and each beginning of a stage,
-/// under which it held of them before.
+/// The invariant of nodes holds of all nodes of a run after they were driven, under each opening,
+/// and each beginning of a stage, under which it held before.
 pub fn driven_nodes_hold()
     ensures { (fabric : FabricValue) (o : OpeningValue) (began : BeganWith)
         (old new : List NodeState)
@@ -43,7 +44,7 @@ pub fn driven_nodes_hold()
         → All (HoldsUnder o began) new }
 {}
 
-/// Workers that were driven are those of their fabric still, and can be driven again.
+/// Workers that were driven still belong to their fabric, and can be driven again.
 pub fn driven_workers_stay()
     ensures nodes { (fabric : FabricValue) (old new : List NodeState) → AllDriven fabric old new
         → All (IsNodeOf fabric) new }
@@ -51,14 +52,16 @@ pub fn driven_workers_stay()
         → AllPumpsDriven fabric old new → All (HasAllSeats fabric) new }
 {}
 
-/// Nodes that were driven with their tellers were driven, so what holds of such holds of them.
+/// Nodes that were driven with their tellers were driven, so each law of driven nodes holds of
+/// them.
 pub fn nodes_with_tellers_are_driven<T: Teller>()
     ensures { (fabric : FabricValue) (old new : List (TellingNode T))
         → AllDrivenTelling T.Tells fabric old new → AllDriven fabric (nodes_of old) (nodes_of new) }
 {}
 
-/// The list of a teller that didn't break off has grown by just the receipts that its node wrote, each once, in their
-/// order. `told` is its list, and `goes_on` whether it didn't break off; of one that never does, this is always true.
+/// The list of a teller that didn't break off has grown by exactly the receipts that its node
+/// wrote, each once, in their order. `told` is its list, and `goes_on` says whether it didn't break
+/// off; for a teller that never does, it is always true.
 pub fn what_is_told_is_what_is_written<T: Teller>()
     ensures { (told : T → List ReceiptValue) (goes_on : T → Bool)
         → ListsEach T.Tells told goes_on → ListsWhatIsWritten T.Tells told goes_on }

@@ -1,6 +1,7 @@
-//! Workers: each node and each pump of a run in a thread of its own, which takes its turns one after another. A gate is
-//! asked before each step, and may end a worker. Workers that lack a thread or memory for long give up. A node may have
-//! a teller, who hears of each receipt that it writes.
+//! Workers: each node and each pump of a run in a thread of its own, which takes its turns one
+//! after another. A gate is asked before each step, and may end a worker. Workers that lack a
+//! thread or memory for too long give up. A node may have a teller, which is given each receipt
+//! that the node writes.
 #![tactic(auto)]
 
 mod attendance;

@@ -1,4 +1,4 @@
-// Nodes that are driven.
+// Driving nodes.
 ghost use Rattle.std.specs.Prelude.{◌≡◌};
 ghost use Rattle.sq_node.specs.Prelude.{IsNodeOf};
 ghost use Rattle.sq_driver.specs.Nodes.{MakesStep, Driven};
@@ -11,8 +11,8 @@ use crate::worker::{Turn, Worker, take_turns};
 use sq_node::{Effort, Fabric, Node, Stepped};
 use std::sync::Wait;
 
-// The steps of a turn, in their order. A second chunk is cut and sent, so that a link fills, and who loads from it doesn't wait
-// for each chunk.
+// The steps of a turn, in their order. A second chunk is cut and sent, so that the link fills up
+// and its receiver doesn't wait for each chunk.
 const TURN: [NodeStep; 10] = [
     NodeStep::Job,
     NodeStep::Request,
@@ -26,7 +26,11 @@ const TURN: [NodeStep; 10] = [
     NodeStep::Resume,
 ];
 
-// How many times as much a node does for jobs as for chunks in a turn, if there are so many jobs.
+// The most jobs in a turn at rest.
+const JOBS_AT_REST: usize = 32;
+
+// How many times as much work a node does for jobs as for chunks in a turn, if it has that many
+// jobs.
 const JOBS_FOR_CHUNKS: u64 = 3;
 
 impl Worker for Node {
@@ -91,14 +95,16 @@ impl<T: Teller> Worker for TellingNode<T> {
         first.node first.teller old.node old.teller new.node new.teller was more };
 }
 
-/// Drives a node: it takes `turns` turns. In a turn it performs each step once, and cuts and sends a second chunk. It takes
-/// no request while it has something to cut or to send: it still serves what isn't asked of it yet. After it cut or loaded
-/// a chunk, it continues with jobs until it has done three times as much for them as for chunks, or finds none.
+/// Drives a node for at most `turns` turns. In a turn it performs each step once, and cuts and
+/// sends a second chunk. It takes no request while it has something to cut or to send, and so still
+/// serves the keys that no pull has taken. After it cut or loaded a chunk, it continues with jobs
+/// until it has done three times as much work for them as for chunks, or finds none.
 ///
-/// It ends before if it is idle, unless the gate says that it continues then. It also ends if the gate says so, which is
-/// asked before each step and after each receipt ([`NodeStep::Answered`]), and once it has lacked memory for some 3 seconds
-/// and done nothing else. The gate hears of each step in which there was something to do, and each time that the node
-/// rests after a turn without work, when it may keep it for a while.
+/// It ends earlier if it is idle, unless the gate lets idle nodes continue. It also ends if the
+/// gate says so, which is asked before each step and after each receipt ([`NodeStep::Answered`]),
+/// and once it has lacked memory for about 3 seconds and done nothing else. The gate is told of
+/// each step that did something, and each time that the node rests after a turn without work, when
+/// it may delay the node.
 pub fn drive<R: Wait, G: Gate>(rt: &R, fabric: &Fabric, node: &mut Node, turns: u64, gate: &G)
     requires { IsNodeOf fabric.now node.old }
     ensures { Driven fabric.now node.old node.new }
@@ -106,8 +112,9 @@ pub fn drive<R: Wait, G: Gate>(rt: &R, fabric: &Fabric, node: &mut Node, turns: 
     take_turns(rt, fabric, node, turns, gate, &Attendance::alone());
 }
 
-/// Drives a node with its teller, as [`drive`] does. The teller hears of each receipt that the node writes, once, in
-/// their order, and of nothing else: as soon as the step that wrote the receipt is performed, before the gate hears of it.
+/// Drives a node with its teller, as [`drive`] does. The teller is given each receipt that the node
+/// writes, once, in their order, and nothing else: right after the step that wrote the receipt,
+/// before the gate is told of it.
 pub fn drive_telling<T: Teller, R: Wait, G: Gate>(
     rt: &R,
     fabric: &Fabric,
@@ -121,7 +128,9 @@ pub fn drive_telling<T: Teller, R: Wait, G: Gate>(
     take_turns(rt, fabric, pair, turns, gate, &Attendance::alone());
 }
 
-// Sends what is pending, and makes each step once. Where a chunk was cut or loaded, it continues with jobs for a while.
+// Sends what is pending, and performs each step once. If a chunk was cut or loaded, it continues
+// with jobs for a while. At rest, if its gate lets idle nodes continue, it serves up to 32 jobs
+// instead.
 fn take_node_turn<T: Teller, R: Wait, G: OwnGate>(
     rt: &R,
     fabric: &Fabric,
@@ -132,6 +141,9 @@ fn take_node_turn<T: Teller, R: Wait, G: OwnGate>(
     requires { IsNodeOf fabric.now node.old }
     ensures { DrivenAndTold T.Tells fabric.now node.old teller.old node.new teller.new }
 {
+    if is_at_rest(fabric) && !gate.ends_when_idle() {
+        return take_rest_turn(rt, fabric, node, teller, gate);
+    }
     let before = node.effort();
     node.send_pending(rt, fabric);
     let mut turn = Turn::Rested;
@@ -153,8 +165,41 @@ fn take_node_turn<T: Teller, R: Wait, G: OwnGate>(
     turn
 }
 
-// Continues with jobs, by as much as is owed for the chunks that were cut or loaded since a turn began. Says whether
-// the gate lets the node continue.
+// Returns true if no rows move in the stage, so that there is nothing to request, cut, send or
+// load.
+fn is_at_rest(fabric: &Fabric) -> bool {
+    fabric.recon().segments().is_empty()
+}
+
+// Takes a turn of a node at rest that ends only when its gate says so: sends what is pending, and
+// then serves jobs.
+fn take_rest_turn<T: Teller, R: Wait, G: OwnGate>(
+    rt: &R,
+    fabric: &Fabric,
+    node: &mut Node,
+    teller: &mut T,
+    gate: &G,
+) -> Turn
+    requires { IsNodeOf fabric.now node.old }
+    ensures { DrivenAndTold T.Tells fabric.now node.old teller.old node.new teller.new }
+{
+    node.send_pending(rt, fabric);
+    let mut turn = Turn::Rested;
+    for _job in 0..JOBS_AT_REST {
+        match serve(rt, fabric, node, teller, gate) {
+            Turn::Worked => turn = Turn::Worked,
+            ended => return turn.and(ended),
+        }
+        // So that jobs for another partition wait in its queue, and no more of them here than come in a turn.
+        if !node.has_forwarded() {
+            return turn;
+        }
+    }
+    turn
+}
+
+// Continues with jobs, in proportion to the chunks that were cut or loaded since `before`. Returns
+// true if the gate lets the node continue.
 fn serve_on<T: Teller, R: Wait, G: OwnGate>(
     rt: &R,
     fabric: &Fabric,
@@ -185,7 +230,7 @@ fn serve_on<T: Teller, R: Wait, G: OwnGate>(
     true
 }
 
-// Takes up a transaction that waits, or else takes a job.
+// Resumes a waiting transaction, or else takes a job.
 fn serve<T: Teller, R: Wait, G: OwnGate>(
     rt: &R,
     fabric: &Fabric,
@@ -202,7 +247,8 @@ fn serve<T: Teller, R: Wait, G: OwnGate>(
     }
 }
 
-// Makes a step of a node, if the gate lets it pass. The teller gets the receipt first, and then the gate hears of the step.
+// Performs a step of a node, if the gate lets it pass. The teller gets the receipt first, and then
+// the gate is told of the step.
 fn try_step<T: Teller, R: Wait, G: OwnGate>(
     rt: &R,
     fabric: &Fabric,
@@ -229,7 +275,7 @@ fn try_step<T: Teller, R: Wait, G: OwnGate>(
     }
 }
 
-// Makes a step of a node, and informs its teller of the receipt that it wrote, if it wrote one.
+// Performs a step of a node, and gives its teller the receipt, if it wrote one.
 fn step_and_tell<T: Teller, R: Wait>(
     rt: &R,
     fabric: &Fabric,
@@ -249,7 +295,8 @@ fn step_and_tell<T: Teller, R: Wait>(
     stepped
 }
 
-// Reports to the gate what a node did in a step. If that wrote a receipt, the gate says whether the node continues.
+// Tells the gate what a node did in a step. If the step wrote a receipt, the gate decides whether
+// the node continues.
 fn report<G: OwnGate>(gate: &G, node: &Node, event: WorkerEvent) -> Turn {
     let who = number_of(node);
     gate.hears(who, event);
@@ -259,15 +306,15 @@ fn report<G: OwnGate>(gate: &G, node: &Node, event: WorkerEvent) -> Turn {
     Turn::Worked
 }
 
-// The number of a node to a gate.
+// Returns the number of a node for a gate.
 fn number_of(node: &Node) -> u64
     ensures { result ≡ node.now.core.part }
 {
     u64::from(node.part().number())
 }
 
-// What the gate hears of a step in which a node did something. Before the step the node had so many receipts, and had
-// done this.
+// Returns what the gate is told of a step that did something. Before the step the node had
+// `receipts` receipts, and had done the work `before`.
 fn event_of(node: &Node, step: NodeStep, receipts: usize, before: Effort) -> WorkerEvent {
     if node.receipts().len() != receipts {
         return WorkerEvent::Answered(step);
@@ -288,7 +335,7 @@ fn event_of(node: &Node, step: NodeStep, receipts: usize, before: Effort) -> Wor
     WorkerEvent::Made(step)
 }
 
-// Makes a step of a node. A turn of a pump and an answer are none.
+// Performs a step of a node. `Pump` and `Answered` are not steps of a node.
 fn make_step<R: Wait>(rt: &R, fabric: &Fabric, node: &mut Node, step: NodeStep) -> Stepped
     requires { IsNodeOf fabric.now node.old }
     ensures { MakesStep fabric.now step node.old result node.new }

@@ -1,4 +1,4 @@
-// Pumps that are driven.
+// Driving pumps.
 ghost use Rattle.std.specs.Prelude.{◌≡◌, ◌+◌};
 ghost use Rattle.sq_pull.specs.Seats.{AreSeatsOf};
 ghost use Rattle.sq_driver.specs.Pumps.{PumpDriven};
@@ -12,11 +12,11 @@ use sq_ranges::SegId;
 use sq_tree::{LEAVES, NodeId};
 use std::sync::Wait;
 
-// How many requests wait at a partition when a pump asks it for no more. It has work by then, and a transaction that waits for
-// other rows from there asks behind few.
+// With this many requests waiting at a partition, a pump asks it for no more. It has enough work
+// then, and a transaction that needs other rows from there waits for few requests.
 const ENOUGH_REQUESTS: usize = 8;
 
-// How many parts there are for each partition, at least, into which a pump divides what moves.
+// The fewest parts for each partition into which a pump divides what moves.
 const PARTS_TO_CLAIM: u64 = 16;
 
 impl Worker for Pump {
@@ -58,13 +58,15 @@ impl Worker for Pump {
     ghost further = { pump_further };
 }
 
-/// Drives a pump: it takes `turns` turns. Before them it splits the segments if they are few, so that it claims no large
-/// part of what moves at once. In a turn it claims a tree node of a segment whose source has few requests to begin, if
-/// there is one: what isn't claimed is still served where it is, and a transaction that waits can claim it.
+/// Drives a pump for at most `turns` turns. First it splits the segments if they are few, so that
+/// it claims no large part of what moves at once. In a turn it claims a tree node of a segment
+/// whose source has few waiting requests, if there is one: keys that aren't claimed are still
+/// served where they are, and a transaction that waits can claim them.
 ///
-/// It ends before if it is done: there was nothing to claim in any segment of the running stage, and nothing is pending.
-/// It also ends if the gate says so, which is asked before each turn, and once it has lacked memory for some 3 seconds.
-/// The gate hears of each claim, and each time that the pump rests, when it may keep it for a while.
+/// It ends earlier if it is done: there was nothing to claim in any segment of the running stage,
+/// and nothing is pending. It also ends if the gate says so, which is asked before each turn, and
+/// once it has lacked memory for about 3 seconds. The gate is told of each claim, and each time
+/// that the pump rests, when it may delay the pump.
 pub fn drive_pump<R: Wait, G: Gate>(rt: &R, fabric: &Fabric, pump: &mut Pump, turns: u64, gate: &G)
     requires { AreSeatsOf fabric.now.trees pump.old.seats }
     ensures { PumpDriven fabric.now pump.old pump.new }
@@ -72,14 +74,14 @@ pub fn drive_pump<R: Wait, G: Gate>(rt: &R, fabric: &Fabric, pump: &mut Pump, tu
     take_turns(rt, fabric, pump, turns, gate, &Attendance::alone());
 }
 
-// The number of a pump to a gate.
+// Returns the number of a pump for a gate.
 fn number_of(fabric: &Fabric, pump: &Pump) -> u64
     ensures { result ≡ fabric.now.parts + pump.now.number }
 {
     u64::from(fabric.parts()) + u64::from(pump.number())
 }
 
-// Splits each segment into as many parts as are to be claimed.
+// Splits each segment into the parts that are to be claimed.
 fn divide(fabric: &Fabric, pump: &mut Pump)
     requires { AreSeatsOf fabric.now.trees pump.old.seats }
     ensures { PumpDriven fabric.now pump.old pump.new }
@@ -92,7 +94,7 @@ fn divide(fabric: &Fabric, pump: &mut Pump)
     }
 }
 
-// Splits the next segment into so many parts, which are a power of two.
+// Splits the next segment into `parts` parts, a power of two.
 fn split(fabric: &Fabric, pump: &mut Pump, parts: u64)
     requires { AreSeatsOf fabric.now.trees pump.old.seats }
     ensures { PumpDriven fabric.now pump.old pump.new }
@@ -105,8 +107,8 @@ fn split(fabric: &Fabric, pump: &mut Pump, parts: u64)
     }
 }
 
-// Into how many parts a segment is divided: the least power of two that makes enough parts of so many segments, or the number
-// of its leaves.
+// Returns into how many parts a segment is divided: the smallest power of two that gives enough
+// parts over all segments, but at most the number of its leaves.
 fn parts_of_a_segment(partitions: u8, segments: u64) -> u64 {
     let enough = u64::from(partitions) * PARTS_TO_CLAIM;
     for parts in [1, 2, 4, 8, 16] {
@@ -117,7 +119,7 @@ fn parts_of_a_segment(partitions: u8, segments: u64) -> u64 {
     LEAVES
 }
 
-// Claims a node for a source that has few requests, if there is one.
+// Claims a node from a source that has few requests, if there is one.
 fn claim<R: Wait>(rt: &R, fabric: &Fabric, pump: &mut Pump) -> Turn
     requires { AreSeatsOf fabric.now.trees pump.old.seats }
     ensures { PumpDriven fabric.now pump.old pump.new }
@@ -129,7 +131,8 @@ fn claim<R: Wait>(rt: &R, fabric: &Fabric, pump: &mut Pump) -> Turn
     }
 }
 
-// Puts segments off until the source of the next one has few requests. Whether there is such a one, or the round is over.
+// Puts segments off until the source of the next one has few requests. Returns true if there is
+// such a segment, or the round is over.
 fn finds_source<R: Wait>(rt: &R, fabric: &Fabric, pump: &mut Pump) -> bool
     requires { AreSeatsOf fabric.now.trees pump.old.seats }
     ensures { PumpDriven fabric.now pump.old pump.new }
@@ -144,7 +147,7 @@ fn finds_source<R: Wait>(rt: &R, fabric: &Fabric, pump: &mut Pump) -> bool
     segments == 0
 }
 
-// Whether few requests wait at the partition that a segment leaves.
+// Returns true if few requests wait at the partition that segment `seg` leaves.
 fn has_few_requests<R: Wait>(rt: &R, fabric: &Fabric, seg: SegId) -> bool {
     let shared = fabric.shared();
     shared

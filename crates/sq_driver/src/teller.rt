@@ -1,4 +1,4 @@
-// Recorders of the receipts of a node.
+// Recorders of a node's receipts.
 ghost use Rattle.sq_node_model.specs.Prelude.{ReceiptValue};
 
 use sq_node::{Node, Receipt};
@@ -6,10 +6,10 @@ use std::sync::Wait;
 
 /// A recorder of the receipts of one node, in the thread that drives it.
 pub trait Teller {
-    /// What a receipt makes of a teller.
+    /// How `tell` changes a teller.
     ghost Tells: { Self → ReceiptValue → Self → Type 0 };
 
-    /// Tells a receipt of its node, as soon as that is written. It may wait.
+    /// Called with each receipt of its node as soon as it is written. It may wait.
     fn tell<R: Wait>(&mut self, rt: &R, receipt: &Receipt)
         ensures { Tells self.old receipt.now self.new };
 }
@@ -18,7 +18,7 @@ pub trait Teller {
 #[derive(Drop)]
 pub struct TellingNode<T> {
     pub node: Node,
-    /// The recorder of each receipt that it writes.
+    /// The recorder, which is given each receipt that the node writes.
     pub teller: T,
 }
 

@@ -14,14 +14,15 @@ pub(crate) enum Turn {
     Worked,
     /// There was nothing to do.
     Rested,
-    /// There was no memory for what there was to do.
+    /// It lacked the memory for its work.
     Lacked,
     /// The worker ends.
     Ended,
 }
 
 impl Turn {
-    /// The outcome of a turn with one more step: it worked where a step did, and else lacked memory where a step did.
+    /// Returns the outcome of this turn and one more step: it ended if either ended; else it worked
+    /// if either worked; else it lacked memory if either did.
     pub(crate) fn and(self, step: Turn) -> Turn {
         match (self, step) {
             (Turn::Ended, _) | (_, Turn::Ended) => Turn::Ended,
@@ -34,16 +35,16 @@ impl Turn {
 
 /// A node or a pump of a run, which takes its turns one after another.
 pub(crate) trait Worker {
-    /// The worker is of the fabric.
+    /// The worker belongs to the fabric.
     ghost IsOf: { FabricValue → Self → Type 0 };
 
-    /// How a worker changes in its turns.
+    /// How a worker's turns change it.
     ghost Driven: { FabricValue → Self → Self → Type 0 };
 
-    /// Its number to a gate.
+    /// Returns its number for a gate.
     fn number_in(&self, fabric: &Fabric) -> u64;
 
-    /// Takes note that it has come.
+    /// Records that it has started.
     fn come(&self, attendance: &Attendance);
 
     /// What it does before its turns.
@@ -51,26 +52,27 @@ pub(crate) trait Worker {
         requires { IsOf fabric.now self.old }
         ensures { Driven fabric.now self.old self.new };
 
-    /// A turn. The gate is asked before each step.
+    /// Takes a turn. The gate is asked before each step.
     fn take_turn<R: Wait, G: OwnGate>(&mut self, rt: &R, fabric: &Fabric, gate: &G) -> Turn
         requires { IsOf fabric.now self.old }
         ensures { Driven fabric.now self.old self.new };
 
-    /// Without a turn a worker is as it was.
+    /// A worker that takes no turn is unchanged.
     ghost no_turn: { (fabric : FabricValue) (worker : Self) → IsOf fabric worker
         → Driven fabric worker worker };
 
-    /// A worker stays one of the fabric.
+    /// A worker still belongs to the fabric after it was driven.
     ghost stays: { (fabric : FabricValue) (old new : Self) → Driven fabric old new
         → IsOf fabric new };
 
-    /// What is driven further was driven.
+    /// A worker that was driven and then driven further was driven.
     ghost further: { (fabric : FabricValue) (first old new : Self)
         → Driven fabric first old → Driven fabric old new → Driven fabric first new };
 }
 
-/// Drives a worker: it takes `turns` turns, or fewer if it ends. It gives up once it has had no work for long while another
-/// worker hasn't come, once it has lacked memory for long, and once another worker has given up.
+/// Drives a worker for at most `turns` turns. It gives up once it has had no work for too long
+/// while another worker hasn't started, once it has lacked memory for too long, and once another
+/// worker has given up.
 pub(crate) fn take_turns<W: Worker, R: Wait, G: OwnGate>(
     rt: &R,
     fabric: &Fabric,

@@ -16,12 +16,13 @@ use std::sync::Wait;
 use std::thread;
 use std::thread::{Threads, join_mut};
 
-/// Drives each node and each pump in a thread of its own, with `turns` turns each, and returns how they ended. All of them
-/// have ended when it returns, and the run takes no more jobs until [`Fabric::open_jobs`].
+/// Drives each node and each pump in a thread of its own, with `turns` turns each, and returns how
+/// they ended. When it returns, all of them have ended, and the run takes no more jobs until
+/// [`Fabric::open_jobs`].
 ///
-/// If a thread can't be made, workers go one after another. All give up once one of them has had no work for some 5
-/// seconds while a node or all pumps have no thread, and once one of them has lacked memory for as long and could do
-/// nothing meanwhile.
+/// If the system grants fewer threads, workers run one after another. All give up once one of them
+/// has had no work for about 3 seconds while a node or all pumps have no thread, or once one of
+/// them has lacked memory for as long and could do nothing meanwhile.
 pub fn run_workers<R: Threads + Wait + Sync, G: Gate>(
     rt: &R,
     fabric: &Fabric,
@@ -40,8 +41,9 @@ pub fn run_workers<R: Threads + Wait + Sync, G: Gate>(
     attendance.end()
 }
 
-/// Drives each node, with its teller, and each pump, as [`run_workers`] does. A teller hears of each receipt that its
-/// node writes, once, in their order, and of nothing else, by the thread that drives the node.
+/// Drives each node, with its teller, and each pump, as [`run_workers`] does. A teller is given
+/// each receipt that its node writes, once, in their order, and nothing else, in the thread that
+/// drives the node.
 pub fn run_telling<T: Teller + Send, R: Threads + Wait + Sync, G: Gate>(
     rt: &R,
     fabric: &Fabric,
@@ -60,7 +62,7 @@ pub fn run_telling<T: Teller + Send, R: Threads + Wait + Sync, G: Gate>(
     attendance.end()
 }
 
-// Drives each of these workers, and each pump, in a thread of its own.
+// Drives each of `workers`, and each pump, in a thread of its own.
 fn run_all<W: Worker + Send, R: Threads + Wait + Sync, G: OwnGate + Sync>(
     rt: &R,
     fabric: &Fabric,
@@ -89,7 +91,7 @@ fn run_all<W: Worker + Send, R: Threads + Wait + Sync, G: OwnGate + Sync>(
     fabric.close_jobs(rt);
 }
 
-// Drives each of these workers in a thread of its own.
+// Drives each of `workers` in a thread of its own.
 fn run_each<W: Worker + Send, R: Threads + Wait + Sync, G: OwnGate + Sync>(
     rt: &R,
     fabric: &Fabric,

@@ -1,8 +1,10 @@
 -- What nodes left, added one after another.
-use Rattle.std.proofs.Common.{◌≡◌, ℕ, suc, ◌+◌, ◌<◌, List, [], ◌∷◌, ◌++◌, length, map, sum_by, refl, sym, ap, ◌∙◌, subst, append_assoc, append-nil, length-append, arith}
+use Rattle.std.proofs.Common.{◌≡◌, ℕ, zero, suc, ◌+◌, ◌<◌, List, [], ◌∷◌, ◌++◌, length, map, sum_by, refl, sym, ap, ◌∙◌, subst, append_assoc, append-nil, length-append, arith}
 use Rattle.std.specs.Prelude.{slice_get, Some}
 use Rattle.std.specs.List.{flat_map}
 use Rattle.std.proofs.lemmas.List.Sums.{sum_by-cons}
+use Rattle.std.proofs.lemmas.Option.{same_Some}
+use Rattle.sq_schema.specs.TxnValue.{TxnValue}
 use Rattle.sq_link.specs.Values.{LinkValue}
 use Rattle.sq_status.specs.Seat.{SeatValue}
 use Rattle.sq_node_model.specs.NodeValue.{ReceiptValue}
@@ -10,7 +12,8 @@ use Rattle.sq_store.specs.StoreValue.{StoreValue}
 use Rattle.sq_node.specs.Ends.{src_of, dst_of}
 use Rattle.sq_node.specs.FabricValue.{FabricValue, IsFabric}
 use Rattle.sq_node.specs.NodeState.{NodeState, IsNodeOf}
-use Rattle.sq_gather.specs.GatheringValue.{GatheringValue, KeepsRoom, IsAddable, HasRoomFor, AddsNode, AddsNodes}
+use Rattle.sq_gather.specs.GatheringValue.{GatheringValue, KeepsRoom, IsAddable, HasRoomFor, KeepsCore, AddsNode, AddsNodes}
+use Rattle.sq_gather.specs.Gathered.{waiting_at}
 use Rattle.sq_gather.proofs.Filling.{AreFilled, ends_apart, filled_more}
 
 pub adds_more : (old mid new : GatheringValue) (nodes : List NodeState) (node : NodeState) → AddsNodes old nodes mid → AddsNode mid node new → AddsNodes old (nodes ++ node ∷ []) new
@@ -26,26 +29,38 @@ room_left old node nodes left new adds is room =
     let sums : sum_by (λ (n : NodeState). length n.receipts) left ≡ length node.receipts + sum_by (λ (n : NodeState). length n.receipts) nodes = ap (λ (list : List NodeState). sum_by (λ (n : NodeState). length n.receipts) list) is ∙ sum_by-cons (λ (n : NodeState). length n.receipts) node nodes in
     record {
       stores = omega (arith, room.stores, ap length is, ap length adds.stores, length-append old.stores (node.core.store ∷ []), adds.room.stores);
+      waiting = omega (arith, room.waiting, ap length is, ap length adds.waiting, length-append old.waiting (node.core.waiting ∷ []), adds.room.waiting);
+      posts = omega (arith, room.posts, ap length is, adds.posts, adds.room.posts);
       receipts = omega (arith, room.receipts, sums, ap length adds.receipts, length-append old.receipts node.receipts, adds.room.receipts);
       owners = omega (arith, room.owners, ap length is, ap length adds.owners, length-append old.owners (node.seats ∷ []), adds.room.owners);
     }
 
 -- the result of adding them all
 pub record HasAdded (old : GatheringValue) (nodes : List NodeState) (new : GatheringValue) : Type 0 where
+  pub kept : (k : ℕ) (node : NodeState) → slice_get nodes k ≡ Some node → KeepsCore node
   pub stores : new.stores ≡ old.stores ++ map (λ (node : NodeState). node.core.store) nodes
+  pub waiting : new.waiting ≡ old.waiting ++ waiting_at nodes
   pub receipts : new.receipts ≡ old.receipts ++ flat_map (λ (node : NodeState). node.receipts) nodes
   pub owners : new.owners ≡ old.owners ++ map (λ (node : NodeState). node.seats) nodes
   pub left : new.left ≡ old.left
   pub room : KeepsRoom old.room new.room
 
+kept_at : (first : NodeState) (nodes : List NodeState) → KeepsCore first → ((k : ℕ) (node : NodeState) → slice_get nodes k ≡ Some node → KeepsCore node) → (k : ℕ) (node : NodeState) → slice_get (first ∷ nodes) k ≡ Some node → KeepsCore node
+kept_at first nodes kept rest zero node there = subst KeepsCore (same_Some first node there) kept
+kept_at first nodes kept rest (suc k) node there = rest k node there
+
 pub has_added : (old : GatheringValue) (nodes : List NodeState) (new : GatheringValue) → AddsNodes old nodes new → HasAdded old nodes new
 has_added old [] new adds = record {
+  kept = λ k node there. absurd cc;
+  waiting = ap (λ (g : GatheringValue). g.waiting) adds ∙ sym (append-nil old.waiting);
   stores = ap (λ (g : GatheringValue). g.stores) adds ∙ sym (append-nil old.stores);
   receipts = ap (λ (g : GatheringValue). g.receipts) adds ∙ sym (append-nil old.receipts);
   owners = ap (λ (g : GatheringValue). g.owners) adds ∙ sym (append-nil old.owners);
   left = ap (λ (g : GatheringValue). g.left) adds;
   room = record {
     stores = omega (arith, ap (λ (g : GatheringValue). g.room.stores) adds);
+    waiting = omega (arith, ap (λ (g : GatheringValue). g.room.waiting) adds);
+    posts = omega (arith, ap (λ (g : GatheringValue). g.room.posts) adds);
     receipts = omega (arith, ap (λ (g : GatheringValue). g.room.receipts) adds);
     owners = omega (arith, ap (λ (g : GatheringValue). g.room.owners) adds);
     links = omega (arith, ap (λ (g : GatheringValue). g.room.links) adds);
@@ -56,6 +71,8 @@ has_added old (node ∷ nodes) new adds =
     let one = adds.1 in
     let rest = has_added adds.0 nodes new adds.2 in
     record {
+      kept = λ k other there. kept_at node nodes one.kept rest.kept k other there;
+      waiting = rest.waiting ∙ ap (λ (list : List (List TxnValue)). list ++ waiting_at nodes) one.waiting ∙ append_assoc old.waiting (node.core.waiting ∷ []) (waiting_at nodes);
       stores = rest.stores ∙ ap (λ (list : List StoreValue). list ++ map (λ (node : NodeState). node.core.store) nodes) one.stores ∙ append_assoc old.stores (node.core.store ∷ []) (map (λ (node : NodeState). node.core.store) nodes);
       receipts = rest.receipts ∙ ap (λ (list : List ReceiptValue). list ++ flat_map (λ (node : NodeState). node.receipts) nodes) one.receipts
           ∙ append_assoc old.receipts node.receipts (flat_map (λ (node : NodeState). node.receipts) nodes);
@@ -63,6 +80,8 @@ has_added old (node ∷ nodes) new adds =
       left = rest.left ∙ one.left;
       room = record {
         stores = omega (arith, one.room.stores, rest.room.stores);
+        waiting = omega (arith, one.room.waiting, rest.room.waiting);
+        posts = omega (arith, one.room.posts, rest.room.posts);
         receipts = omega (arith, one.room.receipts, rest.room.receipts);
         owners = omega (arith, one.room.owners, rest.room.owners);
         links = omega (arith, one.room.links, rest.room.links);

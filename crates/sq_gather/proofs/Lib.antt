@@ -1,10 +1,14 @@
 pub mod Adding
 pub mod AllOf
+pub mod ByPart
+pub mod Cut
 pub mod Closing
 pub mod Running
 pub mod StageDone
 pub mod Staged
+pub mod Filled
 pub mod Filling
+pub mod InOrder
 pub mod Joined
 pub mod Joining
 pub mod Linked

@@ -3,6 +3,8 @@ use Rattle.std.proofs.Common.{◌≡◌, ℕ, ◌<◌, List, [], ◌++◌, lengt
 use Rattle.std.specs.Prelude.{slice_get}
 use Rattle.std.specs.List.{flat_map}
 use Rattle.std.proofs.lemmas.List.{length-map}
+use Rattle.std.proofs.lemmas.List.Sorted.{IsPermutation-sym, length_permutation, Contains-permutation}
+use Rattle.sq_model.proofs.Lists.{Contains-slice_get, slice_get-Contains}
 use Rattle.std.proofs.lemmas.List.Concat.{flat_map-append}
 use Rattle.std.proofs.lemmas.List.Folds.{flat_map-map}
 use Rattle.sq_ranges.specs.declared.recon.Link.{Link}
@@ -43,7 +45,10 @@ from_nodes part nodes pumps seg none =
     ∙ (λ k. flat_map-map f (λ (node : NodeState). node.seats) nodes k ++ (flat_map-map f (λ (pump : PumpValue). pump.seats) pumps ∙ flat_map_none (λ (pump : PumpValue). part (views_of pump.seats seg)) pumps none) k)
     ∙ append-nil (flat_map (λ (node : NodeState). part (views_of node.seats seg)) nodes)
 
-module _ (fabric : FabricValue) (nodes : List NodeState) (pumps : List PumpValue) (is : IsFabric fabric) (all : AreAllOf fabric nodes pumps) (g : GatheredValue) (gathered : IsGathered fabric nodes pumps g) where
+module _ (fabric : FabricValue) (given : List NodeState) (pumps : List PumpValue) (is : IsFabric fabric) (all : AreAllOf fabric given pumps) (g : GatheredValue) (gathered : IsGathered fabric given pumps g) where
+  abbrev nodes : List NodeState
+  nodes = gathered.by_part
+
   closed_tree : (seg : ℕ) → seg < length fabric.seats → IsClosedTree (map node_value nodes) g.statuses seg
   closed_tree seg low =
       let seat : (s : SeatValue) × (slice_get fabric.seats seg ≡ Some s) = stands_at fabric.seats seg low in
@@ -63,7 +68,12 @@ module _ (fabric : FabricValue) (nodes : List NodeState) (pumps : List PumpValue
   as_many_seats : length fabric.seats ≡ length fabric.recon.segments
   as_many_seats = sym (length-map fabric.seats (λ (seat : SeatValue). seat.tree)) ∙ ap length is.seats ∙ is.trees
 
-  module _ (o : OpeningValue) (began : BeganWith) (opening : IsOpening o) (of : IsFabricOf o fabric) (begun : HasBegun began fabric) (hold : AllHold o began nodes) where
+  module _ (o : OpeningValue) (began : BeganWith) (opening : IsOpening o) (of : IsFabricOf o fabric) (begun : HasBegun began fabric) (hold : AllHold o began given) where
+    holds_at : (part : ℕ) (node : NodeState) → slice_get nodes part ≡ Some node → NodeHolds o began (node_value node)
+    holds_at part node there =
+        let has = Contains-permutation nodes given node (IsPermutation-sym given nodes gathered.ordered.same) (Contains-slice_get nodes part node there) in
+        hold has.0 node (slice_get-Contains given node has)
+
     are_links : AreLinks (ranges_in o.recon g.stage) (map closed_ends g.links)
     are_links =
         as_links o.recon g.stage (map closed_ends g.links)
@@ -80,9 +90,9 @@ module _ (fabric : FabricValue) (nodes : List NodeState) (pumps : List PumpValue
     gathers : Gathers o began (map node_value nodes) g
     gathers = record {
       stage = gathered.stage ∙ sym begun.stage;
-      count = length-map nodes node_value ∙ all.count ∙ of.parts;
-      parts = λ p node there. let at = map_at node_value nodes p node there in ap (λ (n : NodeValue). n.part) (sym at.2) ∙ (all.each_node p at.0 at.1).1;
-      holds = λ p node there. let at = map_at node_value nodes p node there in subst (NodeHolds o began) at.2 (hold p at.0 at.1);
+      count = length-map nodes node_value ∙ length_permutation given nodes gathered.ordered.same ∙ all.count ∙ of.parts;
+      parts = λ p node there. let at = map_at node_value nodes p node there in ap (λ (n : NodeValue). n.part) (sym at.2) ∙ gathered.ordered.each p at.0 at.1;
+      holds = λ p node there. let at = map_at node_value nodes p node there in subst (NodeHolds o began) at.2 (holds_at p at.0 at.1);
       stores = gathered.stores ∙ sym (map_twice (λ (node : NodeValue). node.store) node_value nodes);
       receipts = gathered.receipts ∙ ap (λ (list : List ReceiptValue). fabric.receipts ++ list) (sym (flat_map-map (λ (node : NodeValue). node.receipts) node_value nodes))
           ∙ ap (λ (past : List ReceiptValue). past ++ flat_map (λ (node : NodeValue). node.receipts) (map node_value nodes)) (sym begun.receipts);

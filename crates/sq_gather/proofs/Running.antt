@@ -1,5 +1,5 @@
 -- Runs: how they begin, how they continue, and how the next stage and the next move begin.
-use Rattle.std.proofs.Common.{◌≡◌, ℕ, ◌+◌, List, length, refl, sym, ap₂, ◌∙◌, subst}
+use Rattle.std.proofs.Common.{◌≡◌, ℕ, ◌+◌, List, length, refl, sym, ◌∙◌}
 use Rattle.sq_ranges.specs.OpeningValue.{OpeningValue}
 use Rattle.sq_ranges.specs.Opening.{IsOpening}
 use Rattle.sq_pull.specs.Pump.{PumpValue}
@@ -12,10 +12,11 @@ use Rattle.sq_node_model.proofs.Next.{can_next, opens_next}
 use Rattle.sq_node_model.proofs.Onward.{can_onward, opens_onward}
 use Rattle.sq_node.specs.FabricValue.{FabricValue, HasBegun, IsFabric}
 use Rattle.sq_node.specs.NodeState.{NodeState}
-use Rattle.sq_node.specs.Opened.{AreFirstSeats, AllHoldUnder, AllOpenWith, IsReopened, IsOpened}
+use Rattle.sq_node.specs.Opened.{AllHoldUnder, AllOpenWith, IsReopened, IsOpened}
 use Rattle.sq_gather.specs.Gathered.{HoldsInStage}
 use Rattle.sq_gather.specs.Reopened.{IsRunInStage, AllStay, AllPumpsStay}
-use Rattle.sq_gather.proofs.AllOf.{all_of_new, all_of_opened, pump_claimed}
+use Rattle.sq_gather.proofs.AllOf.{all_of_new, all_of_opened}
+use Rattle.sq_gather.proofs.Workers.{still_all}
 
 -- what a run opens with is a run in its first stage
 pub run_begins : (o : OpeningValue) (count : ℕ) (fabric : FabricValue) (nodes : List NodeState) (pumps : List PumpValue) → IsOpening o → IsFabric fabric → IsOpened o count fabric nodes pumps → IsRunInStage o (first_began o) fabric nodes pumps
@@ -24,7 +25,7 @@ run_begins o count fabric nodes pumps opening is opened =
       shared = opened.shared;
       begun = opened.begun;
       can = first_can o;
-      all = all_of_opened o count fabric nodes pumps opening is opened;
+      all = all_of_opened o count fabric nodes pumps opened;
       hold = opened.hold;
     }
 
@@ -35,17 +36,7 @@ run_goes_on o began fabric old new before after opening run nodes pumps =
       shared = run.shared;
       begun = run.begun;
       can = run.can;
-      all = record {
-        seats = subst (λ (n : ℕ). AreFirstSeats n fabric.trees fabric.seats) (ap₂ (λ (a b : ℕ). a + b) (sym nodes.count) (sym pumps.count)) run.all.seats;
-        count = nodes.count ∙ run.all.count;
-        ends = run.all.ends;
-        each_node = λ part node there.
-            let was = nodes.each part node there in
-            (was.2.of, was.2.part ∙ (run.all.each_node part was.0 was.1).1);
-        each_pump = λ i pump there.
-            let was = pumps.each i pump there in
-            pump_claimed fabric was.0 pump (run.all.each_pump i was.0 was.1) was.2.of was.2.claims;
-      };
+      all = still_all fabric old new before after run.all nodes pumps;
       hold = λ part node there.
           let was = nodes.each part node there in
           was.2.holds o began opening (run.hold part was.0 was.1);
@@ -67,7 +58,7 @@ run_opens o began g count fabric nodes pumps opening whole told can opens is res
       shared = resumed.shared;
       begun = begun;
       can = can;
-      all = all_of_new o count g.stores fabric nodes pumps opening is resumed.shared whole resumed.seats resumed.each_node resumed.each_pump;
+      all = all_of_new o count g.stores fabric nodes pumps resumed.shared whole resumed.seats resumed.each_node resumed.each_pump;
       hold = hold began begun can opens;
     }
 

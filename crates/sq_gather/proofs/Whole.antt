@@ -3,10 +3,13 @@ use Rattle.std.proofs.Common.{◌≡◌, ℕ, ◌+◌, ◌≤◌, List, [], ◌+
 use Rattle.std.specs.Prelude.{slice_get, option_to_list}
 use Rattle.std.specs.List.{flat_map}
 use Rattle.std.specs.Option.{option_map_or}
+use Rattle.std.specs.List.Sorted.{IsPermutation}
 use Rattle.std.proofs.lemmas.List.{length-map}
+use Rattle.std.proofs.lemmas.List.Sorted.{length_permutation, sum_by-IsPermutation}
 use Rattle.std.proofs.lemmas.Option.{same_Some, slice_get_within, get_or_from_slice_get}
 use Rattle.atomic_table.specs.Seated.{TableId}
 use Rattle.sq_chunk.specs.ChunkValue.{ChunkValue}
+use Rattle.sq_schema.specs.TxnValue.{TxnValue}
 use Rattle.sq_store.specs.StoreValue.{StoreValue}
 use Rattle.sq_exec.specs.CoreValue.{out_at, inbox_at}
 use Rattle.sq_link.specs.Values.{LinkValue, PassValue}
@@ -25,8 +28,10 @@ use Rattle.sq_gather.specs.Links.{IsClosed, HaveBothEnds}
 use Rattle.sq_gather.specs.Links.{AreClosed as AreClosedLinks}
 use Rattle.sq_gather.specs.Trees.{AllAreSeatsOf, AwaitOwners}
 use Rattle.sq_gather.specs.Trees.{AreClosed as AreClosedTrees}
-use Rattle.sq_gather.specs.GatheringValue.{GatheringValue, AreReserved, IsReserved, AddsReceipts, IsAddable, HasRoomFor, AddsNodes, IsClosable}
-use Rattle.sq_gather.specs.Gathered.{AreAllOf, IsGathered, owners_of, closed_ends}
+use Rattle.sq_gather.specs.GatheringValue.{GatheringValue, AreReserved, IsReserved, AddsReceipts, IsAddable, HasRoomFor, KeepsCore, AddsNodes, IsClosable}
+use Rattle.sq_gather.specs.Left.{BeginWithWaiting}
+use Rattle.sq_gather.specs.Gathered.{AreByPart, IsGathered, owners_of, closed_ends, waiting_at}
+use Rattle.sq_gather.proofs.ByPart.{AllInOrder, LinksHaveNodes}
 use Rattle.sq_gather.proofs.Lists.{maps_same}
 use Rattle.sq_gather.proofs.Filling.{HasSource, HasDestination, AreFilled}
 use Rattle.sq_gather.proofs.Adding.{HasAdded, has_added, addable, all_filled}
@@ -41,12 +46,16 @@ module _ (fabric : FabricValue) (nodes : List NodeState) (pumps : ℕ) (none : G
       let room = adds.room in
       record {
         stores = ap (λ (g : GatheringValue). g.stores) adds.is ∙ reserved.stores;
+        waiting = ap (λ (g : GatheringValue). g.waiting) adds.is ∙ reserved.waiting;
+        posts = ap (λ (g : GatheringValue). g.posts) adds.is ∙ reserved.posts;
         receipts = ap (λ (g : GatheringValue). g.receipts) adds.is ∙ ap (λ (list : List ReceiptValue). list ++ past) reserved.receipts ∙ of;
         owners = ap (λ (g : GatheringValue). g.owners) adds.is ∙ reserved.owners;
         ends = subst (λ (g : GatheringValue). AreReserved fabric.links g.ends) (sym adds.is) reserved.ends;
         left = ap (λ (g : GatheringValue). g.left) adds.is ∙ reserved.left;
         room = record {
           stores = omega (arith, reserved.room.stores, room.stores);
+          waiting = omega (arith, reserved.room.waiting, room.waiting);
+          posts = omega (arith, reserved.room.posts, room.posts);
           receipts = omega (arith, reserved.room.receipts, room.receipts);
           owners = omega (arith, reserved.room.owners, room.owners);
           links = omega (arith, reserved.room.links, room.links);
@@ -54,13 +63,39 @@ module _ (fabric : FabricValue) (nodes : List NodeState) (pumps : ℕ) (none : G
         };
       }
 
-module _ (fabric : FabricValue) (nodes : List NodeState) (pumps : List PumpValue) (is : IsFabric fabric) (all : AreAllOf fabric nodes pumps) (none : GatheringValue) (reserved : IsReserved fabric.receipts fabric nodes (length pumps) none) where
+-- room for nodes is room for them in another order
+pub room_in_order : (fabric : FabricValue) (nodes by_part : List NodeState) (pumps : ℕ) (past : List ReceiptValue) (gathering : GatheringValue) → IsPermutation nodes by_part → IsReserved past fabric nodes pumps gathering → IsReserved past fabric by_part pumps gathering
+room_in_order fabric nodes by_part pumps past gathering same reserved =
+    let many = length_permutation nodes by_part same in
+    let sums = sum_by-IsPermutation (λ (node : NodeState). length node.receipts) nodes by_part same in
+    record {
+      stores = reserved.stores;
+      waiting = reserved.waiting;
+      posts = reserved.posts;
+      receipts = reserved.receipts;
+      owners = reserved.owners;
+      ends = reserved.ends;
+      left = reserved.left;
+      room = record {
+        stores = omega (arith, reserved.room.stores, many);
+        waiting = omega (arith, reserved.room.waiting, many);
+        posts = omega (arith, reserved.room.posts, many);
+        receipts = omega (arith, reserved.room.receipts, sums);
+        owners = omega (arith, reserved.room.owners, many);
+        links = reserved.room.links;
+        trees = reserved.room.trees;
+      };
+    }
+
+module _ (fabric : FabricValue) (nodes : List NodeState) (pumps : List PumpValue) (is : IsFabric fabric) (all : AllInOrder fabric nodes pumps) (none : GatheringValue) (reserved : IsReserved fabric.receipts fabric nodes (length pumps) none) where
   pub each_addable : (part : ℕ) (node : NodeState) → slice_get nodes part ≡ Some node → IsAddable (length none.ends) node
   each_addable part node there = addable fabric is node (all.each_node part node there).0 (length none.ends) reserved.ends.count
 
   pub room_for_nodes : HasRoomFor none nodes
   room_for_nodes = record {
     stores = omega (arith, reserved.room.stores, ap length reserved.stores);
+    waiting = omega (arith, reserved.room.waiting, ap length reserved.waiting);
+    posts = omega (arith, reserved.room.posts, reserved.posts);
     receipts = omega (arith, reserved.room.receipts, ap length reserved.receipts);
     owners = omega (arith, reserved.room.owners, ap length reserved.owners);
   }
@@ -89,14 +124,18 @@ module _ (fabric : FabricValue) (nodes : List NodeState) (pumps : List PumpValue
           length-map nodes (λ (node : NodeState). node.seats),
         )
 
-    module _ (whole : GatheringValue) (pumped : whole ≡ record added { owners = added.owners ++ map (λ (pump : PumpValue). pump.seats) pumps }) where
+    -- what is kept of each node
+    pub each_kept : (k : ℕ) (node : NodeState) → slice_get nodes k ≡ Some node → KeepsCore node
+    each_kept = has.kept
+
+    module _ (below : LinksHaveNodes fabric) (whole : GatheringValue) (pumped : whole ≡ record added { owners = added.owners ++ map (λ (pump : PumpValue). pump.seats) pumps }) where
       owners_are : whole.owners ≡ owners_of nodes pumps
       owners_are = ap (λ (g : GatheringValue). g.owners) pumped
           ∙ ap (λ (list : List (List SeatValue)). list ++ map (λ (pump : PumpValue). pump.seats) pumps) (has.owners ∙ ap (λ (list : List (List SeatValue)). list ++ map (λ (node : NodeState). node.seats) nodes) reserved.owners)
 
       filled : AreFilled fabric.links nodes whole.ends
       filled = subst (λ (g : GatheringValue). AreFilled fabric.links nodes g.ends) (sym pumped)
-          (all_filled fabric is all.ends [] nodes (λ k node there. (let at = all.each_node k node there in (at.0, omega (arith, at.1)))) none added adds none_filled)
+          (all_filled fabric is below [] nodes (λ k node there. (let at = all.each_node k node there in (at.0, omega (arith, at.1)))) none added adds none_filled)
 
       owners_seats : AllAreSeatsOf fabric.trees whole.owners
       owners_seats i seats there =
@@ -133,9 +172,9 @@ module _ (fabric : FabricValue) (nodes : List NodeState) (pumps : List PumpValue
 
       has_nodes : (i : ℕ) (link : LinkValue) (left : LinkEndsValue) → slice_get fabric.links i ≡ Some link → slice_get whole.ends i ≡ Some left → HasNodes i link left
       has_nodes i link left there left_there =
-          let below = all.ends i link there in
-          let from : (node : NodeState) × (slice_get nodes link.src ≡ Some node) = stands_at nodes link.src (omega (arith, below.0, all.count)) in
-          let to : (node : NodeState) × (slice_get nodes link.dst ≡ Some node) = stands_at nodes link.dst (omega (arith, below.1, all.count)) in
+          let ends = below i link there in
+          let from : (node : NodeState) × (slice_get nodes link.src ≡ Some node) = stands_at nodes link.src (omega (arith, ends.0, all.count)) in
+          let to : (node : NodeState) × (slice_get nodes link.dst ≡ Some node) = stands_at nodes link.dst (omega (arith, ends.1, all.count)) in
           record {
             from = from.0;
             from_there = from.1;
@@ -174,6 +213,18 @@ module _ (fabric : FabricValue) (nodes : List NodeState) (pumps : List PumpValue
         tree_room = ap (λ (g : GatheringValue). g.room.trees) pumped ∙ has.room.trees ∙ reserved.room.trees ∙ sym is.trees;
         ends = have_ends;
         link_room = omega (arith, ap (λ (g : GatheringValue). g.room.links) pumped, has.room.links, reserved.room.links);
+        waiting = omega (
+          arith,
+          ap (λ (g : GatheringValue). length g.waiting) pumped,
+          ap length has.waiting,
+          length-append none.waiting (waiting_at nodes),
+          ap length reserved.waiting,
+          length-map nodes (λ (node : NodeState). node.core.waiting),
+          all.count,
+          ap (λ (g : GatheringValue). g.left) pumped,
+          has.left,
+          reserved.left,
+        );
       }
 
       pub closable_with : (trees : List TableId) (first : List SeatValue) (links : List LinkValue) → trees ≡ fabric.trees → first ≡ fabric.seats → links ≡ fabric.links → IsClosable trees first links whole
@@ -202,9 +253,11 @@ module _ (fabric : FabricValue) (nodes : List NodeState) (pumps : List PumpValue
                 ∙ (λ k. option_to_list ((ap (λ (e : LinkEndsValue). e.inbox) (sym has.destination.is) ∙ ap (inbox_at has.to.core) (sym closes.src)) k) ++ (closes.queue ++ option_to_list ((ap (λ (e : LinkEndsValue). e.outbox) (sym has.source.is) ∙ ap (λ (dst : ℕ). (out_at has.from.core dst).outbox) (sym closes.dst)) k)));
           }
 
-      module _ (g : GatheredValue) (stores : g.stores ≡ whole.stores) (receipts : g.receipts ≡ whole.receipts) (left : length g.left ≡ whole.left) (stage : g.stage ≡ fabric.stage) (links : AreClosedLinks fabric.links whole.ends g.links) (statuses : AreClosedTrees fabric.seats whole.owners g.statuses) where
-        pub is_gathered : IsGathered fabric nodes pumps g
-        is_gathered = record {
+      module _ (g : GatheredValue) (stores : g.stores ≡ whole.stores) (receipts : g.receipts ≡ whole.receipts) (left : length g.left ≡ whole.left) (begins : BeginWithWaiting whole.waiting g.left) (stage : g.stage ≡ fabric.stage) (links : AreClosedLinks fabric.links whole.ends g.links) (statuses : AreClosedTrees fabric.seats whole.owners g.statuses) where
+        pub is_gathered : (given : List NodeState) → AreByPart given nodes → IsGathered fabric given pumps g
+        is_gathered given ordered = record {
+          by_part = nodes;
+          ordered = ordered;
           stage = stage;
           stores = stores ∙ ap (λ (g : GatheringValue). g.stores) pumped ∙ has.stores ∙ ap (λ (list : List StoreValue). list ++ map (λ (node : NodeState). node.core.store) nodes) reserved.stores;
           receipts = receipts ∙ ap (λ (g : GatheringValue). g.receipts) pumped ∙ has.receipts ∙ ap (λ (list : List ReceiptValue). list ++ flat_map (λ (node : NodeState). node.receipts) nodes) reserved.receipts;
@@ -220,4 +273,7 @@ module _ (fabric : FabricValue) (nodes : List NodeState) (pumps : List PumpValue
               closed_link i link.0 left.0 closed (has_nodes i link.0 left.0 link.1 left.1) (links.each i link.0 left.0 closed link.1 left.1 closed_there);
           statuses = subst (λ (owners : List (List SeatValue)). AreClosedTrees fabric.seats owners g.statuses) owners_are statuses;
           left = left ∙ ap (λ (g : GatheringValue). g.left) pumped ∙ has.left ∙ reserved.left;
+          waiting = subst (λ (waiting : List (List TxnValue)). BeginWithWaiting waiting g.left)
+              (ap (λ (g : GatheringValue). g.waiting) pumped ∙ has.waiting ∙ ap (λ (list : List (List TxnValue)). list ++ waiting_at nodes) reserved.waiting)
+              begins;
         }

@@ -1,15 +1,15 @@
--- The ends that a node had of links, each put where its link is.
+-- The ends of links that a node had, each put at the place of its link.
 use Rattle.std.specs.Prelude.{◌≡◌, ◌⊎◌, ℕ, ◌<◌, ◌≤◌, false, List, length, slice_get, slice_index_or, Option, Some, None}
 use Rattle.sq_chunk.specs.ChunkValue.{ChunkValue}
 use Rattle.sq_exec.specs.OutLink.{OutLinkValue, RoomyOutLink, new_out_link}
 use Rattle.sq_node.specs.Ends.{EndValue, end_at}
 use Rattle.sq_gather.specs.LinkEnds.{LinkEndsValue}
 
--- how an end of a node is put where its link is, with what is beside it
+-- how an end of a node is put at the place of its link, with what belongs to it
 abbrev pub PutBeside : Type 0 → Type 0
 PutBeside Y = LinkEndsValue → EndValue → Y → LinkEndsValue
 
--- the end of this place of a node was put here, with what is beside it
+-- an end of a node, at a place from `from` on, was put here, with what belongs to it
 pub record WasPut {Y : Type 0} (put : PutBeside Y) (ends : List (Option EndValue)) (beside : List Y) (none : Y) (from i : ℕ)
     (was now : LinkEndsValue) : Type 0 where
   pub other : ℕ
@@ -19,8 +19,8 @@ pub record WasPut {Y : Type 0} (put : PutBeside Y) (ends : List (Option EndValue
   pub here : end.link ≡ i
   pub is : now ≡ put was end (slice_index_or beside other none)
 
--- each end that a node had, from this place on, was put where its link is, with what is beside it, and nothing else was
--- put
+-- each end that a node had, from place `from` on, was put at the place of its link, with what
+-- belongs to it, and nothing else was put
 pub record HavePut {Y : Type 0} (put : PutBeside Y) (ends : List (Option EndValue)) (beside : List Y) (none : Y) (from : ℕ)
     (old new : List LinkEndsValue) : Type 0 where
   pub count : length new ≡ length old
@@ -29,15 +29,15 @@ pub record HavePut {Y : Type 0} (put : PutBeside Y) (ends : List (Option EndValu
   pub each : (i : ℕ) (was : LinkEndsValue) → slice_get old i ≡ Some was
       → (now : LinkEndsValue) × (slice_get new i ≡ Some now) × (WasPut put ends beside none from i was now ⊎ (now ≡ was))
 
--- no two of a node's ends are of one link
+-- no two of a node's ends belong to the same link
 abbrev pub AreApart : List (Option EndValue) → Type 0
 AreApart ends = (a b : ℕ) (one other : EndValue) → end_at ends a ≡ Some one → end_at ends b ≡ Some other → one.link ≡ other.link → a ≡ b
 
--- each of a node's ends is of one of this many links
+-- each of a node's ends belongs to one of `count` links
 abbrev pub AreAmong : ℕ → List (Option EndValue) → Type 0
 AreAmong count ends = (other : ℕ) (end : EndValue) → end_at ends other ≡ Some end → end.link < count
 
--- with the source's end
+-- `ends` with the source's end
 abbrev pub with_source : LinkEndsValue → EndValue → OutLinkValue → LinkEndsValue
 with_source ends end out = record ends { sender = Some end.pass; notes = out.notes; outbox = out.outbox }
 
@@ -47,7 +47,7 @@ with_out_link ends end out = with_source ends end out.link
 abbrev pub no_out_link : RoomyOutLink
 no_out_link = record { link = new_out_link; has_room = false }
 
--- with the destination's end
+-- `ends` with the destination's end
 abbrev pub with_destination : LinkEndsValue → EndValue → Option ChunkValue → LinkEndsValue
 with_destination ends end inbox = record ends { receiver = Some end.pass; inbox = inbox }
 

@@ -1,7 +1,10 @@
 -- What is gathered so far, and the room for the rest.
 use Rattle.std.specs.Prelude.{◌≡◌, ℕ, ◌+◌, ◌≤◌, List, [], ◌∷◌, ◌++◌, length, sum_by, slice_get, Some}
 use Rattle.atomic_table.specs.Seated.{TableId}
+use Rattle.sq_schema.specs.TxnValue.{TxnValue}
 use Rattle.sq_store.specs.StoreValue.{StoreValue}
+use Rattle.sq_waiting.specs.Waiting.{Arrival}
+use Rattle.sq_exec.specs.Kept.{IsCore}
 use Rattle.sq_link.specs.Values.{LinkValue}
 use Rattle.sq_status.specs.Seat.{SeatValue}
 use Rattle.sq_node_model.specs.NodeValue.{ReceiptValue}
@@ -13,51 +16,63 @@ use Rattle.sq_gather.specs.Links.{no_ends, HaveBothEnds}
 use Rattle.sq_gather.specs.Trees.{AllAreSeatsOf, AwaitOwners}
 use Rattle.sq_gather.specs.Ends.{AreApart, AreAmong, SourcesPut, DestinationsPut}
 
--- for how many stores, receipts, owners of seats and links there is room, and for how many trees
+-- the room for stores, lists of waiting jobs, lists of jobs to forward, receipts, owners of seats
+-- and links, and the number of trees
 pub record RoomValue : Type 0 where
   pub stores : ℕ
+  pub waiting : ℕ
+  pub posts : ℕ
   pub receipts : ℕ
   pub owners : ℕ
   pub links : ℕ
   pub trees : ℕ
 
--- the families by partition, the receipts, the seats by owner, what the ends of each link left of it,
--- and for how many partitions there are lists of jobs
+-- the families and the waiting jobs by partition, the number of nodes whose jobs to forward are
+-- here, the receipts, the seats by owner, what the ends of each link left of it, and the number of
+-- partitions with a list of jobs
 pub record GatheringValue : Type 0 where
   pub stores : List StoreValue
+  pub waiting : List (List TxnValue)
+  pub posts : ℕ
   pub receipts : List ReceiptValue
   pub owners : List (List SeatValue)
   pub ends : List LinkEndsValue
   pub left : ℕ
   pub room : RoomValue
 
--- there is room for all of a run with these nodes and this many pumps
+-- there is room for all of a run with these nodes and `pumps` pumps
 pub record IsRoomFor (fabric : FabricValue) (nodes : List NodeState) (pumps : ℕ) (room : RoomValue) : Type 0 where
   pub stores : length nodes ≤ room.stores
+  pub waiting : length nodes ≤ room.waiting
+  pub posts : length nodes ≤ room.posts
   pub receipts : length fabric.receipts + sum_by (λ node. length node.receipts) nodes ≤ room.receipts
   pub owners : length nodes + pumps ≤ room.owners
   pub links : length fabric.links ≤ room.links
   pub trees : room.trees ≡ length fabric.recon.segments
 
--- for each link there is room, and none of its ends is there
+-- there is room for each link, and neither of its ends is set
 pub record AreReserved (links : List LinkValue) (ends : List LinkEndsValue) : Type 0 where
   pub count : length ends ≡ length links
   pub each : (i : ℕ) (link : LinkValue) (left : LinkEndsValue) → slice_get links i ≡ Some link
       → slice_get ends i ≡ Some left → left ≡ no_ends (link.capacity + 2)
 
--- these receipts are gathered and nothing else, and there is room for all
+-- only the receipts `past` are gathered, and there is room for everything
 pub record IsReserved (past : List ReceiptValue) (fabric : FabricValue) (nodes : List NodeState) (pumps : ℕ)
     (gathering : GatheringValue) : Type 0 where
   pub stores : gathering.stores ≡ []
+  pub waiting : gathering.waiting ≡ []
+  pub posts : gathering.posts ≡ 0
   pub receipts : gathering.receipts ≡ past
   pub owners : gathering.owners ≡ []
   pub ends : AreReserved fabric.links gathering.ends
   pub left : gathering.left ≡ fabric.parts
   pub room : IsRoomFor fabric nodes pumps gathering.room
 
--- there is as much room as there was
+-- there is at least as much room as before
 pub record KeepsRoom (old new : RoomValue) : Type 0 where
   pub stores : old.stores ≤ new.stores
+  pub waiting : old.waiting ≤ new.waiting
+  pub posts : old.posts ≤ new.posts
   pub receipts : old.receipts ≤ new.receipts
   pub owners : old.owners ≤ new.owners
   pub links : old.links ≤ new.links
@@ -68,7 +83,7 @@ pub record AddsReceipts (old : GatheringValue) (receipts : List ReceiptValue) (n
   pub is : new ≡ record old { receipts = old.receipts ++ receipts; room = new.room }
   pub room : KeepsRoom old.room new.room
 
--- a node has an end for each partition, each of one of this many links, no two of one link
+-- a node has an end for each partition, each of one of `links` links, and no two of the same link
 pub record IsAddable (links : ℕ) (node : NodeState) : Type 0 where
   pub all_sends : length node.sends ≡ node.core.plan.parts
   pub all_recvs : length node.recvs ≡ node.core.plan.parts
@@ -80,12 +95,21 @@ pub record IsAddable (links : ℕ) (node : NodeState) : Type 0 where
 -- there is room for what these nodes left
 pub record HasRoomFor (gathering : GatheringValue) (nodes : List NodeState) : Type 0 where
   pub stores : length gathering.stores + length nodes ≤ gathering.room.stores
+  pub waiting : length gathering.waiting + length nodes ≤ gathering.room.waiting
+  pub posts : gathering.posts + length nodes ≤ gathering.room.posts
   pub receipts : length gathering.receipts + sum_by (λ node. length node.receipts) nodes ≤ gathering.room.receipts
   pub owners : length gathering.owners + length nodes ≤ gathering.room.owners
 
+-- the invariant of a node's partition
+abbrev pub KeepsCore : NodeState → Type 0
+KeepsCore node = (arrivals : List Arrival) × IsCore node.core arrivals
+
 -- what a node left is added
 pub record AddsNode (old : GatheringValue) (node : NodeState) (new : GatheringValue) : Type 0 where
+  pub kept : KeepsCore node
   pub stores : new.stores ≡ old.stores ++ node.core.store ∷ []
+  pub waiting : new.waiting ≡ old.waiting ++ node.core.waiting ∷ []
+  pub posts : new.posts ≡ old.posts + 1
   pub receipts : new.receipts ≡ old.receipts ++ node.receipts
   pub owners : new.owners ≡ old.owners ++ node.seats ∷ []
   pub between : List LinkEndsValue
@@ -99,8 +123,9 @@ abbrev pub AddsNodes : GatheringValue → List NodeState → GatheringValue → 
 AddsNodes old [] new = new ≡ old
 AddsNodes old (node ∷ nodes) new = (between : GatheringValue) × AddsNode old node between × AddsNodes between nodes new
 
--- these trees and links can be closed: the trees' first seats await the owners' seats, each link has both of its ends,
--- and there is room for all
+-- these trees and links can be closed: the trees' first seats await the owners' seats, each link
+-- has both of its ends, there is room for everything, and each partition where jobs waited has a
+-- list of jobs
 pub record IsClosable (trees : List TableId) (first : List SeatValue) (links : List LinkValue) (gathering : GatheringValue) : Type 0 where
   pub first_seats : AreSeatsOf trees first
   pub opened : AreFirst first
@@ -109,3 +134,4 @@ pub record IsClosable (trees : List TableId) (first : List SeatValue) (links : L
   pub tree_room : gathering.room.trees ≡ length trees
   pub ends : HaveBothEnds links gathering.ends
   pub link_room : length links ≤ gathering.room.links
+  pub waiting : length gathering.waiting ≤ gathering.left

@@ -1,6 +1,7 @@
 pub mod Ends
 pub mod Gathered
 pub mod GatheringValue
+pub mod Left
 pub mod LinkEnds
 pub mod Links
 pub mod Reopened

@@ -4,8 +4,9 @@ use Rattle.sq_chunk.specs.declared.chunk.Note.{Note}
 use Rattle.sq_chunk.specs.ChunkValue.{ChunkValue}
 use Rattle.sq_link.specs.Values.{PassValue}
 
--- at the source, the sending end, the notes of all chunks that were cut and the one that isn't sent;
--- at the destination, the receiving end and the chunk that isn't loaded; and for how many chunks there is room
+-- of the source: the sending end, the notes of all chunks that were cut and the chunk that isn't
+-- sent; of the destination: the receiving end and the chunk that isn't loaded; and the room for
+-- chunks
 pub record LinkEndsValue : Type 0 where
   pub sender : Option PassValue
   pub notes : List Note

@@ -1,15 +1,15 @@
--- Links that are closed.
+-- Closed links.
 use Rattle.std.specs.Prelude.{◌≡◌, ℕ, ◌+◌, ◌≤◌, List, [], ◌++◌, length, slice_get, Some, None, option_to_list}
 use Rattle.sq_chunk.specs.ChunkValue.{ChunkValue}
 use Rattle.sq_link.specs.Values.{LinkValue, PassValue}
 use Rattle.sq_node_model.specs.Gathered.{GatheredLink}
 use Rattle.sq_gather.specs.LinkEnds.{LinkEndsValue}
 
--- room for this many chunks, with no end yet
+-- room for `room` chunks, with neither end set
 abbrev pub no_ends : ℕ → LinkEndsValue
 no_ends room = record { sender = None; notes = []; outbox = None; receiver = None; inbox = None; room = room }
 
--- both ends are there and are those of the link, and there is room for all that can be under way on it
+-- both ends are set and belong to the link, and there is room for all that can be under way on it
 pub record HasBothEnds (link : LinkValue) (ends : LinkEndsValue) : Type 0 where
   pub sender : PassValue
   pub sends : ends.sender ≡ Some sender
@@ -19,8 +19,8 @@ pub record HasBothEnds (link : LinkValue) (ends : LinkEndsValue) : Type 0 where
   pub receives_on : receiver.queue ≡ link.queue
   pub room : link.capacity + 2 ≤ ends.room
 
--- the link is closed: what was sent is what was received and what the queue held,
--- and under way is what is in the inbox, the queue and the outbox
+-- the link is closed: what was sent is what was received, followed by what the queue held; under
+-- way are the chunks in the inbox, the queue and the outbox
 pub record IsClosed (link : LinkValue) (ends : LinkEndsValue) (closed : GatheredLink) : Type 0 where
   pub src : closed.src ≡ link.src
   pub dst : closed.dst ≡ link.dst

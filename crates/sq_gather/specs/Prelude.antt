@@ -1,4 +1,5 @@
--- The words of the crates below that callers cite of what was gathered, passed on from one place. Declares nothing.
+-- Re-exports the definitions of lower crates that callers cite of what was gathered. It declares
+-- nothing.
 pub use Rattle.sq_chunk.specs.ChunkValue.{ChunkValue, are_within, covers}
 pub use Rattle.sq_chunk.specs.declared.chunk.Note.{Note}
 pub use Rattle.sq_model.specs.Links.{end_of_note, is_about, is_on_link}

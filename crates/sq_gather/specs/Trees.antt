@@ -1,4 +1,4 @@
--- Trees whose seats are joined into the ones that they were opened with, and which are then closed.
+-- Trees whose seats were joined into the first seats, and that were then closed.
 use Rattle.std.specs.Prelude.{◌≡◌, ℕ, ◌+◌, List, [], ◌∷◌, length, map, fold, slice_get, slice_index_or, Some}
 use Rattle.atomic_table.specs.Seated.{TableId}
 use Rattle.sq_tree.specs.declared.status.Status.{Status}
@@ -13,11 +13,12 @@ use Rattle.sq_node.specs.NodeState.{views_of}
 abbrev pub AllAreSeatsOf : List TableId → List (List SeatValue) → Type 0
 AllAreSeatsOf trees owners = (i : ℕ) (seats : List SeatValue) → slice_get owners i ≡ Some seats → AreSeatsOf trees seats
 
--- the first seats have given out just the seats that were taken back, and those of this many owners
+-- the first seats await exactly the seats of `count` owners: these were given out and not taken
+-- back
 abbrev pub AwaitOwners : ℕ → List SeatValue → Type 0
 AwaitOwners count seats = (seg : ℕ) (seat : SeatValue) → slice_get seats seg ≡ Some seat → seat.view.given ≡ seat.view.taken + count
 
--- the view of a first seat once the seats of a segment of these owners were joined into it, in their order
+-- the view of a first seat after the owners' seats of its segment were joined into it, in order
 abbrev pub view_with : View → List (List SeatValue) → ℕ → View
 view_with view owners seg = fold took view (map (λ seats. views_of seats seg) owners)
 
@@ -31,12 +32,13 @@ pub record AreJoined (old : List SeatValue) (owners : List (List SeatValue)) (ne
 abbrev pub AreWhole : List SeatValue → Type 0
 AreWhole seats = AwaitOwners 0 seats
 
--- for each seat there are the statuses of a tree that this seat alone is left of
+-- for each seat, the statuses of a tree of which only this seat is left
 pub record AreTreesOf (seats : List SeatValue) (statuses : List (List Status)) : Type 0 where
   pub count : length statuses ≡ length seats
   pub each : (seg : ℕ) (seat : SeatValue) → slice_get seats seg ≡ Some seat → IsTreeOf (slice_index_or statuses seg []) (seat.view ∷ [])
 
--- for each first seat there are the statuses of a tree that this seat alone is left of, with all that the owners' seats did
+-- for each first seat, the statuses of a tree of which only this seat is left, with all that the
+-- owners' seats did
 pub record AreClosed (first : List SeatValue) (owners : List (List SeatValue)) (statuses : List (List Status)) : Type 0 where
   pub count : length statuses ≡ length first
   pub each : (seg : ℕ) (seat : SeatValue) → slice_get first seg ≡ Some seat

@@ -1,4 +1,4 @@
-// The ends that a node had of links.
+// The ends of links that a node had.
 ghost use Rattle.std.specs.Prelude.{◌≡◌, length};
 ghost use Rattle.sq_gather.specs.Ends.{AreApart, AreAmong, HavePut, DestinationsPut, with_out_link, no_out_link};
 
@@ -7,7 +7,8 @@ use sq_chunk::Chunk;
 use sq_exec::OutLink;
 use sq_node::{LinkEnd, Receiver, Sender};
 
-// Puts each sending end of a node where its link is, with the partition's end of the link.
+// Puts each sending end of a node at the place of its link, with the partition's notes and outbox
+// for that link.
 pub(crate) fn put_sources(ends: &mut Vec<LinkEnds>, mut sends: Vec<Sender>, mut outs: Vec<OutLink>)
     requires outs { length outs.items ≡ length sends.items }
     requires among { AreAmong (length ends.old.items) sends.items }
@@ -27,7 +28,7 @@ pub(crate) fn put_sources(ends: &mut Vec<LinkEnds>, mut sends: Vec<Sender>, mut 
     }
 }
 
-// Puts each receiving end of a node where its link is, with the chunk that isn't loaded.
+// Puts each receiving end of a node at the place of its link, with the chunk that isn't loaded.
 pub(crate) fn put_destinations(
     ends: &mut Vec<LinkEnds>,
     mut recvs: Vec<Receiver>,

@@ -6,26 +6,27 @@ ghost use Rattle.sq_node_model.specs.Prelude.{GatheredValue};
 
 use crate::links::ClosedLink;
 use sq_node::Receipt;
-use sq_runs::RunStore;
 use sq_schema::Txn;
+use sq_slab::SlabStore;
 use sq_tree::{NODES, Status};
 use std::marker::Model;
 
-/// What a run left, once its threads are done. To a contract it is a `GatheredValue`.
+/// What a run left, after its threads are done. To a contract it is a `GatheredValue`.
 #[derive(Debug, Drop)]
 pub struct Gathered {
     /// The stage that ran.
     pub stage: u64,
-    /// For each partition its families.
-    pub stores: Vec<RunStore>,
+    /// The families of each partition.
+    pub stores: Vec<SlabStore>,
     /// The links, by source and then by destination.
     pub links: Vec<ClosedLink>,
-    /// For each segment the statuses of its tree's nodes, from node 1 on.
+    /// The statuses of the nodes of each segment's tree, from node 1 on.
     pub statuses: Vec<[Status; NODES]>,
-    /// The receipts, partition by partition, each partition's in the order in which they were written.
+    /// The receipts of earlier stages, then those of each partition, in the order in which they
+    /// were written.
     pub receipts: Vec<Receipt>,
-    /// For each partition the jobs that weren't answered: those that waited there, those that were pending for it, and those
-    /// in its queue.
+    /// The unanswered jobs of each partition: first those that waited there, in their order, then
+    /// those that were pending for it, then those in its queue.
     pub left: Vec<Vec<Txn>>,
 }
 

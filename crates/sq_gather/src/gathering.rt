@@ -1,33 +1,39 @@
-// What is gathered of a run, node by node.
-ghost use Rattle.std.specs.Prelude.{◌≡◌, ℕ, ◌+◌, ◌<◌, ◌≤◌, ◌∷◌, [], ◌++◌, length, map, sum_by, slice_get, Some, IfOk, IfSome};
+// Gathering a run, node by node.
+ghost use Rattle.std.specs.Prelude.{◌≡◌, ℕ, ◌+◌, ◌<◌, ◌≤◌, ◌∷◌, [], ◌++◌, length, map, sum_by, slice_get, Some, IfOk, IfSome, OnOk};
+ghost use Rattle.sq_ranges.specs.Prelude.{IsRecon};
 ghost use Rattle.sq_node.specs.Prelude.{NodeState};
 ghost use Rattle.sq_gather.specs.Links.{AreClosed as AreClosedLinks};
 ghost use Rattle.sq_gather.specs.Trees.{AreClosed as AreClosedTrees};
 ghost use Rattle.sq_gather.specs.GatheringValue.{IsAddable, HasRoomFor, AreReserved, IsReserved, AddsReceipts, AddsNode, AddsNodes, IsClosable};
+ghost use Rattle.sq_gather.specs.Left.{BeginWithWaiting};
 
 use crate::ends::{put_destinations, put_sources};
 use crate::gathered::Gathered;
-use crate::left::{add_posts, add_queued, add_waiting, reserve_left};
+use crate::left::{fill, reserve_left};
 use crate::link_ends::LinkEnds;
 use crate::links::{ClosedLink, close_links};
 use crate::trees::close_trees;
 use crossbeam_queue::ArrayQueue;
 use sq_exec::CoreParts;
 use sq_link::SharedLink;
-use sq_node::{Fabric, Node, NodeParts, Receipt};
+use sq_node::{Fabric, Node, NodeParts, Post, Receipt};
 use sq_pull::Pump;
-use sq_runs::RunStore;
 use sq_schema::Txn;
+use sq_slab::SlabStore;
 use sq_status::{StatusTree, TreeSeat};
 use sq_tree::{NODES, Status};
+use sq_waiting::Waiting;
 use std::alloc::{AllocError, Global};
+use std::collections::VecDeque;
 use std::marker::Model;
 use std::sync::Wait;
 
-// What is gathered so far, with the room for the rest. To a contract it is a `GatheringValue`.
+// What is gathered so far, with room for the rest. To a contract it is a `GatheringValue`.
 #[derive(Drop)]
 pub(crate) struct Gathering {
-    stores: Vec<RunStore>,
+    stores: Vec<SlabStore>,
+    waiting: Vec<Waiting>,
+    posts: Vec<VecDeque<Post>>,
     receipts: Vec<Receipt>,
     owners: Vec<Vec<TreeSeat>>,
     ends: Vec<LinkEnds>,
@@ -40,7 +46,9 @@ impl Model for Gathering {
     ghost use Rattle.std.specs.Prelude.{◌≡◌, map, length, vec_len, vec_capacity};
     ghost use Rattle.std.specs.Coded.{codes};
     ghost use Rattle.sq_store.specs.Prelude.{store_coded};
+    ghost use Rattle.sq_waiting.specs.Waiting.{txns_of};
     ghost use Rattle.sq_gather.specs.GatheringValue.{GatheringValue};
+    ghost use Rattle.sq_gather.specs.Left.{AreRooms};
 
     ghost Value = { GatheringValue };
 
@@ -48,12 +56,16 @@ impl Model for Gathering {
 
     ghost view = { λ g. record {
       stores = g.stores.items;
+      waiting = map (λ one. txns_of one.arrivals) g.waiting.items;
+      posts = length g.posts.items;
       receipts = g.receipts.items;
       owners = map (λ owner. owner.items) g.owners.items;
       ends = g.ends.items;
       left = length g.left.items;
       room = record {
         stores = vec_capacity g.stores;
+        waiting = vec_capacity g.waiting;
+        posts = vec_capacity g.posts;
         receipts = vec_capacity g.receipts;
         owners = vec_capacity g.owners;
         links = vec_capacity g.links;
@@ -61,18 +73,22 @@ impl Model for Gathering {
       };
     } };
 
-    ghost invariant = { λ g. vec_len g.links ≡ 0 };
+    ghost invariant = { λ g. (vec_len g.links ≡ 0)
+        × AreRooms (length g.left.items)
+        (map (λ jobs. (jobs.items, vec_capacity jobs)) g.left.items) };
 }
 
 impl Gathering {
-    // Room for the receipts of earlier stages, and for all that these nodes and this many pumps left.
+    // Reserves room for the receipts of earlier stages, and for all that `nodes` and `pumps` pumps
+    // left.
     pub(crate) fn reserve(
         alloc: Global,
         fabric: &Fabric,
         nodes: &[Node],
         pumps: usize,
     ) -> Result<Gathering, AllocError>
-        ensures { IfOk result (IsReserved [] fabric.now nodes.now pumps) }
+        ensures reserved { IfOk result (IsReserved [] fabric.now nodes.now pumps) }
+        ensures recon { OnOk result (IsRecon fabric.now.recon) }
     {
         let past = fabric.receipts().len();
         let receipts = count_receipts(past, nodes).ok_or(AllocError)?;
@@ -80,6 +96,8 @@ impl Gathering {
         let trees = fabric.recon().segments().len();
         Ok(Gathering {
             stores: Vec::with_capacity(alloc, nodes.len())?,
+            waiting: Vec::with_capacity(alloc, nodes.len())?,
+            posts: Vec::with_capacity(alloc, nodes.len())?,
             receipts: Vec::with_capacity(alloc, receipts)?,
             owners: Vec::with_capacity(alloc, owners)?,
             ends: reserve_ends(alloc, fabric.links())?,
@@ -89,7 +107,7 @@ impl Gathering {
         })
     }
 
-    // Adds receipts of earlier stages.
+    // Adds the receipts of earlier stages.
     pub(crate) fn add_receipts(&mut self, mut receipts: Vec<Receipt>)
         requires { length self.old.receipts + length receipts.items ≤ self.old.room.receipts }
         ensures { AddsReceipts self.old receipts.items self.new }
@@ -111,9 +129,10 @@ impl Gathering {
         }
     }
 
-    // Adds what a node left.
     fn add_node(&mut self, node: Node)
         requires stores { length self.old.stores < self.old.room.stores }
+        requires waiting { length self.old.waiting < self.old.room.waiting }
+        requires posts { self.old.posts < self.old.room.posts }
         requires receipts { length self.old.receipts + length node.receipts
             ≤ self.old.room.receipts }
         requires owners { length self.old.owners < self.old.room.owners }
@@ -121,7 +140,6 @@ impl Gathering {
         ensures { AddsNode self.old node self.new }
     {
         let NodeParts {
-            part,
             core,
             seats,
             sends,
@@ -137,20 +155,14 @@ impl Gathering {
             outs,
         } = core;
         self.stores.push_reserved(store);
+        self.waiting.push_reserved(waiting);
+        self.posts.push_reserved(posts);
         let Ok(()) = self.receipts.append(&mut receipts) else {
             unreachable!()
         };
         self.owners.push_reserved(seats);
         put_sources(&mut self.ends, sends, outs);
         put_destinations(&mut self.ends, recvs, inboxes);
-        add_waiting(&mut self.left, part, waiting);
-        add_posts(&mut self.left, posts);
-    }
-
-    pub(crate) fn add_jobs<R: Wait>(&mut self, rt: &R, queues: Vec<ArrayQueue<Txn>>)
-        ensures { self.new ≡ self.old }
-    {
-        add_queued(rt, &mut self.left, queues);
     }
 
     // Adds the seats of the pumps.
@@ -175,7 +187,7 @@ impl Gathering {
         self.owners.push_reserved(seats);
     }
 
-    // Closes the trees and the links.
+    // Closes the trees and the links, and adds the unanswered jobs.
     pub(crate) fn close<R: Wait>(
         self,
         rt: &R,
@@ -183,6 +195,7 @@ impl Gathering {
         trees: Vec<StatusTree>,
         first: Vec<TreeSeat>,
         links: Vec<SharedLink>,
+        jobs: Vec<ArrayQueue<Box<Txn>>>,
     ) -> Gathered
         requires { IsClosable trees.items first.items links.items self }
         ensures stage { result.stage ≡ stage }
@@ -191,19 +204,22 @@ impl Gathering {
         ensures links { AreClosedLinks links.items self.ends result.links }
         ensures statuses { AreClosedTrees first.items self.owners result.statuses }
         ensures left { length result.left ≡ self.left }
+        ensures waiting { BeginWithWaiting self.waiting result.left }
     {
+        let left = fill(rt, self.left, self.waiting, self.posts, jobs);
         Gathered {
             stage,
             stores: self.stores,
             receipts: self.receipts,
             links: close_links(rt, links, self.ends, self.links),
             statuses: close_trees(trees, first, self.owners, self.statuses),
-            left: self.left,
+            left,
         }
     }
 }
 
-// How many receipts the nodes have together with so many of earlier stages.
+// Returns how many receipts there are: `past` of earlier stages and those of `nodes`. Returns
+// `None` if the count overflows.
 fn count_receipts(past: usize, nodes: &[Node]) -> Option<usize>
     ensures { IfSome result (λ count. count
         ≡ past + sum_by (λ node. length node.receipts) nodes.now) }
@@ -215,7 +231,7 @@ fn count_receipts(past: usize, nodes: &[Node]) -> Option<usize>
     Some(count)
 }
 
-// Room for what is under way on each link.
+// Reserves room for what is under way on each link.
 fn reserve_ends(alloc: Global, links: &[SharedLink]) -> Result<Vec<LinkEnds>, AllocError>
     ensures { IfOk result (λ ends. AreReserved links.now ends.items) }
 {

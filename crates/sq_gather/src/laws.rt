@@ -1,4 +1,4 @@
-// Runs, and what can be gathered.
+// Laws of runs, and of what can be gathered.
 ghost use Rattle.std.specs.Prelude.{ℕ, List};
 ghost use Rattle.sq_ranges.specs.Prelude.{OpeningValue};
 ghost use Rattle.sq_pull.specs.Seats.{AreSeatsOf, OnlyClaimed};
@@ -16,15 +16,16 @@ pub fn a_run_begins()
         → IsRunInStage o (first_began o) fabric nodes pumps }
 {}
 
-/// A run stays one where each of its nodes and of its pumps stays one of it, and what a node keeps holds still.
+/// A run stays a run if each of its nodes and pumps still belongs to it, and the invariant of nodes
+/// still holds.
 pub fn a_run_goes_on()
     ensures { (fabric : FabricValue) (old new : List NodeState) (before after : List PumpValue)
         → AllStay fabric old new → AllPumpsStay fabric before after
         → StaysInStage fabric old before new after }
 {}
 
-/// A run can be gathered: its nodes and pumps are all of it, and what is gathered is placed and continues what its
-/// stage began with.
+/// A run can be gathered: its nodes and pumps are all that it has, and what is gathered is placed
+/// and continues what its stage began with.
 pub fn a_run_can_be_gathered()
     ensures all { (o : OpeningValue) (began : BeganWith) (fabric : FabricValue)
         (nodes : List NodeState) (pumps : List PumpValue)
@@ -34,7 +35,7 @@ pub fn a_run_can_be_gathered()
         → IsRunInStage o began fabric nodes pumps → HoldsInStage o began fabric nodes }
 {}
 
-/// A pump that turned is one of the run still, whose seats began and completed nothing.
+/// A pump that took turns still belongs to the run, and its seats began and completed nothing.
 pub fn a_pump_stays_a_pump()
     ensures { (fabric : FabricValue) (old new : PumpValue) → IsPumpOf fabric old
         → AreSeatsOf fabric.trees new.seats

@@ -1,4 +1,5 @@
-//! Gathering: once the threads of a run are done, its trees and its links are closed, and what they left is put together.
+//! Gathering: after the threads of a run are done, its trees and its links are closed, and what
+//! they left is put together.
 #![tactic(auto)]
 
 mod ends;
@@ -22,8 +23,8 @@ pub use sq_chunk::{Chunk, Note};
 pub use sq_node::Receipt;
 pub use sq_plan::{PartId, Plan};
 pub use sq_ranges::{Config, Extent, Link, Opening, OpeningFault, Range, Recon, SegId};
-pub use sq_runs::RunStore;
 pub use sq_schema::{Family, Reply, Root, Rows, Schema, Table, Txn};
+pub use sq_slab::SlabStore;
 pub use sq_store::FamilyStore;
 pub use sq_tree::{NODES, NodeId, Status};
 pub use stage_done::reads_complete;

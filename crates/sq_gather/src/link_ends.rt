@@ -1,4 +1,4 @@
-// What the ends of a link left of it.
+// What the two ends of a link left.
 ghost use Rattle.std.specs.Prelude.{◌≡◌, ◌+◌, Some, IfOk};
 ghost use Rattle.sq_gather.specs.Links.{no_ends};
 
@@ -7,8 +7,8 @@ use sq_link::{RecvPass, SendPass, SharedLink};
 use std::alloc::{AllocError, Global};
 use std::marker::Model;
 
-/// What the nodes at the two ends of a link left of it, with room for all that is under way on it. To a contract it is a
-/// `LinkEndsValue`.
+/// What the nodes at the two ends of a link left of it, with room for all that is under way on it.
+/// To a contract it is a `LinkEndsValue`.
 #[derive(Drop)]
 pub struct LinkEnds {
     pub(crate) sender: Option<SendPass>,
@@ -38,7 +38,8 @@ impl Model for LinkEnds {
 }
 
 impl LinkEnds {
-    /// Room for what is under way on a link: what its queue holds, and a chunk at each end. Its ends aren't there yet.
+    /// Reserves room for what is under way on `link`: what its queue holds, and a chunk at each
+    /// end. Neither end is set yet.
     pub fn reserve(alloc: Global, link: &SharedLink) -> Result<LinkEnds, AllocError>
         ensures { IfOk result (λ ends. ends ≡ no_ends (link.now.capacity + 2)) }
     {
@@ -53,7 +54,8 @@ impl LinkEnds {
         })
     }
 
-    /// The source's end: its right to send, the notes of all chunks that it cut, and the one that it didn't send.
+    /// Sets the source's end: its right to send, the notes of all chunks that it cut, and the chunk
+    /// that it didn't send.
     pub fn put_source(&mut self, sender: SendPass, notes: Vec<Note>, outbox: Option<Chunk>)
         ensures { self.new ≡
             record self.old { sender = Some sender; notes = notes.items; outbox = outbox } }
@@ -63,7 +65,8 @@ impl LinkEnds {
         self.outbox = outbox;
     }
 
-    /// The destination's end: its right to receive, and the chunk that it received and didn't load.
+    /// Sets the destination's end: its right to receive, and the chunk that it received and didn't
+    /// load.
     pub fn put_destination(&mut self, receiver: RecvPass, inbox: Option<Chunk>)
         ensures { self.new ≡ record self.old { receiver = Some receiver; inbox = inbox } }
     {

@@ -32,7 +32,7 @@ impl Model for ClosedLink {
         record { src = l.src; dst = l.dst; notes = l.notes.items; under_way = l.under_way.items } };
 }
 
-/// Closes the links, each with what its ends left of it. The result is in the room that was brought.
+/// Closes each link, with what its ends left of it. The result is in `room`.
 pub fn close_links<R: Wait>(
     rt: &R,
     links: Vec<SharedLink>,
@@ -54,7 +54,7 @@ pub fn close_links<R: Wait>(
     room
 }
 
-/// Closes a link with what its ends left of it.
+/// Closes `link`, with what its ends left of it.
 pub fn close_link<R: Wait>(rt: &R, link: SharedLink, ends: LinkEnds) -> ClosedLink
     requires { HasBothEnds link ends }
     ensures { IsClosed link ends result }
@@ -85,7 +85,7 @@ pub fn close_link<R: Wait>(rt: &R, link: SharedLink, ends: LinkEnds) -> ClosedLi
     }
 }
 
-// Adds a chunk, if there is one.
+// Adds `chunk`, if there is one.
 fn put(chunks: &mut Vec<Chunk>, chunk: Option<Chunk>)
     requires { vec_len chunks.old < vec_capacity chunks.old }
     ensures items { chunks.new.items ≡ chunks.old.items ++ option_to_list chunk }

@@ -1,4 +1,4 @@
-// A run continues with what was gathered: in the next stage of a move, or in another move.
+// Continuing a run from what was gathered: in the next stage of a move, or in another move.
 ghost use Rattle.std.specs.Prelude.{◌≡◌, ◌+◌, ◌≤◌, length, IfOk, IfErr, OnOk};
 ghost use Rattle.sq_schema.specs.Prelude.{TableValue};
 ghost use Rattle.sq_pull.specs.declared.numbers.TheConstants.{MAX_PUMPS};
@@ -13,16 +13,16 @@ use sq_node::{Fabric, RunParts, Unresumed};
 use sq_ranges::Opening;
 use std::alloc::Global;
 
-// The stage in which a move begins.
+// The stage that a move begins with.
 const FIRST_STAGE: u64 = 0;
 
-/// Opens the stage after the one that this was gathered of: what a run shares in that stage, its nodes with the
-/// families and the jobs that were gathered, and this many pumps. The receipts so far go along. Where what was gathered
-/// is placed and its segments are complete, under this opening or one that differs from it in its rows alone, this is a
-/// run of that opening.
+/// Opens the stage after the one that `g` was gathered of: what a run shares in that stage, its
+/// nodes with the families and the jobs in `g`, and `pumps` pumps. It keeps the receipts in `g`. If
+/// `g` is placed and its segments are complete, under `opening` or one that differs only in its
+/// rows, this is a run of that opening.
 ///
-/// Where it doesn't have the families and the jobs of as many partitions, where there is no such stage, and where there
-/// is no memory, what was gathered comes back as it was.
+/// `g` is returned unchanged if it doesn't have the families and the jobs of as many partitions as
+/// `opening` has, if there is no further stage, or if memory runs out.
 pub fn reopen(
     alloc: Global,
     opening: &Opening,
@@ -47,12 +47,13 @@ pub fn reopen(
     Ok(opened)
 }
 
-/// Opens the first stage of another move, with what was gathered of the last stage of one: what a run shares in it, its nodes with
-/// the families and the jobs that were gathered, and this many pumps. The receipts so far go along. Where what was gathered is
-/// placed and its segments are complete, and `next`, or an opening that differs from it in its rows alone, is of a move that
-/// follows, this is a run of that opening.
+/// Opens the first stage of another move from `g`, which was gathered of the last stage of a move:
+/// what a run shares in it, its nodes with the families and the jobs in `g`, and `pumps` pumps. It
+/// keeps the receipts in `g`. If `g` is placed and its segments are complete, and `next`, or an
+/// opening that differs from it only in its rows, is of a move that follows, this is a run of that
+/// opening.
 ///
-/// Where `next` is of another number of partitions, and where there is no memory, what was gathered comes back as it was.
+/// `g` is returned unchanged if `next` has another number of partitions, or if memory runs out.
 pub fn move_on(alloc: Global, next: &Opening, g: Gathered, pumps: u32) -> Result<RunParts, Gathered>
     requires { pumps ≤ MAX_PUMPS }
     ensures reopened { IfOk result
@@ -69,8 +70,9 @@ pub fn move_on(alloc: Global, next: &Opening, g: Gathered, pumps: u32) -> Result
     Ok(opened)
 }
 
-// What a run shares in a stage of a move, its nodes with what was gathered, and this many pumps. Where that isn't of as many
-// partitions, where there is no such stage, and where there is no memory, what was gathered comes back.
+// Returns what a run shares in a stage of a move, its nodes with what `g` has, and `pumps` pumps.
+// `g` is returned unchanged if it has another number of partitions, if there is no such stage, or
+// if memory runs out.
 fn resume(
     alloc: Global,
     opening: &Opening,

@@ -10,10 +10,12 @@ use sq_node::{FabricParts, RunParts};
 use std::alloc::Global;
 use std::sync::Wait;
 
-/// Gathers what a run left, once its threads are done: all of its nodes, in the order of their partitions, and all of its
-/// pumps. Each tree and each link is closed, and what they left is put together, behind the receipts of earlier stages.
+/// Gathers what a run left, after its threads are done. `run` has all of its nodes and pumps, each
+/// once, in any order. Each tree and each link is closed, and what the nodes left is put together
+/// in the order of their partitions, after the receipts of earlier stages.
 ///
-/// All memory is taken first. Where there is none, what was handed in comes back as it was.
+/// All memory is allocated first. If it runs out, or if there is no node, `run` is returned
+/// unchanged.
 pub fn gather<R: Wait>(rt: &R, alloc: Global, run: RunParts) -> Result<Gathered, RunParts>
     requires { AreAllOf run.fabric run.nodes.items run.pumps.items }
     ensures gathered { IfOk result (IsGathered run.fabric run.nodes.items run.pumps.items) }
@@ -23,15 +25,19 @@ pub fn gather<R: Wait>(rt: &R, alloc: Global, run: RunParts) -> Result<Gathered,
         → IsOpening o → HoldsInStage o began run.fabric run.nodes.items → GoOn began g) }
     ensures returned { IfErr result (λ back. back ≡ run) }
 {
+    if run.nodes.is_empty() {
+        return Err(run);
+    }
     let Ok(mut gathering) = Gathering::reserve(alloc, &run.fabric, &run.nodes, run.pumps.len())
     else {
         return Err(run);
     };
     let RunParts {
         fabric,
-        nodes,
+        mut nodes,
         pumps,
     } = run;
+    nodes.sort_unstable_by_key(|node| node.part().number());
     let FabricParts {
         stage,
         trees,
@@ -43,7 +49,6 @@ pub fn gather<R: Wait>(rt: &R, alloc: Global, run: RunParts) -> Result<Gathered,
     } = fabric.into_parts();
     gathering.add_receipts(receipts);
     gathering.add_nodes(nodes);
-    gathering.add_jobs(rt, jobs);
     gathering.add_pumps(pumps);
-    Ok(gathering.close(rt, stage, trees, seats, links))
+    Ok(gathering.close(rt, stage, trees, seats, links, jobs))
 }

@@ -1,4 +1,4 @@
-// Whether the segments of the stage that was gathered are complete.
+// Whether the segments of the gathered stage are complete.
 ghost use Rattle.std.specs.Prelude.{◌≡◌, ◌≤◌, ◌*◌, ◌^◌, ℕ};
 ghost use Rattle.std.specs.Bool.{Decides};
 ghost use Rattle.sq_tree.specs.Prelude.{reading_within, is_complete_reading, status_at, IsGrown};
@@ -9,7 +9,7 @@ use sq_ranges::{Opening, SegId};
 use sq_tree::{NODES, NodeId, Status};
 
 impl Gathered {
-    /// Whether each segment of the stage that was gathered is complete.
+    /// Returns true if each segment of the gathered stage is complete.
     pub fn is_stage_done(&self, opening: &Opening) -> bool
         requires { AllGrown self.now.statuses }
         ensures { Decides result (IsStageDone opening.now self.now) }
@@ -26,7 +26,7 @@ impl Gathered {
         true
     }
 
-    // Whether a segment is complete. One without statuses isn't.
+    // Returns true if segment `seg` is complete. One without statuses isn't.
     fn is_whole(&self, seg: SegId) -> bool
         requires { AllGrown self.now.statuses }
         ensures { result ≡ is_complete_in self.now seg }
@@ -38,8 +38,8 @@ impl Gathered {
     }
 }
 
-/// Whether a live node reads complete, looked for at any depth that reaches the leaves: it is complete, or it is split and both
-/// of its halves read so.
+/// Returns true if the live node `node` reads complete: it is complete, or it is split and both of
+/// its halves read complete. The contract holds for any depth that reaches the leaves.
 pub fn reads_complete(statuses: &[Status; NODES], node: NodeId) -> bool
     requires { IsGrown (status_at statuses.now) }
     ensures { (depth : ℕ) → 32 ≤ node * 2 ^ depth

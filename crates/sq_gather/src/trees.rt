@@ -7,8 +7,9 @@ ghost use Rattle.sq_gather.specs.Trees.{AllAreSeatsOf, AwaitOwners, AreJoined, A
 use sq_status::{StatusTree, TreeSeat};
 use sq_tree::{NODES, Status};
 
-/// Closes the trees, once all other seats are joined into those that they were opened with. Each owner brings a seat of
-/// each tree. The result is the statuses of each tree's nodes, in the room that was brought.
+/// Closes the trees, after all other seats were joined into those that the trees were opened with.
+/// Each of `owners` brings a seat of each tree. The result, in `room`, is the statuses of each
+/// tree's nodes.
 pub fn close_trees(
     trees: Vec<StatusTree>,
     mut first: Vec<TreeSeat>,
@@ -54,7 +55,7 @@ fn join_seats(trees: &[StatusTree], first: &mut Vec<TreeSeat>, mut seats: Vec<Tr
     }
 }
 
-// Closes each tree with the seat that is left of it.
+// Closes each tree with the one seat that is left of it.
 fn close_each(
     mut trees: Vec<StatusTree>,
     mut seats: Vec<TreeSeat>,

@@ -1,4 +1,4 @@
--- The numbers of the faults of a live run, as a user sees them, and the lines that they belong to.
+-- The numbers of the faults of a live run, as a user sees them, and their lines.
 use Rattle.std.specs.Prelude.{ℕ, None}
 use Rattle.sq_schema.specs.Fault.{memory_number, txn_fault_number}
 use Rattle.sq_driver.specs.declared.attendance.WorkersEnd.{WorkersEnd}
@@ -31,12 +31,12 @@ live_fault_number Threads = memory_number
 abbrev pub out_of_memory : LiveFault
 out_of_memory = Input (located input.Memory None)
 
--- the fault of the line with this number; want of memory has no line
+-- `fault` at the line of number `line`; a lack of memory has no line
 abbrev pub fault_at : ℕ → JobFault → LiveFault
 fault_at line Memory = out_of_memory
 fault_at line fault = Job (record { fault = fault; line = line })
 
--- why a stage has no outcome whose workers ended so
+-- why a stage whose workers ended like this has no outcome
 abbrev pub run_fault : WorkersEnd → RunFault
 run_fault Done = run.Memory
 run_fault LacksThreads = run.Threads

@@ -21,17 +21,18 @@ use Rattle.sq_live.specs.declared.fault.LiveFault.TheVariants.{Input}
 use Rattle.sq_live.specs.Faults.{fault_at, out_of_memory}
 use Rattle.sq_live.specs.Jobs.{has_id}
 
--- the transaction is a job behind these of as many partitions, unless it has the id of one of them, or goes to no partition
+-- the job of `txn` for partition `part`, unless there is no such partition or one of `jobs` has its
+-- id
 abbrev pub fresh_job : ℕ → List Job → ℕ → TxnValue → Result Job JobFault
 fresh_job parts jobs part txn =
     if nat_lt part parts then (if has_id txn.id jobs then Err RepeatedId else Ok (record { part = part; txn = txn }))
     else Err NoSuchPartition
 
--- the finding on a transaction, unless there are as many jobs as there may be
+-- the result `told`, unless there are already MAX_JOBS jobs
 abbrev pub if_room : List Job → Result Job JobFault → Result Job JobFault
 if_room jobs told = if length jobs == MAX_JOBS then Err TooMany else told
 
--- the job behind these that a line spells, by the step that it spells
+-- the job after `jobs` that a line spells, by the step that it spells
 abbrev pub job_by : ℕ → List Job → Result Step LineFault → Result Job JobFault
 job_by parts jobs (Ok (Submit part txn)) = if_room jobs (fresh_job parts jobs part txn)
 job_by parts jobs (Ok step) = Err NotAJob
@@ -40,16 +41,17 @@ job_by parts jobs (Err line.TooLong) = Err LineTooLong
 job_by parts jobs (Err (line.Txn fault)) = if_room jobs (Err (Txn fault))
 job_by parts jobs (Err line.Memory) = Err Memory
 
--- the job behind these that a line spells, for a schema with this many tables and for this many partitions
+-- the job after `jobs` that a line spells, for a schema of `tables` tables and for `parts`
+-- partitions
 abbrev pub job_of : ℕ → ℕ → List Job → List ℕ → Result Job JobFault
 job_of tables parts jobs line = job_by parts jobs (step_of tables line)
 
--- the jobs of lines, behind these and the one that the line of this number spells, or the fault of that line
+-- the jobs of the lines after `jobs` and the job of line `number`, or the fault of that line
 abbrev pub jobs_then : ℕ → List Job → Result Job JobFault → (List Job → Result (List Job) LiveFault) → Result (List Job) LiveFault
 jobs_then number jobs (Ok job) others = others (jobs ++ job ∷ [])
 jobs_then number jobs (Err fault) others = Err (fault_at number fault)
 
--- the jobs that pieces spell, behind these, or the first fault
+-- the jobs that pieces spell, after `jobs`, or the first fault
 abbrev pub jobs_in : ℕ → ℕ → List Job → List PieceValue → Result (List Job) LiveFault
 jobs_in tables parts jobs [] = Ok jobs
 jobs_in tables parts jobs (Line number bytes ∷ pieces) =
@@ -59,7 +61,8 @@ jobs_in tables parts jobs (Failed number bytes ∷ pieces) = Err (Input (located
 jobs_in tables parts jobs (Endless number bytes ∷ pieces) = Err (Input (located input.TooLong (Some (Later number))))
 jobs_in tables parts jobs (TooManyLines ∷ pieces) = Err (Input (located input.TooLong (Some (Later (MAX_LINES + 1)))))
 
--- the transaction gave one job more, or the fault that it has, unless memory ran out, and then the jobs stay as they were
+-- the transaction was added as a job or has the fault; if memory ran out or there is a fault, the
+-- jobs are unchanged
 abbrev pub AddsFresh : ℕ → List Job → ℕ → TxnValue → Result Unit JobFault → List Job → Type 0
 AddsFresh parts old part txn (Ok done) new =
     (if_room old (fresh_job parts old part txn) ≡ Ok (record { part = part; txn = txn }))
@@ -67,17 +70,18 @@ AddsFresh parts old part txn (Ok done) new =
 AddsFresh parts old part txn (Err Memory) new = new ≡ old
 AddsFresh parts old part txn (Err fault) new = (if_room old (fresh_job parts old part txn) ≡ Err fault) × (new ≡ old)
 
--- the line gave one job more, or the fault that it has, unless memory ran out, and then the jobs stay as they were
+-- the job of the line was added or the line has the fault; if memory ran out or there is a fault,
+-- the jobs are unchanged
 abbrev pub AddsJob : ℕ → ℕ → List Job → List ℕ → Result Unit JobFault → List Job → Type 0
 AddsJob tables parts old line (Ok done) new = (job : Job) × (job_of tables parts old line ≡ Ok job) × (new ≡ old ++ job ∷ [])
 AddsJob tables parts old line (Err Memory) new = new ≡ old
 AddsJob tables parts old line (Err fault) new = (job_of tables parts old line ≡ Err fault) × (new ≡ old)
 
--- these are the jobs that the pieces of a reader of lines spell
+-- the jobs that the pieces of a reader of lines spell
 abbrev pub AreJobs : ℕ → ℕ → LinesValue → List Job → Type 0
 AreJobs tables parts lines jobs = (pieces : List PieceValue) × CanCome lines pieces × (jobs_in tables parts [] pieces ≡ Ok jobs)
 
--- this is the first fault of the pieces of a reader of lines, unless memory ran out
+-- the first fault of the pieces of a reader of lines, unless memory ran out
 abbrev pub IsFirstFault : ℕ → ℕ → LinesValue → LiveFault → Type 0
 IsFirstFault tables parts lines fault =
     (pieces : List PieceValue) × CanCome lines pieces × (fault ≢ out_of_memory → jobs_in tables parts [] pieces ≡ Err fault)

@@ -11,12 +11,12 @@ use Rattle.sq_live.specs.declared.job_list.TheConstants.{MAX_JOBS}
 abbrev pub has_id : ℕ → List Job → Bool
 has_id id jobs = list_any (λ job. job.txn.id == id) jobs
 
--- these are the ids of the jobs, which all differ, and there are not too many
+-- `ids` are the ids of the jobs, which all differ, and there are at most MAX_JOBS jobs
 pub record HasIds (jobs : List Job) (ids : BTreeSet ℕ) : Type 0 where
   pub differ : IdsDiffer jobs
   pub each : (id : ℕ) → contains nat_cmp ids id ≡ has_id id jobs
   pub few : length jobs ≤ MAX_JOBS
 
--- each job is posted to one of this many partitions
+-- each job is posted to one of `parts` partitions
 abbrev pub HavePartitions : ℕ → List Job → Type 0
 HavePartitions parts jobs = All (λ job. job.part < parts) jobs

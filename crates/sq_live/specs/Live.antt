@@ -25,7 +25,7 @@ use Rattle.sq_live.specs.Outcome.{outcome_line, outcome_status, CameTo}
 use Rattle.sq_run.specs.StageRunValue.{RanFrom}
 use Rattle.sq_live.specs.Stages.{HavePassed}
 
--- the pieces spell a header with this opening, and then these jobs of its partitions
+-- the pieces spell a header with the opening `o`, and then `jobs` for its partitions
 pub record SpellJobs (tables : ℕ) (given : List PieceValue) (o : OpeningValue) (jobs : List Job) : Type 0 where
   pub left : List PieceValue
   pub opens : Opens tables (Ok o) left (header_of tables given)
@@ -38,26 +38,28 @@ pub record HasHeaderFault (tables : ℕ) (given : List PieceValue) (fault : Live
   pub left : List PieceValue
   pub opens : Opens tables (Err located) left (header_of tables given)
 
--- the jobs behind the header have this fault, unless memory ran out
+-- the jobs after the header have this fault, unless memory ran out
 pub record HasJobFault (tables : ℕ) (given : List PieceValue) (fault : LiveFault) : Type 0 where
   pub opening : OpeningValue
   pub left : List PieceValue
   pub opens : Opens tables (Ok opening) left (header_of tables given)
   pub first : fault ≢ out_of_memory → jobs_in tables opening.old.parts [] left ≡ Err fault
 
--- the pieces spell no jobs, for this fault, which is their first, or memory ran out
+-- the pieces spell no jobs because of this fault, which is their first, unless memory ran out
 abbrev pub HaveFault : ℕ → List PieceValue → LiveFault → Type 0
 HaveFault tables given fault = HasHeaderFault tables given fault ⊎ HasJobFault tables given fault
 
--- the pieces spell jobs, but the system granted fewer threads than their run has partitions
+-- the pieces spell jobs, but the system granted fewer threads than their run has partitions, or no
+-- memory for one
 pub record HaveTooFewThreads (tables : ℕ) (given : List PieceValue) (fault : LiveFault) : Type 0 where
   pub is : fault ≡ Threads
   pub opening : OpeningValue
   pub jobs : List Job
   pub spelled : SpellJobs tables given opening jobs
 
--- jobs were run from an opening, stage by stage, with or without folds between them. Whatever the threads did, what
--- each stage left is placed and continues what it began with, and this is the outcome of the last one
+-- jobs were run from an opening, stage by stage, with or without folds between the stages. Whatever
+-- the threads did, what each stage left is placed and continues what it began with, and `outcome`
+-- is that of the last stage
 pub record WereRun (folds : Bool) (o : OpeningValue) (jobs : List Job) (outcome : LiveOutcome) : Type 0 where
   pub set_up : IsOpening o
   pub differ : IdsDiffer jobs
@@ -70,7 +72,8 @@ pub record WereRun (folds : Bool) (o : OpeningValue) (jobs : List Job) (outcome 
   pub ran : RanFrom account.opening began gathered
   pub came : CameTo folds account gathered outcome
 
--- the jobs that the pieces spell were run with this outcome, or the pieces have this fault, or a run of their jobs lacked threads
+-- the jobs that the pieces spell were run with this outcome, or the pieces have this fault, or a
+-- run of their jobs lacked threads
 abbrev pub EndsLive : Bool → ℕ → List PieceValue → LiveEnding → Type 0
 EndsLive folds tables given (Done outcome) =
     (o : OpeningValue) × (jobs : List Job) × SpellJobs tables given o jobs × WereRun folds o jobs outcome
@@ -81,16 +84,17 @@ abbrev pub ending_line : LiveEnding → List ℕ
 ending_line (Done outcome) = outcome_line outcome
 ending_line (Fault fault) = fault_line (live_fault_number fault)
 
--- what a reader gives ends so, with or without folds between stages, and the line of that goes to the end of what a writer holds
+-- what a reader gives ends with `ending`, with or without folds between stages, and the ending's
+-- line is appended to what a writer holds
 abbrev pub RunsLive : Bool → ℕ → Option (List ℕ) → Option (List ℕ) → Option (List ℕ) → LiveEnding → Type 0
 RunsLive folds tables known before now ending =
     (given : List PieceValue) × IsGiven known given × EndsLive folds tables given ending × Appends before now (ending_line ending)
 
--- pieces that a reader of lines may give spell these jobs
+-- pieces that a reader of lines may return spell these jobs
 abbrev pub ComesToSpell : ℕ → LinesValue → OpeningValue → List Job → Type 0
 ComesToSpell tables lines o jobs = (given : List PieceValue) × CanCome lines given × SpellJobs tables given o jobs
 
--- pieces that a reader of lines may give have this fault
+-- pieces that a reader of lines may return have this fault
 abbrev pub ComesToFail : ℕ → LinesValue → LiveFault → Type 0
 ComesToFail tables lines fault = (given : List PieceValue) × CanCome lines given × HaveFault tables given fault
 

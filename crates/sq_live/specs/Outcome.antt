@@ -1,4 +1,5 @@
--- The outcomes of live runs, by what was gathered of their last stage and what is counted of those before.
+-- The outcomes of live runs, by what was gathered of their last stage and the counts over the
+-- stages before.
 use Rattle.std.specs.Prelude.{◌≡◌, ◌⊎◌, ℕ, ◌+◌, ◌^◌, ◌<◌, ◌||◌, Bool, true, nat_lt, List, [], ◌∷◌, length, sum_by, count_by, codes, decimal}
 use Rattle.std.specs.List.{range_with_len}
 use Rattle.std.specs.FinMap.{len}
@@ -37,8 +38,8 @@ outcome_status (Unsound defect) = 4
 abbrev pub answered_count : List ReceiptValue → List Job → ℕ
 answered_count receipts jobs = length (answered_jobs receipts jobs)
 
--- the segment of this number is complete: it moved in an earlier stage than the one that was gathered, or its node 1
--- reads complete; a segment without gathered statuses doesn't
+-- segment `seg` is complete: it moved in a stage before the gathered one, or its node 1 reads
+-- complete; a segment without gathered statuses doesn't
 abbrev pub segment_has_moved : OpeningValue → GatheredValue → ℕ → Bool
 segment_has_moved o g seg = nat_lt (stage_at o.recon seg) g.stage || is_complete_in g seg
 
@@ -50,7 +51,7 @@ moved_count o g = count_by (segment_has_moved o g) (range_with_len 0 (length o.r
 abbrev pub commit_count : List ReceiptValue → ℕ
 commit_count receipts = count_by (λ receipt. is_commit receipt.reply) receipts
 
--- how many families all stores have
+-- how many families all stores have together
 abbrev pub stored_count : GatheredValue → ℕ
 stored_count g = sum_by (λ store. len store) g.stores
 
@@ -58,18 +59,19 @@ stored_count g = sum_by (λ store. len store) g.stores
 pub record IsDone (account : AccountValue) (g : GatheredValue) : Type 0 where
   pub answered : answered_count g.receipts account.jobs ≡ length account.jobs
   pub moved : moved_count account.opening g ≡ length account.opening.recon.segments
-  -- the leader as it was in the end
+  -- the leader at the end
   pub leader : StageValue
   pub ended : HasEnded account.opening g.stage (is_complete_in g) leader
 
--- why a run stopped: a segment of the stage isn't complete, or after the last stage a job isn't answered
+-- why a run stopped: a segment of the stage isn't complete, or after the last stage a job isn't
+-- answered
 abbrev pub WhyStopped : AccountValue → GatheredValue → Type 0
 WhyStopped account g =
     (IsStageDone account.opening g → ⊥)
     ⊎ ((g.stage + 1 ≡ stages account.opening.recon) × (answered_count g.receipts account.jobs < length account.jobs))
 
--- the run stopped: of all jobs so many are answered, in logs that were folded or with a receipt now,
--- and of all segments so many are complete
+-- the run stopped: `answered` of the `posted` jobs have an answer, in the folded logs or in a
+-- receipt now, and `complete` of the `segments` segments are complete
 pub record HasStopped (account : AccountValue) (g : GatheredValue) (answered posted complete segments : ℕ) : Type 0 where
   pub answered_is : answered ≡ account.answered + answered_count g.receipts account.jobs
   pub posted_is : posted ≡ account.answered + length account.jobs
@@ -78,21 +80,24 @@ pub record HasStopped (account : AccountValue) (g : GatheredValue) (answered pos
   pub why : WhyStopped account g
   pub missing : (answered < posted) ⊎ (complete < segments)
 
--- a run is sound, has so many families now, and so many receipts of commits, in logs that were folded or now
+-- a run is sound, has `families` families now, and `committed` receipts of commits, in the folded
+-- logs or now
 pub record IsFoundSound (account : AccountValue) (g : GatheredValue) (families committed : ℕ) : Type 0 where
   pub is_done : IsDone account g
   pub sound : IsSoundRun account.opening g account.jobs
   pub families_are : stored_count g < 2 ^ 64 → families ≡ stored_count g
   pub committed_are : committed ≡ account.committed + commit_count g.receipts
 
--- an audit found this defect first: the fold's between two stages, or the one of all jobs in the end
+-- an audit found this defect first: the audit before a fold between two stages, or the one of all
+-- jobs at the end
 abbrev pub IsFoundUnsound : Bool → AccountValue → GatheredValue → Defect → Type 0
 IsFoundUnsound folds account g defect =
     ((folds ≡ true) × (leader : StageValue) × HasGoneOn account.opening g.stage (is_complete_in g) leader
     × IsFirstDefect account.opening g (answered_jobs g.receipts account.jobs) defect)
     ⊎ (IsDone account g × IsFirstDefect account.opening g account.jobs defect)
 
--- this is the outcome of a run whose last stage left this; the logs are folded between stages, or not
+-- the outcome of a run whose last stage left `g`; `folds` says whether logs are folded between
+-- stages
 abbrev pub CameTo : Bool → AccountValue → GatheredValue → LiveOutcome → Type 0
 CameTo folds account g (Sound families committed) = IsFoundSound account g families committed
 CameTo folds account g (Stopped answered posted complete segments) = HasStopped account g answered posted complete segments

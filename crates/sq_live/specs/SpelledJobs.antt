@@ -22,15 +22,15 @@ use Rattle.sq_live.specs.declared.fault.LiveFault.TheVariants.{Input}
 use Rattle.sq_live.specs.Faults.{fault_at}
 use Rattle.sq_live.specs.Jobs.{HavePartitions}
 
--- the line spells this transaction for this partition, and schemas of so many tables have it
+-- the line spells `txn` for partition `part`, and schemas of `tables` tables have it
 abbrev pub SpellsTxn : ℕ → List ℕ → ℕ → TxnValue → Type 0
 SpellsTxn tables line part txn = step_of tables line ≡ Ok (Submit part txn)
 
--- the line spells a transaction that no schema of so many tables has
+-- the line spells a transaction that no schema of `tables` tables has
 abbrev pub SpellsFaulty : ℕ → List ℕ → TxnFault → Type 0
 SpellsFaulty tables line fault = step_of tables line ≡ Err (spelled.Txn fault)
 
--- the line is of the form of a transaction
+-- the line has the form of a transaction
 abbrev pub IsOfTxn : ℕ → List ℕ → Type 0
 IsOfTxn tables line =
     ((part : ℕ) × (txn : TxnValue) × SpellsTxn tables line part txn) ⊎ ((fault : TxnFault) × SpellsFaulty tables line fault)
@@ -40,14 +40,16 @@ abbrev pub IsJobLine : ℕ → PieceValue → Job → Type 0
 IsJobLine tables (Line number bytes) job = SpellsTxn tables bytes job.part job.txn
 IsJobLine tables piece job = ⊥
 
--- the pieces are lines that spell these jobs, one each: for partitions that there are, with ids that differ, and not too many
+-- the pieces are lines that spell these jobs, one each: for existing partitions, with different
+-- ids, and at most MAX_JOBS of them
 pub record SpellJobs (tables parts : ℕ) (pieces : List PieceValue) (jobs : List Job) : Type 0 where
   pub lines : AllZip (IsJobLine tables) pieces jobs
   pub partitions : HavePartitions parts jobs
   pub differ : IdsDiffer jobs
   pub few : length jobs ≤ MAX_JOBS
 
--- what a fault says of a line behind the lines of these jobs; a line has the first of these faults, in this order
+-- what a fault says of a line after the lines of `jobs`; a line has the first of these faults, in
+-- this order
 abbrev pub SaysOfLine : ℕ → ℕ → List Job → List ℕ → JobFault → Type 0
 SaysOfLine tables parts jobs line LineTooLong = MAX_LINE < length line
 SaysOfLine tables parts jobs line NotAJob = (length line ≤ MAX_LINE) × (IsOfTxn tables line → ⊥)
@@ -60,7 +62,7 @@ SaysOfLine tables parts jobs line RepeatedId =
     × Contains jobs earlier × (earlier.txn.id ≡ job.txn.id)
 SaysOfLine tables parts jobs line Memory = ⊥
 
--- the fault is that of a piece behind the lines of these jobs
+-- the fault is that of a piece after the lines of `jobs`
 abbrev pub IsFaultOf : ℕ → ℕ → List Job → PieceValue → LiveFault → Type 0
 IsFaultOf tables parts jobs (Line number bytes) told =
     (fault : JobFault) × SaysOfLine tables parts jobs bytes fault × (told ≡ fault_at number fault)

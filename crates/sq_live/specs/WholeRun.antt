@@ -1,4 +1,5 @@
--- What a whole live run leaves: the receipts and the logs of all its stages, and the rows in the end.
+-- What a whole live run leaves: the receipts and the logs of all its stages, and the rows at the
+-- end.
 use Rattle.std.specs.Prelude.{◌≡◌, ℕ, ◌+◌, ◌≤◌, ◌^◌, ◌<◌, ◌==◌, Bool, true, false, List, [], ◌∷◌, ◌++◌, Contains, count_by, unwrap_or}
 use Rattle.sq_schema.specs.TxnValue.{TxnValue}
 use Rattle.sq_schema.specs.Family.{FamilyValue, rows_of}
@@ -23,8 +24,8 @@ use Rattle.sq_live.specs.declared.ending.LiveEnding.TheVariants.{Done}
 use Rattle.sq_live.specs.Outcome.{commit_count, stored_count}
 use Rattle.sq_live.specs.Live.{SpellJobs}
 
--- the stages that have a run's receipts and logs between them, the latest first: with folds each stage, since a fold starts
--- both anew, and else the last one, which has all
+-- the stages that together have a run's receipts and logs, the latest first: with folds each stage,
+-- since a fold starts both anew, and otherwise the last stage, which has all
 abbrev pub telling_stages : Bool → List GatheredValue → GatheredValue → List GatheredValue
 telling_stages true earlier g = g ∷ earlier
 telling_stages false earlier g = g ∷ []
@@ -34,15 +35,15 @@ abbrev pub receipts_over : List GatheredValue → List ReceiptValue
 receipts_over [] = []
 receipts_over (g ∷ earlier) = receipts_over earlier ++ g.receipts
 
--- the family that a root key has in the store of a partition, or an empty one
+-- the family of a root key in the store of a partition, or an empty one
 abbrev pub stored_family : GatheredValue → ℕ → ℕ → FamilyValue
 stored_family g part root = unwrap_or (family_at_spot g (Store part) root) (absent root)
 
--- the log that a root key has after a stage, at its owner then
+-- the log of a root key after a stage, at its owner then
 abbrev pub log_after : OpeningValue → GatheredValue → ℕ → List TxnValue
 log_after o g root = (stored_family g (owner_in o (g.stage + 1) root) root).log
 
--- its logs over these stages, the oldest first
+-- the logs of a root key over these stages, the oldest first
 abbrev pub log_over : OpeningValue → List GatheredValue → ℕ → List TxnValue
 log_over o [] root = []
 log_over o (g ∷ earlier) root = log_over o earlier root ++ log_after o g root
@@ -58,7 +59,7 @@ IsCommitted receipts job =
     (receipt : ReceiptValue) × Contains receipts receipt
     × (is_of job.txn receipt ≡ true) × (is_commit receipt.reply ≡ true)
 
--- the log of a root key has just the committed ones of these jobs on it, each once
+-- the log of a root key has exactly the committed ones of these jobs on it, each once
 pub record HasJustCommitted (receipts : List ReceiptValue) (jobs : List Job)
     (root : ℕ) (log : List TxnValue) : Type 0 where
   pub each : (txn : TxnValue) → Contains log txn
@@ -68,7 +69,7 @@ pub record HasJustCommitted (receipts : List ReceiptValue) (jobs : List Job)
       → Contains log job.txn
   pub once : (id : ℕ) → count_by (λ txn. txn.id == id) log ≤ 1
 
--- each receipt is what a job had to be answered at a position of the whole log of its root key
+-- each receipt is the right answer to a job at some position of the whole log of its root key
 abbrev pub AreAllAnswers : OpeningValue → List Job → List GatheredValue → Type 0
 AreAllAnswers o jobs stages =
     (receipt : ReceiptValue) → Contains (receipts_over stages) receipt
@@ -76,13 +77,14 @@ AreAllAnswers o jobs stages =
     × IsAnswerTo (whole_family o stages receipt.root) job.txn
     (record receipt { position = position })
 
--- a run of these jobs ended as the opening plans it: these stages have its receipts and logs, and its last one left this
+-- a run of these jobs ended as the opening plans it: `stages` have its receipts and logs, and its
+-- last stage left `g`
 pub record EndsAsPlanned (o : OpeningValue) (jobs : List Job) (stages : List GatheredValue)
     (g : GatheredValue) (families committed : ℕ) : Type 0 where
-  -- each family is in the store of its owner by the new plan, and so nothing is under way
+  -- each family is in the store of its owner by the new plan, and so none is under way
   pub owned : (spot : Spot) (root : ℕ) (family : FamilyValue) → StandsAt g spot root family
       → spot ≡ Store (destination o root)
-  -- the rows there are the opening rows with the whole log of the root key replayed on them
+  -- the rows there are the opening rows after a replay of the whole log of the root key
   pub rows : (root : ℕ)
       → rows_of (stored_family g (destination o root) root) ≡ rows_of (whole_family o stages root)
   pub logs : (root : ℕ)
@@ -93,8 +95,8 @@ pub record EndsAsPlanned (o : OpeningValue) (jobs : List Job) (stages : List Gat
   pub committed_are : committed ≡ commit_count (receipts_over stages)
   pub families_are : stored_count g < 2 ^ 64 → families ≡ stored_count g
 
--- a run of these jobs with this outcome ended as the opening plans it, where the outcome is sound: these are what its earlier
--- stages left, and its last one
+-- if the outcome is sound, a run of these jobs ended as the opening plans it; `earlier` is what its
+-- earlier stages left, and `g` what its last one left
 abbrev pub MeetsPlan : Bool → OpeningValue → List Job → List GatheredValue → GatheredValue
     → LiveOutcome → Type 0
 MeetsPlan folds o jobs earlier g (Sound families committed) =
@@ -106,7 +108,7 @@ MeetsPlan folds o jobs earlier g (Unsound defect) = Unit {0}
 abbrev pub sound_ending : ℕ → ℕ → LiveEnding
 sound_ending families committed = Done (Sound families committed)
 
--- the pieces spell an opening and jobs, and a run of these ended as the opening plans it
+-- the pieces spell an opening and jobs, and a run of these jobs ended as the opening plans it
 abbrev pub AreRunAsPlanned : Bool → ℕ → List PieceValue → ℕ → ℕ → Type 0
 AreRunAsPlanned folds tables given families committed =
     (o : OpeningValue) × (jobs : List Job) × (earlier : List GatheredValue) × (g : GatheredValue)

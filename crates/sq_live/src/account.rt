@@ -1,4 +1,4 @@
-// What is counted over the stages of a run.
+// Counts kept over the stages of a run.
 ghost use Rattle.std.specs.Prelude.{◌≡◌};
 ghost use Rattle.sq_ranges.specs.Prelude.{IsOpening};
 ghost use Rattle.sq_live.specs.Account.{first_account};
@@ -8,15 +8,15 @@ use sq_audit::Job;
 use sq_ranges::Opening;
 use std::marker::Model;
 
-/// The opening and the jobs that the next audit goes by, and what is counted of the logs that were folded. To a contract it is
-/// an `AccountValue`.
+/// The opening and the jobs that the next audit uses, and counts over the logs already folded. To a
+/// contract it is an `AccountValue`.
 #[derive(Drop)]
 pub(crate) struct Account {
     pub(crate) opening: Opening,
     pub(crate) jobs: Vec<Job>,
-    /// How many jobs were answered in those logs.
+    /// How many jobs the folded logs answered.
     pub(crate) answered: u64,
-    /// How many of their receipts were of commits.
+    /// How many of their receipts are of commits.
     pub(crate) committed: u64,
 }
 
@@ -41,7 +41,7 @@ impl Model for Account {
 }
 
 impl Account {
-    /// The account of a run before its first stage.
+    /// Returns the account of a run of `jobs` before its first stage.
     pub(crate) fn new(opening: Opening, jobs: JobList) -> Account
         requires { IsOpening opening }
         ensures { result ≡ first_account opening jobs }

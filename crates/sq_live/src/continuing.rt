@@ -11,8 +11,9 @@ use std::alloc::{AllocError, Global};
 use std::ops::ControlFlow;
 use std::thread::Threads;
 
-/// What a run continues with after a stage whose segments are complete: with all as it is, or, if it folds logs, with
-/// the outcome of [`fold`], once this is counted. It breaks off at the first defect of what was gathered.
+/// Returns what a run continues with after a stage whose segments are complete: `account` and
+/// `gathered` unchanged or, if `folds` is set, with the logs folded, as [`fold`] does, and counted.
+/// It breaks at the first defect that the fold's audit finds in `gathered`.
 pub(crate) fn continue_with<R: Threads + Sync>(
     rt: &R,
     alloc: Global,
@@ -30,7 +31,7 @@ pub(crate) fn continue_with<R: Threads + Sync>(
     }
 }
 
-// Folds the logs that were gathered, and counts the jobs that were answered and the receipts of commits.
+// Folds the gathered logs, and counts the jobs that were answered and the receipts of commits.
 fn fold_logs<R: Threads + Sync>(
     rt: &R,
     alloc: Global,

@@ -1,4 +1,4 @@
-// How live runs end.
+// Endings of live runs.
 ghost use Rattle.std.specs.Prelude.{◌≡◌};
 ghost use Rattle.sq_live.specs.Live.{ending_status};
 
@@ -8,14 +8,14 @@ use crate::outcome::LiveOutcome;
 /// How a live run ends.
 #[derive(Clone, Copy, Debug, PartialEq, Eq)]
 pub enum LiveEnding {
-    /// This is the outcome, and its line was written.
+    /// The run has this outcome, whose line was written.
     Done(LiveOutcome),
-    /// It has this fault, whose number was written.
+    /// The input or the run has this fault, whose number was written.
     Fault(LiveFault),
 }
 
 impl LiveEnding {
-    /// The exit status: the outcome's, and 2 after a fault.
+    /// Returns the exit status: that of the outcome, or 2 for a fault.
     pub fn status(self) -> u8
         ensures { result ≡ ending_status self }
     {

@@ -1,4 +1,4 @@
-// Why an input gives no live run.
+// Faults of live runs.
 ghost use Rattle.std.specs.Prelude.{◌≡◌};
 ghost use Rattle.sq_live.specs.Faults.{job_fault_number, live_fault_number, fault_at, run_fault};
 
@@ -11,43 +11,42 @@ use std::fmt;
 use std::fmt::{Display, Formatter, Write};
 use thiserror::Error;
 
-/// Why a line behind the header gives no job.
+/// Why a line after the header is not accepted as a job.
 #[derive(Clone, Copy, Debug, PartialEq, Eq, Error)]
 #[error("{}", meaning(self.number()))]
 pub enum JobFault {
-    /// 125.
+    /// 125: the input has more than [`MAX_JOBS`](crate::MAX_JOBS) jobs.
     TooMany,
-    /// 126.
+    /// 126: the line is not a transaction.
     NotAJob,
-    /// 127.
+    /// 127: an earlier job has the same id.
     RepeatedId,
-    /// The schema doesn't have the transaction.
+    /// The schema does not have the transaction; the number is that of the fault.
     Txn(TxnFault),
-    /// 219.
+    /// 219: the job's partition does not exist.
     NoSuchPartition,
-    /// 231.
+    /// 231: the line is too long.
     LineTooLong,
     /// Memory ran out.
     Memory,
 }
 
-/// Why a line behind the header gives no job, and its number in the input, whose first line has the number 1.
+/// The fault of a line after the header, and the number of the line in the input, counted from 1.
 #[derive(Clone, Copy, Debug, PartialEq, Eq)]
 pub struct JobLineFault {
-    /// What is wrong.
     pub fault: JobFault,
-    /// The number of the line.
     pub line: u32,
 }
 
-/// Why an input gives no live run.
+/// Why an input has no live run.
 #[derive(Clone, Copy, Debug, PartialEq, Eq)]
 pub enum LiveFault {
-    /// The header has a fault, or the input can't be read to its end, or memory ran out.
+    /// The header has a fault, the input is too long or can't be read to its end, or memory ran
+    /// out.
     Input(LocatedFault),
-    /// A line behind the header gives no job.
+    /// A line after the header is not accepted as a job.
     Job(JobLineFault),
-    /// The system grants fewer threads than the run has partitions.
+    /// The system grants fewer threads than the run has partitions, or no memory for one.
     Threads,
 }
 
@@ -56,12 +55,13 @@ pub enum LiveFault {
 pub(crate) enum RunFault {
     /// Memory ran out.
     Memory,
-    /// A partition, or the pumps, had no thread.
+    /// A partition, or every pump, got no thread.
     Threads,
 }
 
 impl RunFault {
-    /// Why a stage has no outcome whose workers ended so. Where they were done, it is memory.
+    /// Returns why a stage whose workers ended as `end` has no outcome. If they were done, memory
+    /// ran out.
     pub(crate) fn of(end: WorkersEnd) -> RunFault
         ensures { result ≡ run_fault end }
     {
@@ -73,7 +73,7 @@ impl RunFault {
 }
 
 impl JobFault {
-    /// The number that a user sees.
+    /// Returns the number that a user sees.
     pub fn number(self) -> u16
         ensures { result ≡ job_fault_number self }
     {
@@ -88,7 +88,7 @@ impl JobFault {
         }
     }
 
-    // The fault of the line with this number. Want of memory has no line.
+    // Returns this fault at the line of number `line`. A lack of memory belongs to no line.
     pub(crate) fn at(self, line: u32) -> LiveFault
         ensures { result ≡ fault_at line self }
     {
@@ -100,7 +100,7 @@ impl JobFault {
 }
 
 impl LiveFault {
-    /// The number that a user sees.
+    /// Returns the number that a user sees.
     pub fn number(self) -> u16
         ensures { result ≡ live_fault_number self }
     {
@@ -112,8 +112,8 @@ impl LiveFault {
     }
 }
 
-/// Says the line by its number, where the fault belongs to one, the number of the fault, and what it means. The number for want
-/// of threads is that for want of memory, whose meaning it doesn't have.
+/// Writes the line's number, if the fault belongs to a line, then the fault's number and meaning. A
+/// lack of threads has the same number as a lack of memory, but its own meaning.
 impl Display for LiveFault {
     fn fmt<W: Write>(&self, f: &mut Formatter<W>) -> fmt::Result {
         match self {
@@ -123,7 +123,7 @@ impl Display for LiveFault {
             }
             LiveFault::Threads => write!(
                 f,
-                "fault {}: the system grants fewer threads than the run has partitions",
+                "fault {}: the system grants fewer threads than the run has partitions, or no memory for one",
                 self.number()
             ),
         }

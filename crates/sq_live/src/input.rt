@@ -24,21 +24,25 @@ use std::io::{Read, Write};
 use std::sync::Wait;
 use std::thread::Threads;
 
-/// Reads an input, runs its jobs in threads while rows move, audits what is left, and writes one line with the outcome.
+/// Reads an input, runs its jobs in threads while rows move, audits what is left, and writes one
+/// line with the outcome.
 ///
-/// The input is a header, as [`read_header`] has it for a schema of [`MAX_TABLES`] tables, and jobs, as [`read_jobs`]
-/// has them. Where it has a fault, no thread is started, and the line has the fault. Else the stages of the move run
-/// one after another: each partition and each pump runs in a thread of its own, each of them up to so many turns in a
-/// stage, and asks `watch` before each step. A stage whose segments aren't all complete then stops the run. Where
-/// `manner` folds, the jobs that are answered are audited between two stages, and the logs folded.
+/// The input is a header, as [`read_header`] reads it for a schema of [`MAX_TABLES`] tables, and
+/// then jobs, as [`read_jobs`] reads them. If it has a fault, no thread is started, and the line
+/// states the fault. Otherwise the stages of the move run one after another: each partition and
+/// each pump runs in a thread of its own, takes at most `manner.turns` turns in a stage, and asks
+/// `watch` before each step. If a segment of a stage is not complete then, the run stops. If
+/// `manner.folds` is set, the answered jobs are audited and the logs folded between two stages.
 ///
-/// Where memory runs out, or a thread lacks it for 3 seconds or some more, the line is that of its fault. So it is where a
-/// partition has no thread, some 3 seconds after the others have no more work.
+/// If memory runs out, or a thread lacks it for 3 seconds or slightly longer, the line states that
+/// fault. If a partition or all pumps get no thread, the line states that fault about 3 seconds
+/// after the others have run out of work.
 ///
 /// An error is a write or a flush that failed.
 ///
-/// Whatever the threads do, what they leave is placed, and the line says `sound` only where each audit found it so.
-/// Then the run ended as [`a_sound_run_ends_where_planned`](crate::laws::a_sound_run_ends_where_planned) has it.
+/// Whatever the threads do, what they leave is placed, and the line says `sound` only if each audit
+/// found it so. The run then ended as
+/// [`a_sound_run_ends_where_planned`](crate::laws::a_sound_run_ends_where_planned) states.
 pub fn live<T: Threads + Wait + Sync, R: Read, W: Write, G: Watch>(
     rt: &T,
     alloc: Global,
@@ -56,7 +60,7 @@ pub fn live<T: Threads + Wait + Sync, R: Read, W: Write, G: Watch>(
     Ok(ending)
 }
 
-// Writes the line of an ending.
+// Writes the line of `ending`.
 fn write_ending<W: Write>(writer: &mut W, ending: LiveEnding) -> Result<(), WriteFault>
     ensures { OnOk result (Appends (W.contents writer.old) (W.contents writer.new)
         (ending_line ending)) }
@@ -67,7 +71,7 @@ fn write_ending<W: Write>(writer: &mut W, ending: LiveEnding) -> Result<(), Writ
     }
 }
 
-// How an input ends.
+// Returns the ending of the input that `reader` holds.
 fn end_input<T: Threads + Wait + Sync, R: Read, G: Watch>(
     rt: &T,
     alloc: Global,
@@ -84,7 +88,7 @@ fn end_input<T: Threads + Wait + Sync, R: Read, G: Watch>(
     }
 }
 
-// How the lines of an input end.
+// Returns the ending of the input that `lines` holds.
 fn end_lines<T: Threads + Wait + Sync, R: Read, G: Watch>(
     rt: &T,
     alloc: Global,
@@ -104,7 +108,7 @@ fn end_lines<T: Threads + Wait + Sync, R: Read, G: Watch>(
     }
 }
 
-// The opening and the jobs that lines spell.
+// Returns the opening and the jobs that `lines` spell.
 fn read_input<R: Read>(
     alloc: Global,
     lines: &mut LineReader<R>,
@@ -121,7 +125,7 @@ fn read_input<R: Read>(
     Ok((opening, jobs))
 }
 
-// The outcome of a run of jobs from an opening. The move starts before the first thread does.
+// Runs `jobs` from `opening` and returns the outcome. The move starts before the first thread does.
 fn run_input<T: Threads + Wait + Sync, G: Watch>(
     rt: &T,
     alloc: Global,

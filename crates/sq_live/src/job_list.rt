@@ -17,10 +17,10 @@ use std::collections::BTreeSet;
 use std::io::Read;
 use std::marker::Model;
 
-/// The most jobs that a live run has: as many as the queue of a partition takes.
+/// The largest number of jobs in a live run: as many as the queue of a partition holds.
 pub const MAX_JOBS: usize = JOB_PLACES;
 
-/// Jobs whose ids differ, at most [`MAX_JOBS`] of them. To a contract they are a list.
+/// At most [`MAX_JOBS`] jobs, whose ids differ. To a contract it is the list of the jobs.
 #[derive(Drop)]
 pub struct JobList {
     jobs: Vec<Job>,
@@ -40,7 +40,7 @@ impl Model for JobList {
 }
 
 impl JobList {
-    /// No jobs.
+    /// Returns an empty list.
     pub fn new(alloc: Global) -> JobList
         ensures { result ≡ [] }
     {
@@ -50,7 +50,7 @@ impl JobList {
         }
     }
 
-    /// The jobs, in the order of their lines.
+    /// Returns the jobs, in the order of their lines.
     pub fn as_slice(&self) -> &[Job]
         ensures jobs { result.now ≡ self.now }
         ensures differ { IdsDiffer result.now }
@@ -59,7 +59,7 @@ impl JobList {
         &self.jobs
     }
 
-    /// The jobs, in the order of their lines.
+    /// Returns the jobs, in the order of their lines.
     pub fn into_jobs(self) -> Vec<Job>
         ensures jobs { result.items ≡ self }
         ensures differ { IdsDiffer result.items }
@@ -68,7 +68,7 @@ impl JobList {
         self.jobs
     }
 
-    // Adds the job that a line spells.
+    // Adds the job that `line` spells.
     fn add_line(
         &mut self,
         alloc: Global,
@@ -114,7 +114,7 @@ impl JobList {
         }
     }
 
-    // Whether there are as many jobs as there may be.
+    // Returns true if the list holds [`MAX_JOBS`] jobs.
     fn is_full(&self) -> bool
         ensures { result ≡ (length self.now == MAX_JOBS) }
     {
@@ -122,13 +122,14 @@ impl JobList {
     }
 }
 
-/// Reads the jobs that the rest of an input spells, whose lines before are its header.
+/// Reads the jobs that the rest of an input spells, once its header has been read.
 ///
-/// A line is `txn P ID ROOT OP..`, and its job is posted to partition P, one of this many. A refusal is the first fault in
-/// the order of the lines, and for one line the first of these: it has over [`MAX_LINE`](sq_text::MAX_LINE) bytes; it is of
-/// another form, or has no end; there are [`MAX_JOBS`] jobs before it; the schema doesn't have the transaction; there is no
-/// such partition; a job before it has its id. An input that is too long or can't be read to its end is refused too.
-/// [`InputFault::Memory`] may come in place of any answer.
+/// A line is `txn P ID ROOT OP..`, and its job is posted to partition P, which is below `parts`.
+/// The fault that is returned is that of the first line with one, and for this line the first of
+/// these: it has over [`MAX_LINE`](sq_text::MAX_LINE) bytes; it has another form, or no end; there
+/// are [`MAX_JOBS`] jobs before it; `schema` does not have the transaction; the partition does not
+/// exist; an earlier job has its id. An input that is too long or can't be read to its end is
+/// refused too. [`InputFault::Memory`] may be returned in place of any answer.
 pub fn read_jobs<R: Read>(
     alloc: Global,
     schema: &Schema,

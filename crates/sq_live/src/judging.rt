@@ -1,4 +1,4 @@
-// The outcome of a live run, by what was gathered of its last stage.
+// The outcome of a live run, judged by what was gathered of its last stage.
 ghost use Rattle.std.specs.Prelude.{◌≡◌, ◌≤◌, ◌<◌, ◌+◌, ◌^◌, ◌||◌, nat_lt, Bool, length, sum_by, IfOk};
 ghost use Rattle.std.specs.FinMap.{len};
 ghost use Rattle.sq_ranges.specs.declared.segment.TheConstants.{SEGMENT_LIMIT};
@@ -16,17 +16,18 @@ use sq_audit::{Verdict, audit_in_threads, count_answered};
 use sq_gather::{Gathered, reads_complete};
 use sq_node::Receipt;
 use sq_ranges::{Recon, SEGMENT_LIMIT, SegId};
-use sq_runs::RunStore;
 use sq_schema::Reply;
+use sq_slab::SlabStore;
 use sq_tree::{NODES, NodeId, Status};
 use std::alloc::{AllocError, Global};
 use std::thread::Threads;
 
-/// How many segments there are at most, as the length of an array.
+/// The largest number of segments, as the length of an array.
 const SEGMENTS: usize = SEGMENT_LIMIT as usize;
 
-/// The outcome of a run whose last stage left this, where the leader ended the move. `moved` marks the segments that
-/// are complete. The run is audited only where each job is answered, and it is sound only where the audit found it so.
+/// Returns the outcome of a run whose last stage left `g`, after the leader ended the move. `moved`
+/// marks the complete segments. The run is audited only if each job is answered, and it is sound
+/// only if the audit found it so.
 pub(crate) fn judge_end<R: Threads + Sync>(
     rt: &R,
     alloc: Global,
@@ -54,7 +55,7 @@ pub(crate) fn judge_end<R: Threads + Sync>(
     }
 }
 
-/// The outcome of a run that stopped after a stage with a segment that isn't complete.
+/// Returns the outcome of a run that stopped after a stage with a segment that is not complete.
 pub(crate) fn judge_stopped(
     alloc: Global,
     account: &Account,
@@ -69,7 +70,8 @@ pub(crate) fn judge_stopped(
     Ok(stopped(account, g, moved, answered))
 }
 
-// A run that stopped; so many of its jobs have a receipt now.
+// Returns the outcome of a run that stopped; `answered` of the jobs in `account` have a receipt
+// now.
 fn stopped(account: &Account, g: &Gathered, moved: &[bool], answered: usize) -> LiveOutcome
     requires moved { MarksMoved g.now.statuses moved.now }
     requires answered { answered ≡ answered_count g.now.receipts account.now.jobs }
@@ -86,7 +88,7 @@ fn stopped(account: &Account, g: &Gathered, moved: &[bool], answered: usize) -> 
     }
 }
 
-/// Which segments are complete. A segment without statuses isn't.
+/// Returns which segments are complete. A segment without statuses is not.
 pub(crate) fn moved_segments(statuses: &[[Status; NODES]]) -> [bool; SEGMENTS]
     requires { AllGrown statuses.now }
     ensures { MarksMoved statuses.now result }
@@ -98,7 +100,7 @@ pub(crate) fn moved_segments(statuses: &[[Status; NODES]]) -> [bool; SEGMENTS]
     moved
 }
 
-// How many segments moved in an earlier stage than this, or are marked.
+// Counts the segments that moved in a stage before `stage` or are marked in `moved`.
 fn count_complete(recon: &Recon, stage: u64, moved: &[bool]) -> u64
     ensures { result ≡ marked_count recon.now stage moved.now }
 {
@@ -114,7 +116,7 @@ fn count_complete(recon: &Recon, stage: u64, moved: &[bool]) -> u64
     count
 }
 
-// Whether a segment moved in an earlier stage than this, or is marked.
+// Returns true if segment `seg` moved in a stage before `stage` or is marked in `moved`.
 fn is_counted(recon: &Recon, stage: u64, moved: &[bool], seg: SegId) -> bool
     ensures { result ≡ (nat_lt (stage_at recon.now seg) stage
         || is_marked_complete moved.now seg) }
@@ -122,8 +124,8 @@ fn is_counted(recon: &Recon, stage: u64, moved: &[bool], seg: SegId) -> bool
     recon.stage_of(seg) < stage || moved.get(seg.index()).copied().unwrap_or(false)
 }
 
-// How many families all stores have.
-fn count_families(stores: &[RunStore]) -> u64
+// Returns how many families all stores have together.
+fn count_families(stores: &[SlabStore]) -> u64
     ensures { sum_by (λ store. len store) stores.now < 2 ^ 64
         → result ≡ sum_by (λ store. len store) stores.now }
 {
@@ -134,7 +136,7 @@ fn count_families(stores: &[RunStore]) -> u64
     count
 }
 
-/// How many receipts are of commits.
+/// Returns how many receipts are of commits.
 pub fn count_commits(receipts: &[Receipt]) -> u64
     ensures commits { result ≡ commit_count receipts.now }
     ensures most { result ≤ length receipts.now }

@@ -1,5 +1,5 @@
-//! Live runs: the jobs of an input are posted to partitions that run in threads while their rows move, stage by stage, and
-//! what is left is gathered and audited.
+//! Live runs: the jobs of an input are posted to partitions that run in threads while their rows
+//! move, stage by stage; what is left is then gathered and audited.
 #![tactic(auto)]
 
 mod account;
@@ -21,5 +21,6 @@ pub use job_list::{JobList, MAX_JOBS, read_jobs};
 pub use judging::count_commits;
 pub use outcome::{LiveOutcome, write_outcome};
 pub use sq_audit::Job;
+pub use sq_gather::Gathered;
 pub use stages::RunManner;
 pub use watch::Watch;

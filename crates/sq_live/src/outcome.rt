@@ -10,14 +10,16 @@ use std::io::Write;
 /// The outcome of a live run.
 #[derive(Clone, Copy, Debug, PartialEq, Eq)]
 pub enum LiveOutcome {
-    /// Each job is answered, each segment is complete, and each audit found what was gathered sound.
+    /// Each job is answered, each segment is complete, and each audit found the gathered state
+    /// sound.
     Sound {
-        /// How many families all stores have.
+        /// How many families all stores have together.
         families: u64,
-        /// How many jobs were committed, in whichever stage.
+        /// How many jobs committed, over all stages.
         committed: u64,
     },
-    /// A segment of a stage isn't complete, or after the last stage a job isn't answered. What that stage left wasn't audited.
+    /// A segment of a stage is not complete, or after the last stage a job is not answered. What
+    /// that stage left was not audited.
     Stopped {
         /// How many jobs are answered.
         answered: u64,
@@ -28,13 +30,13 @@ pub enum LiveOutcome {
         /// How many segments there are.
         segments: u64,
     },
-    /// This is the first defect that an audit found: once each job is answered and each segment is complete, or between two
-    /// stages whose logs were to be folded.
+    /// The first defect that an audit found: after the last stage, once each job is answered and
+    /// each segment complete, or between two stages, before the logs were folded.
     Unsound(Defect),
 }
 
 impl LiveOutcome {
-    /// The exit status: 0 where the run is sound, 3 where it stopped, and 4 where it isn't sound.
+    /// Returns the exit status: 0 if the run is sound, 3 if it stopped, and 4 if it is not sound.
     pub fn status(self) -> u8
         ensures { result ≡ outcome_status self }
     {
@@ -46,7 +48,7 @@ impl LiveOutcome {
     }
 }
 
-/// Writes the line of an outcome of a live run. An error is the writer's.
+/// Writes the line of `outcome`. An error is the writer's.
 pub fn write_outcome<W: Write>(writer: &mut W, outcome: LiveOutcome) -> io::Result<()>
     ensures { OnOk result (Appends (W.contents writer.old) (W.contents writer.new)
         (outcome_line outcome)) }

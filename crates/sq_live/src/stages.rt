@@ -23,20 +23,18 @@ use sq_gather::Gathered;
 use sq_leader::Moving;
 use sq_node::Fabric;
 use sq_run::StageRun;
-use sq_runs::RunStore;
 use sq_stages::{Led, lead_on};
 use std::alloc::{AllocError, Global};
 use std::ops::ControlFlow;
 use std::sync::Wait;
-use std::thread;
 use std::thread::Threads;
 
-/// How a run is run.
+/// The options of a live run.
 #[derive(Clone, Copy)]
 pub struct RunManner {
-    /// How many turns each thread takes at most in a stage.
+    /// The most turns that each thread takes in a stage.
     pub turns: u64,
-    /// How many pumps there are, at most `MAX_PUMPS`.
+    /// How many pumps run, at most `MAX_PUMPS`.
     pub pumps: u32,
     /// Whether the logs are folded between stages.
     pub folds: bool,
@@ -51,9 +49,10 @@ pub(crate) struct Ready {
     pub(crate) run: StageRun,
 }
 
-/// Runs the jobs of an account stage by stage, from the first to the last one or to the first that stops it: each
-/// partition and each pump runs in a thread of its own, and so again in each stage. Gives the outcome of the whole
-/// run, whatever the threads did, unless they gave up for want of threads or of memory.
+/// Runs the jobs of `account` stage by stage, from the first stage to the last, or to the first one
+/// that stops the run; in each stage, each partition and each pump runs in a thread of its own.
+/// Returns the outcome of the whole run, whatever the threads did, or a fault if they gave up for
+/// lack of threads or of memory.
 pub(crate) fn run_stages<R: Threads + Wait + Sync, G: Watch>(
     rt: &R,
     alloc: Global,
@@ -75,7 +74,7 @@ pub(crate) fn run_stages<R: Threads + Wait + Sync, G: Watch>(
     }
 }
 
-// The first stage, ready to run, with each job posted.
+// Returns the first stage, ready to run, with each job posted.
 fn first_ready<R: Threads + Wait + Sync>(
     rt: &R,
     alloc: Global,
@@ -97,16 +96,19 @@ fn first_ready<R: Threads + Wait + Sync>(
     })
 }
 
-// Posts each job to its partition. A job that its queue doesn't take is dropped, and so not answered; but a queue has
-// as many places as there are jobs at most.
+// Posts each job to its partition, unless memory runs out. If a queue refuses a job, the job is
+// dropped, and so not answered; but a queue has as many places as a run has jobs at most.
 fn post_all<R: Wait>(rt: &R, fabric: &Fabric, jobs: &[Job]) -> Result<(), AllocError> {
     for job in jobs {
-        drop(fabric.post(rt, job.part, job.txn.clone()?));
+        match fabric.post(rt, job.part, job.txn.clone()?) {
+            Err(back) if back.is_memory => return Err(AllocError),
+            Ok(()) | Err(_) => {}
+        }
     }
     Ok(())
 }
 
-// Runs a stage to its end, and makes the next one ready where the leader moves on.
+// Runs a stage to its end, and prepares the next one if the leader moves on.
 fn run_stage<R: Threads + Wait + Sync, G: Watch>(
     rt: &R,
     alloc: Global,
@@ -129,22 +131,18 @@ fn run_stage<R: Threads + Wait + Sync, G: Watch>(
         Led::Next(moving) => go_on(rt, alloc, account, gathered, moving, manner),
         Led::Ended => {
             let outcome = judge_end(rt, alloc, &account, &gathered, &moved)?;
-            free_families(rt, gathered.stores);
+            watch.leaves(gathered, account.opening, account.jobs);
             Ok(ControlFlow::Break(outcome))
         }
         Led::Missing => {
             let outcome = judge_stopped(alloc, &account, &gathered, &moved)?;
+            watch.leaves(gathered, account.opening, account.jobs);
             Ok(ControlFlow::Break(outcome))
         }
     }
 }
 
-// Frees families, those of each partition in a thread of its own, where one can be had.
-fn free_families<R: Threads + Sync>(rt: &R, stores: Vec<RunStore>) {
-    drop(thread::map_vec(rt, stores, &|store: RunStore| drop(store)));
-}
-
-// Prepares the next stage after a completed one.
+// Prepares the next stage after a stage whose segments are complete.
 fn go_on<R: Threads + Sync>(
     rt: &R,
     alloc: Global,
@@ -167,8 +165,9 @@ fn go_on<R: Threads + Sync>(
     }
 }
 
-// Drives each partition and each pump in a thread of its own, and gathers what they left. Whatever the threads did, it
-// is placed. `watch` hears of it before the threads are started, after they have ended, and of what was gathered.
+// Drives each partition and each pump in a thread of its own, and gathers what they left, which is
+// placed, whatever the threads did. `watch` is called before the threads start, after they have
+// ended, and with what was gathered.
 fn drive_all<R: Threads + Wait + Sync, G: Watch>(
     rt: &R,
     alloc: Global,
@@ -208,7 +207,7 @@ fn gather_from<R: Wait>(
     }
 }
 
-// The stage after the one that was gathered, ready to run.
+// Returns the stage after the one that was gathered, ready to run.
 fn next_ready(
     alloc: Global,
     account: Account,

@@ -1,31 +1,38 @@
-// What watches a live run.
+// Watching a live run.
 use sq_audit::Job;
 use sq_driver::{Gate, OpenGate};
 use sq_gather::Gathered;
 use sq_node::Node;
+use sq_ranges::Opening;
 
-/// A gate of a live run that is also informed of the run: once its input is read, of each stage, and at its end. Where
-/// memory runs out, or threads are lacking, it may hear of nothing more but the end.
+/// A gate of a live run that is also called as the run proceeds: once its input is read, in each
+/// stage, and at its end. If memory or threads are lacking, only [`Watch::stage_ends`] and
+/// [`Watch::ends`] may still be called.
 pub trait Watch: Gate {
-    /// Called once the input is read: these jobs are to be posted, in this order.
+    /// Called once the input is read: `_jobs` are to be posted, in this order.
     fn posts(&self, _jobs: &[Job]) {}
 
-    /// Called before the first thread is started, once the input is read: so many jobs are posted, and so many segments
-    /// move.
+    /// Called once the input is read, before the first thread starts: `_jobs` jobs are posted, and
+    /// `_segments` segments move.
     fn begins(&self, _jobs: u64, _segments: u64) {}
 
-    /// Called before the threads of each stage are started.
+    /// Called before the threads of each stage start.
     fn stage_begins(&self) {}
 
-    /// Called after the last thread of each stage has ended, with its nodes in the order of their partitions. They have
-    /// the receipts of this stage alone.
+    /// Called after the last thread of each stage has ended, with the stage's nodes in the order of
+    /// their partitions. They have the receipts of this stage alone.
     fn stage_ends(&self, _nodes: &[Node]) {}
 
-    /// Called after that, with what was gathered of the stage, before it is audited or folded. The receipts so far are
-    /// there.
+    /// Called after [`Watch::stage_ends`] with what was gathered of the stage, before it is audited
+    /// or folded. It has all receipts so far.
     fn gathers(&self, _gathered: &Gathered) {}
 
-    /// Called after the last thread has ended, and before the line of the run is written.
+    /// Called once the last stage of a run was judged: `_left` is what that stage left, and its
+    /// audit, if it had one, used `_opening` and `_jobs`. By default all three are freed. It isn't
+    /// called if the audit before a fold finds a defect.
+    fn leaves(&self, _left: Gathered, _opening: Opening, _jobs: Vec<Job>) {}
+
+    /// Called after the last thread has ended, before the run's line is written.
     fn ends(&self) {}
 }
 

@@ -1,4 +1,4 @@
--- The ends that a node has of links.
+-- The ends of links that a node has.
 use Rattle.std.specs.Prelude.{◌≡◌, ℕ, ◌<◌, ◌==◌, ◌&&◌, List, [], ◌∷◌, ◌++◌, length, position, slice_index_or, Option, Some, None, option_map}
 use Rattle.crossbeam_queue.specs.Fifo.{Held}
 use Rattle.sq_chunk.specs.ChunkValue.{ChunkValue}
@@ -6,7 +6,7 @@ use Rattle.sq_link.specs.Values.{LinkValue, PassValue}
 use Rattle.sq_link.specs.Order.{IsEndOf, ComesAfter}
 use Rattle.sq_node.specs.declared.ends.LinkEnd.{LinkEnd}
 
--- an end of a link: where the link is, and the pass with the chunks that went by it
+-- an end of a link: the place of the link, and the pass with the chunks that went by it
 abbrev pub EndValue : Type 0
 EndValue = LinkEnd PassValue
 
@@ -21,17 +21,17 @@ no_link = record {
 abbrev pub link_at : List LinkValue → ℕ → LinkValue
 link_at links i = slice_index_or links i no_link
 
--- where the link is that has a partition at its near end and another one at its far end; none where there is no such
--- link
+-- the place of the link with `part` at its near end and `other` at its far end, or `None` if there
+-- is no such link
 abbrev pub link_between : (LinkValue → ℕ) → (LinkValue → ℕ) → List LinkValue → ℕ → ℕ → Option ℕ
 link_between near far links part other = position (λ link. (near link == part) && (far link == other)) links
 
--- the end is of the link that it names
+-- the end belongs to the link that it names
 pub record IsEnd (links : List LinkValue) (end : EndValue) : Type 0 where
   pub exists : end.link < length links
   pub queue : end.pass.queue ≡ (link_at links end.link).queue
 
--- the end once it passed one more chunk on
+-- the end after one more chunk went by it
 abbrev pub passed_on : EndValue → ChunkValue → EndValue
 passed_on end chunk = record { link = end.link; pass = record { queue = end.pass.queue; chunks = end.pass.chunks ++ chunk ∷ [] } }
 
@@ -46,7 +46,7 @@ WasEmpty end = Held 0 (ComesAfter end.pass.chunks)
 abbrev pub end_at : List (Option EndValue) → ℕ → Option EndValue
 end_at ends other = slice_index_or ends other None
 
--- a partition's ends by the other partition: one of each link that there is between them, this way
+-- a partition's ends by the other partition: one of each link between the two in this direction
 pub record AreEnds (near far : LinkValue → ℕ) (links : List LinkValue) (part : ℕ) (all : List (Option EndValue)) : Type 0 where
   pub which : (other : ℕ) → other < length all → option_map (λ end. end.link) (end_at all other) ≡ link_between near far links part other
   pub ends : (other : ℕ) (end : EndValue) → end_at all other ≡ Some end → IsEnd links end

@@ -11,8 +11,8 @@ use Rattle.sq_pull.specs.Seats.{AreSeatsOf}
 use Rattle.sq_node_model.specs.NodeValue.{ReceiptValue}
 use Rattle.sq_node_model.specs.BeganWith.{BeganWith}
 
--- what moves, which stage runs, how many partitions there are, for each segment its tree and the seat that the tree was
--- opened with, the links, and the receipts of earlier stages
+-- the reconfiguration, the stage that runs, the number of partitions, for each segment its tree and
+-- the seat that the tree was opened with, the links, and the receipts of earlier stages
 pub record FabricValue : Type 0 where
   pub recon : ReconValue
   pub stage : ℕ
@@ -22,7 +22,7 @@ pub record FabricValue : Type 0 where
   pub links : List LinkValue
   pub receipts : List ReceiptValue
 
--- the stage began so: it is the one that the run is in, and the receipts so far are the run's
+-- the stage began with `began`: it is the stage of the run, and the receipts so far are the run's
 pub record HasBegun (began : BeganWith) (fabric : FabricValue) : Type 0 where
   pub stage : began.stage ≡ fabric.stage
   pub receipts : began.receipts ≡ fabric.receipts
@@ -34,17 +34,17 @@ ends_of link = record { src = link.src; dst = link.dst }
 abbrev pub AreFirst : List SeatValue → Type 0
 AreFirst seats = (seg : ℕ) (seat : SeatValue) → slice_get seats seg ≡ Some seat → seat.view.first ≡ true
 
--- keys go along the link in this stage
+-- keys move along the link in this stage
 abbrev pub runs_along : ReconValue → ℕ → Link → Bool
 runs_along recon stage link =
     is_link recon.ranges link.src link.dst && (stage_on recon link.src link.dst == stage)
 
--- the links along which keys go in this stage, strictly rising
+-- exactly the links along which keys move in this stage, in strictly rising order
 pub record AreStageLinks (recon : ReconValue) (stage : ℕ) (links : List Link) : Type 0 where
   pub rising : IsStrictlySortedBy link_cmp links
   pub all : (link : Link) → Contains links link ↔ (runs_along recon stage link ≡ true)
 
--- there are no more segments than there may be, each has a tree, and each link of the stage is there
+-- there are at most SEGMENT_LIMIT segments, each has a tree, and each link of the stage exists
 pub record IsFabric (fabric : FabricValue) : Type 0 where
   pub few : length fabric.recon.segments ≤ SEGMENT_LIMIT
   pub trees : length fabric.trees ≡ length fabric.recon.segments

@@ -1,4 +1,4 @@
--- What a contract sees of what the nodes of a run share.
+-- What the nodes of a run share, as contracts see it.
 use Rattle.sq_node.specs.declared.fabric.Fabric.TheInside.{Inside}
 use Rattle.sq_node.specs.FabricValue.{FabricValue}
 

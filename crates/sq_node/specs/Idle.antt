@@ -1,4 +1,4 @@
--- What is done at a node that is idle, and what is under way at one that isn't.
+-- What is done at an idle node, and what is under way at a busy one.
 use Rattle.std.specs.Prelude.{◌≡◌, ◌⊎◌, ℕ, Bool, ◌+◌, ◌<◌, ◌≤◌, ◌==◌, ◌&&◌, ◌||◌, true, false, List, [], ◌++◌, length, slice_get, Some, None, Contains}
 use Rattle.sq_tree.specs.declared.status.Status.{Status}
 use Rattle.sq_tree.specs.Status.{is_split, is_complete}
@@ -13,24 +13,26 @@ use Rattle.sq_node.specs.NodeState.{NodeState}
 use Rattle.sq_node.specs.Settled.{AllSettled, SawSegmentComplete}
 use Rattle.sq_node.specs.Steps.{HasNoneToCut}
 
--- the segment runs in this stage, and leaves or comes to this partition
+-- the segment moves in this stage, and leaves or enters this partition
 abbrev pub takes_part : ReconValue → ℕ → ℕ → Range → Bool
 takes_part recon stage part segment = ((segment.src == part) || (segment.dst == part)) && (stage_in recon segment == stage)
 
--- the flag of each segment of the running stage that leaves or comes to the partition is set
+-- the flag of each segment of the running stage that leaves or enters the partition is set
 abbrev pub AreFlagged : ReconValue → ℕ → ℕ → List Bool → Type 0
 AreFlagged recon stage part flags =
     (seg : ℕ) (segment : Range) → slice_get recon.segments seg ≡ Some segment → takes_part recon stage part segment ≡ true
     → slice_get flags seg ≡ Some true
 
--- no chunk came from the other partition or waits to be sent to it, and there is none to cut
+-- no chunk has arrived from the other partition or waits to be sent to it, and there is none to cut
+-- for it
 pub record IsQuiet (core : CoreValue) (other : ℕ) : Type 0 where
   pub inbox : inbox_at core other ≡ None
   pub outbox : (out_at core other).outbox ≡ None
   pub cut : HasNoneToCut core other
 
--- nothing is under way here, each tree node whose last chunk was loaded is settled, each segment of the running stage that
--- leaves or comes here was found complete, and at the last stage nothing waits
+-- nothing is under way here, each tree node whose last chunk was loaded is settled, each segment of
+-- the running stage that leaves or enters here was found complete, and in the last stage nothing
+-- waits
 pub record IsIdle (node : NodeState) : Type 0 where
   pub quiet : (other : ℕ) → IsQuiet node.core other
   pub settled : AllSettled node.core node.seats
@@ -42,7 +44,7 @@ pub record IsIdle (node : NodeState) : Type 0 where
 abbrev pub IsLastStage : FabricValue → Type 0
 IsLastStage fabric = stages fabric.recon ≤ fabric.stage + 1
 
--- the seat found a node neither split nor complete since it had the first view
+-- since it had the view `v`, the seat found a node that was neither split nor complete
 pub record FoundUndone (v w : View) : Type 0 where
   pub looks : List (ℕ × Status)
   pub since : w.looked ≡ looks ++ v.looked
@@ -51,7 +53,7 @@ pub record FoundUndone (v w : View) : Type 0 where
   pub found : Contains looks (node, status)
   pub undone : (is_split status || is_complete status) ≡ false
 
--- the seat of a segment did
+-- this holds of the seat of segment `seg`
 pub record SegmentUndone (old new : List SeatValue) (seg : ℕ) : Type 0 where
   pub before : SeatValue
   pub after : SeatValue
@@ -59,7 +61,7 @@ pub record SegmentUndone (old new : List SeatValue) (seg : ℕ) : Type 0 where
   pub then : slice_get new seg ≡ Some after
   pub found : FoundUndone before.view after.view
 
--- a segment of the running stage that leaves or comes to the partition was found undone
+-- a segment of the running stage that leaves or enters the partition was found undone
 pub record SomeUndone (fabric : FabricValue) (part : ℕ) (old new : List SeatValue) : Type 0 where
   pub seg : ℕ
   pub segment : Range
@@ -67,11 +69,12 @@ pub record SomeUndone (fabric : FabricValue) (part : ℕ) (old new : List SeatVa
   pub takes : takes_part fabric.recon fabric.stage part segment ≡ true
   pub undone : SegmentUndone old new seg
 
--- a chunk came from some partition, waits to be sent to it or is to be cut for it
+-- a chunk has arrived from some partition, waits to be sent to it or is to be cut for it
 abbrev pub IsUnderWay : CoreValue → Type 0
 IsUnderWay core = (other : ℕ) × (IsQuiet core other → ⊥)
 
--- something is under way, the last chunk of a tree node was loaded, or a transaction waits in the last stage
+-- something is under way, the last chunk of a tree node was loaded, or a transaction waits in the
+-- last stage
 abbrev pub IsAtWork : FabricValue → CoreValue → Type 0
 IsAtWork fabric core =
     IsUnderWay core

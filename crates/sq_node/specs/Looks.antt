@@ -1,4 +1,4 @@
--- Looks at the nodes of trees, and nodes that are completed after looks.
+-- Looks at tree nodes, and the completion of nodes after looks.
 use Rattle.std.specs.Prelude.{◌≡◌, ◌⊎◌, ℕ, false, List, ◌++◌, length, remove, slice_get, Some, Contains}
 use Rattle.sq_tree.specs.declared.status.Status.{Status}
 use Rattle.sq_tree.specs.declared.status.Status.TheVariants.{Complete}
@@ -20,7 +20,7 @@ pub record SeatsLooked (old new : List SeatValue) : Type 0 where
   pub each : (seg : ℕ) (before after : SeatValue) → slice_get old seg ≡ Some before → slice_get new seg ≡ Some after
       → (after.tree ≡ before.tree) × OnlyLooked before.view after.view
 
--- the seat found the node with a status that isn't partial since it had the first view
+-- since it had the view `v`, the seat found the node with a status that isn't partial
 pub record FoundElse (v w : View) (n : ℕ) : Type 0 where
   pub looks : List (ℕ × Status)
   pub since : w.looked ≡ looks ++ v.looked
@@ -44,7 +44,7 @@ LooksAndCompletes v n w = (pull : ℕ) × (between : View) × OnlyLooked v betwe
 abbrev pub LooksOnly : View → ℕ → View → Type 0
 LooksOnly v n w = OnlyLooked v w × (IsSettled w n ⊎ FoundElse v w n)
 
--- one of the nodes, in this segment, was completed, after looks, and is left out
+-- one of the nodes, in segment `seg`, was completed after looks, and is removed from the list
 pub record CompletesOne (old : List SeatValue) (nodes : List (ℕ × ℕ)) (seg : ℕ) (new : List SeatValue)
     (left : List (ℕ × ℕ)) : Type 0 where
   pub place : ℕ
@@ -55,7 +55,7 @@ pub record CompletesOne (old : List SeatValue) (nodes : List (ℕ × ℕ)) (seg 
   pub completed : StepsAt seg (λ v w. LooksAndCompletes v node w) between new
   pub rest : left ≡ remove nodes place
 
--- none of the nodes was to be completed
+-- no node was to be completed
 pub record CompletesNone (old : List SeatValue) (nodes : List (ℕ × ℕ)) (new : List SeatValue) (left : List (ℕ × ℕ)) : Type 0 where
   pub looked : SeatsLooked old new
   pub none : (place seg n : ℕ) → slice_get nodes place ≡ Some (seg, n) → HasNoneToComplete old new seg n

@@ -13,8 +13,8 @@ use Rattle.sq_node_model.specs.NodeValue.{ReceiptValue, NodeAtWork, NodeValue, n
 use Rattle.sq_node.specs.FabricValue.{FabricValue}
 use Rattle.sq_node.specs.Ends.{EndValue, end_at, AreSendEnds, AreRecvEnds}
 
--- a partition, for each segment its seat at the segment's tree, for each partition its ends of the links to it and from it,
--- its receipts, and how many claims it has won
+-- a partition, its seat at the tree of each segment, its ends of the links to and from each
+-- partition, its receipts, and how many claims it has won
 pub record NodeState : Type 0 where
   pub core : CoreValue
   pub seats : List SeatValue
@@ -43,7 +43,7 @@ views_of seats seg = option_map_or (λ seat. seat.view) (slice_get seats seg) (f
 abbrev pub passed_by : List (Option EndValue) → ℕ → List ChunkValue
 passed_by ends other = option_map_or (λ end. end.pass.chunks) (end_at ends other) []
 
--- the node, with the views of its seats and what its ends did by keys
+-- the node, with what its seats and ends did, by segment and partition
 abbrev pub at_work : NodeState → NodeAtWork
 at_work node = record {
   core = node.core;
@@ -53,11 +53,12 @@ at_work node = record {
   receipts = node.receipts;
 }
 
--- the node by keys
+-- the node as a value of the model, with what it did by keys
 abbrev pub node_value : NodeState → NodeValue
 node_value node = node_of (at_work node)
 
--- how many transactions a log held before one with this reply, where it holds this many after it
+-- how many transactions a log held before one with this reply, if it holds `after` transactions
+-- after it
 abbrev pub position_before : ℕ → Reply → ℕ
 position_before after (Committed answers) = after - 1
 position_before after (Aborted at cause) = after

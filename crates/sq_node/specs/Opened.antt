@@ -23,7 +23,7 @@ use Rattle.sq_node.specs.FabricValue.{FabricValue, HasBegun, ends_of, AreStageLi
 use Rattle.sq_node.specs.NodeState.{NodeState, IsNodeOf}
 use Rattle.sq_node.specs.Holds.{HoldsUnder}
 
--- a partition with these families as a stage begins, whose move has started
+-- a partition with the families in `store` as stage `stage` begins, whose move has started
 abbrev pub running_core : OpeningValue → ℕ → ℕ → StoreValue → CoreValue
 running_core o stage part store = record (staged_core o stage part store) { started = true }
 
@@ -35,11 +35,11 @@ opened_stores o = map (λ part. (opened_part o part).store) (range_with_len 0 o.
 abbrev pub HaveOwned : OpeningValue → Type 0
 HaveOwned o = (part : ℕ) → part < o.old.parts → HasOwned o part (opened_part o part).store
 
--- the view of a tree's first seat, which has given out this many seats
+-- the view of a tree's first seat that has given out `given` seats
 abbrev pub first_view : ℕ → View
 first_view given = record (fresh true false) { given = given }
 
--- the first seats of these trees, which have each given out this many seats
+-- the first seats of these trees, which have each given out `given` seats
 pub record AreFirstSeats (given : ℕ) (trees : List TableId) (seats : List SeatValue) : Type 0 where
   pub of : AreSeatsOf trees seats
   pub each : (seg : ℕ) (seat : SeatValue) → slice_get seats seg ≡ Some seat → seat.view ≡ first_view given
@@ -49,7 +49,7 @@ pub record AreNewSeats (trees : List TableId) (seats : List SeatValue) : Type 0 
   pub of : AreSeatsOf trees seats
   pub each : (seg : ℕ) (seat : SeatValue) → slice_get seats seg ≡ Some seat → seat.view ≡ fresh false false
 
--- an end of a link along which nothing went
+-- an end of a link over which nothing went
 abbrev pub new_end : List LinkValue → ℕ → EndValue
 new_end links i = record { link = i; pass = record { queue = (link_at links i).queue; chunks = [] } }
 
@@ -59,26 +59,26 @@ pub record GaveEach (old new : List SeatValue) : Type 0 where
   pub each : (seg : ℕ) (before : SeatValue) → slice_get old seg ≡ Some before
       → slice_get new seg ≡ Some (record { tree = before.tree; view = gave before.view })
 
--- the first seats of a run's trees gave out this many more seats
+-- the first seats of a run's trees gave out `count` more seats
 abbrev pub GivesOut : ℕ → FabricValue → FabricValue → Type 0
 GivesOut count old new =
     (given : ℕ) → AreFirstSeats given old.trees old.seats → AreFirstSeats (given + count) new.trees new.seats
 
--- each link holds this many chunks
+-- each link holds `capacity` chunks
 abbrev pub HaveCapacity : ℕ → List LinkValue → Type 0
 HaveCapacity capacity links = (i : ℕ) (link : LinkValue) → slice_get links i ≡ Some link → link.capacity ≡ capacity
 
--- new links for a stage of a move, with room for this many chunks each
+-- new links for a stage of a move, with room for `capacity` chunks each
 pub record AreNewLinks (recon : ReconValue) (stage capacity : ℕ) (links : List LinkValue) : Type 0 where
   pub ends : AreStageLinks recon stage (map ends_of links)
   pub holds : HaveCapacity capacity links
 
--- one end of each link, where its link is
+-- one end of each link, at the place of its link
 pub record HasAllEnds (links : List LinkValue) (ends : List (Option EndValue)) : Type 0 where
   pub count : length ends ≡ length links
   pub each : (i : ℕ) → i < length links → end_at ends i ≡ Some (new_end links i)
 
--- the ends of a partition's links are here, each where its link is
+-- the ends of a partition's links are here, each at the place of its link
 pub record HasEnds (near : LinkValue → ℕ) (links : List LinkValue) (ends : List (Option EndValue)) (part : ℕ) : Type 0 where
   pub count : length ends ≡ length links
   pub each : (i : ℕ) → i < length links → near (link_at links i) ≡ part → end_at ends i ≡ Some (new_end links i)
@@ -93,7 +93,7 @@ pub record LeavesEnds (near : LinkValue → ℕ) (links : List LinkValue) (old :
 abbrev pub HavePassedNothing : List (Option EndValue) → Type 0
 HavePassedNothing ends = (other : ℕ) (end : EndValue) → end_at ends other ≡ Some end → end.pass.chunks ≡ []
 
--- a partition's ends of links along which nothing went, one for each of so many partitions
+-- a partition's ends of links over which nothing went, one for each of `parts` partitions
 abbrev pub AreNewEnds : (LinkValue → ℕ) → (LinkValue → ℕ) → List LinkValue → ℕ → ℕ → List (Option EndValue) → Type 0
 AreNewEnds near far links parts part ends = AreEnds near far links part ends × HavePassedNothing ends × (length ends ≡ parts)
 
@@ -107,56 +107,59 @@ pub record IsNewNode (fabric : FabricValue) (started : CoreValue) (node : NodeSt
   pub receipts : node.receipts ≡ []
   pub claims : node.claims ≡ 0
 
--- what a run shares fits an opening: what moves, how many partitions there are, and how many chunks a link holds
+-- what a run shares fits an opening: what moves, how many partitions there are, and how many chunks
+-- a link holds
 pub record IsFabricOf (o : OpeningValue) (fabric : FabricValue) : Type 0 where
   pub recon : fabric.recon ≡ o.recon
   pub parts : fabric.parts ≡ o.old.parts
   pub capacity : HaveCapacity o.config.capacity fabric.links
 
--- for each of these families the node of their partition, to which nothing has happened
+-- for each of `stores` the node of its partition, to which nothing has happened
 pub record AreNewNodes (o : OpeningValue) (fabric : FabricValue) (stores : List StoreValue) (nodes : List NodeState) : Type 0 where
   pub all : length nodes ≡ length stores
   pub each : (part : ℕ) (node : NodeState) → slice_get nodes part ≡ Some node
       → IsNewNode fabric (running_core o fabric.stage part (slice_index_or stores part empty)) node
 
--- for each of these families the node of their partition, to which nothing has happened. The first partition is this one
+-- for each of `stores` the node of its partition, to which nothing has happened; the first
+-- partition is `first`
 pub record AreNewNodesFrom (o : OpeningValue) (fabric : FabricValue) (first : ℕ) (stores : List StoreValue) (nodes : List NodeState) : Type 0 where
   pub all : length nodes ≡ length stores
   pub each : (at : ℕ) (node : NodeState) → slice_get nodes at ≡ Some node
       → IsNewNode fabric (running_core o fabric.stage (first + at) (slice_index_or stores at empty)) node
 
--- of each node all holds that a node keeps
+-- the invariant of nodes holds of each node
 abbrev pub AllHoldUnder : OpeningValue → BeganWith → List NodeState → Type 0
 AllHoldUnder o began nodes = (part : ℕ) (node : NodeState) → slice_get nodes part ≡ Some node → HoldsUnder o began node
 
--- each partition opens with the families that were given to the root keys that it owns
+-- each partition opens with the families that its root keys had at the start
 abbrev pub AllOpenWith : OpeningValue → BeganWith → List StoreValue → Type 0
 AllOpenWith o began stores = (part : ℕ) (store : StoreValue) → slice_get stores part ≡ Some store → OpensWith o began part store
 
--- all holds of the nodes under each beginning of the stage that has the run's receipts and these families, if a stage can
--- begin with it
+-- the invariant of nodes holds of each node under each beginning of the stage that has the run's
+-- receipts and these families, if a stage can begin with it
 abbrev pub AllHoldAsBegun : OpeningValue → FabricValue → List StoreValue → List NodeState → Type 0
 AllHoldAsBegun o fabric stores nodes =
     (began : BeganWith) → HasBegun began fabric → CanBegin o began → AllOpenWith o began stores → AllHoldUnder o began nodes
 
--- the opening has this stage, and as many partitions as there are stores and lists of jobs that were left
+-- the opening has this stage, and as many partitions as there are stores and lists of jobs that
+-- were left
 abbrev pub HasStageFor : OpeningValue → ℕ → ℕ → ℕ → Type 0
 HasStageFor o stage stores left = (stores ≡ o.old.parts) × (left ≡ o.old.parts) × (stage < stages o.recon)
 
--- the pump of a number, to which nothing has happened: its round has the segments of the running stage
+-- the pump `number`, to which nothing has happened: its round has the segments of the running stage
 pub record IsNewPump (fabric : FabricValue) (number : ℕ) (pump : PumpValue) : Type 0 where
   pub numbered : pump.number ≡ number
   pub wins : pump.wins ≡ no_wins
   pub seats : AreNewSeats fabric.trees pump.seats
   pub round : pump.round ≡ stage_round fabric.recon fabric.stage (length pump.seats)
 
--- this many pumps, to which nothing has happened
+-- `count` pumps, to which nothing has happened
 pub record AreNewPumps (fabric : FabricValue) (count : ℕ) (pumps : List PumpValue) : Type 0 where
   pub all : length pumps ≡ count
   pub each : (number : ℕ) (pump : PumpValue) → slice_get pumps number ≡ Some pump → IsNewPump fabric number pump
 
--- a stage of a run begins with a node for each partition, which has these families, with these receipts of earlier stages and
--- with this many pumps, and all seats are handed out
+-- a stage of a run begins with a node for each partition, which has the families in its store, with
+-- the receipts of earlier stages and with `count` pumps, and all seats are handed out
 pub record IsReopened (o : OpeningValue) (i : ℕ) (stores : List StoreValue) (told : List ReceiptValue) (count : ℕ)
     (fabric : FabricValue) (nodes : List NodeState) (pumps : List PumpValue) : Type 0 where
   pub shared : IsFabricOf o fabric
@@ -166,8 +169,8 @@ pub record IsReopened (o : OpeningValue) (i : ℕ) (stores : List StoreValue) (t
   pub each_node : AreNewNodes o fabric stores nodes
   pub each_pump : AreNewPumps fabric count pumps
 
--- a run opens in its first stage with a node for each partition, which keeps what nodes keep, and with this many pumps,
--- and all seats are handed out
+-- a run opens in its first stage with a node for each partition, of which the invariant of nodes
+-- holds, and with `count` pumps, and all seats are handed out
 pub record IsOpened (o : OpeningValue) (count : ℕ) (fabric : FabricValue) (nodes : List NodeState) (pumps : List PumpValue) : Type 0 where
   pub shared : IsFabricOf o fabric
   pub begun : HasBegun (first_began o) fabric

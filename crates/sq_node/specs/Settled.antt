@@ -1,4 +1,4 @@
--- What a node knows of the nodes of trees whose last chunk was loaded.
+-- What a node knows of the tree nodes whose last chunk was loaded.
 use Rattle.std.specs.Prelude.{◌≡◌, ◌⊎◌, ℕ, ◌<◌, Bool, true, List, length, slice_get, Some, Contains}
 use Rattle.sq_tree.specs.declared.status.Status.TheVariants.{Split, Complete}
 use Rattle.sq_tree.specs.Node.{is_above}
@@ -20,7 +20,7 @@ HasSettled seats seg n = (seat : SeatValue) × (slice_get seats seg ≡ Some sea
 abbrev pub AllSettled : CoreValue → List SeatValue → Type 0
 AllSettled core seats = (seg n : ℕ) → is_whole (loaded_at core seg) n ≡ true → HasSettled seats seg n
 
--- the seat found a node above the leaf complete
+-- the seat found a node above the leaf, or the leaf's own, complete
 pub record SawLeafComplete (v : View) (leaf : ℕ) : Type 0 where
   pub node : ℕ
   pub pull : ℕ
@@ -41,8 +41,9 @@ pub record SawSegmentComplete (seats : List SeatValue) (seg : ℕ) : Type 0 wher
 abbrev pub AreSeen : List SeatValue → List Bool → Type 0
 AreSeen seats complete = (seg : ℕ) → slice_get complete seg ≡ Some true → SawSegmentComplete seats seg
 
--- there is a flag for each segment, set only where it was found complete; and the nodes that are to be completed are of
--- segments, have their last chunk loaded, and are all of that kind that aren't settled
+-- there is a flag for each segment, set only if the segment was found complete; and the list of
+-- nodes to complete has nodes of segments whose last chunk is loaded, among them each that isn't
+-- settled
 pub record IsNode (core : CoreValue) (seats : List SeatValue) (to_complete : List (ℕ × ℕ)) (complete : List Bool) : Type 0 where
   pub flags : length complete ≡ length core.recon.segments
   pub seen : AreSeen seats complete

@@ -30,7 +30,7 @@ use Rattle.sq_node.specs.Looks.{SeatsLooked, HasNoneToComplete, LooksAndComplete
 use Rattle.sq_node.specs.NodeState.{NodeState}
 use Rattle.sq_node_model.specs.Steps.{receipts_after}
 
--- a chunk for this partition was cut
+-- a chunk for partition `dst` was cut
 pub record Cuts (old : NodeState) (dst : ℕ) (new : NodeState) : Type 0 where
   pub note : Note
   pub cut : CutsFor old.core dst note new.core
@@ -40,13 +40,13 @@ pub record Cuts (old : NodeState) (dst : ℕ) (new : NodeState) : Type 0 where
 abbrev pub HasNoneToCut : CoreValue → ℕ → Type 0
 HasNoneToCut core dst = may_cut (out_at core dst) ≡ false
 
--- for the first partition for which there is one to cut
+-- a chunk was cut for the first partition for which one can be cut
 abbrev pub CutStep : NodeState → Stepped → NodeState → Type 0
 CutStep old Did new = (dst : ℕ) × Cuts old dst new × ((lower : ℕ) → lower < dst → HasNoneToCut old.core lower)
 CutStep old Nothing new = (new ≡ old) × ((dst : ℕ) → HasNoneToCut old.core dst)
 CutStep old Memory new = new ≡ old
 
--- the chunk for this partition was sent
+-- the chunk for partition `dst` was sent
 pub record SendsChunk (old : NodeState) (dst : ℕ) (new : NodeState) : Type 0 where
   pub chunk : ChunkValue
   pub end : EndValue
@@ -57,20 +57,20 @@ pub record SendsChunk (old : NodeState) (dst : ℕ) (new : NodeState) : Type 0 w
     sends = slice_set old.sends dst (Some (passed_on end chunk));
   }
 
--- there is no chunk for this partition; or no link to it; or the link was full at one moment
+-- there is no chunk for partition `dst`, or no link to it, or the link was full at one moment
 abbrev pub HasNoneToSend : FabricValue → NodeState → ℕ → Type 0
 HasNoneToSend fabric node dst =
     ((out_at node.core dst).outbox ≡ None)
     ⊎ ((end_at node.sends dst ≡ None)
     ⊎ ((end : EndValue) × (end_at node.sends dst ≡ Some end) × WasFull fabric.links end))
 
--- for the first partition to which one can go
+-- the chunk for the first partition that can be sent one was sent
 abbrev pub SendStep : FabricValue → NodeState → Stepped → NodeState → Type 0
 SendStep fabric old Did new = (dst : ℕ) × SendsChunk old dst new × ((lower : ℕ) → lower < dst → HasNoneToSend fabric old lower)
 SendStep fabric old Nothing new = (new ≡ old) × ((dst : ℕ) → HasNoneToSend fabric old dst)
 SendStep fabric old Memory new = ⊥
 
--- a chunk came from this partition
+-- a chunk was received from partition `src`
 pub record Receives (old : NodeState) (src : ℕ) (new : NodeState) : Type 0 where
   pub chunk : ChunkValue
   pub end : EndValue
@@ -82,24 +82,25 @@ pub record Receives (old : NodeState) (src : ℕ) (new : NodeState) : Type 0 whe
     recvs = slice_set old.recvs src (Some (passed_on end chunk));
   }
 
--- the chunk that came from this partition isn't loaded; or there is no link from it; or the link was empty at one moment
+-- the chunk received from partition `src` isn't loaded, or there is no link from it, or the link
+-- was empty at one moment
 abbrev pub HasNoneToReceive : NodeState → ℕ → Type 0
 HasNoneToReceive node src =
     (is_some (inbox_at node.core src) ≡ true)
     ⊎ ((end_at node.recvs src ≡ None)
     ⊎ ((end : EndValue) × (end_at node.recvs src ≡ Some end) × WasEmpty end))
 
--- from the first partition from which one can come
+-- a chunk was received from the first partition from which one can be
 abbrev pub RecvStep : NodeState → Stepped → NodeState → Type 0
 RecvStep old Did new = (src : ℕ) × Receives old src new × ((lower : ℕ) → lower < src → HasNoneToReceive old lower)
 RecvStep old Nothing new = (new ≡ old) × ((src : ℕ) → HasNoneToReceive old src)
 RecvStep old Memory new = ⊥
 
--- a chunk came from this partition that can be loaded, and keys come from it in the running stage
+-- the chunk received from partition `src` can be loaded, and keys move from it in the running stage
 abbrev pub may_load_now : CoreValue → ℕ → Bool
 may_load_now core src = (stage_on core.recon src core.part == core.stage) && may_load core src
 
--- the chunk that came from this partition was loaded
+-- the chunk received from partition `src` was loaded
 pub record Loads (old : NodeState) (src : ℕ) (new : NodeState) : Type 0 where
   pub note : Note
   pub can : may_load_now old.core src ≡ true
@@ -107,18 +108,18 @@ pub record Loads (old : NodeState) (src : ℕ) (new : NodeState) : Type 0 where
   pub sound : IsChunk load.chunk
   pub after : new ≡ record old { core = new.core }
 
--- the chunk of the first partition that sent one that can be loaded
+-- the chunk of the first partition whose chunk can be loaded was loaded
 abbrev pub LoadStep : NodeState → Stepped → NodeState → Type 0
 LoadStep old Did new = (src : ℕ) × Loads old src new × ((lower : ℕ) → lower < src → may_load_now old.core lower ≡ false)
 LoadStep old Nothing new = (new ≡ old) × ((src : ℕ) → may_load_now old.core src ≡ false)
 LoadStep old Memory new = new ≡ old
 
--- nothing happened at a node but looks
+-- a node did nothing but look at trees
 pub record Looks (old new : NodeState) : Type 0 where
   pub seats : SeatsLooked old.seats new.seats
   pub after : new ≡ record old { seats = new.seats }
 
--- it is a node of a segment that leaves this partition in the running stage
+-- node `n` belongs to a segment that leaves this partition in the running stage
 pub record IsOutward (core : CoreValue) (seg n : ℕ) : Type 0 where
   pub segment : Range
   pub there : slice_get core.recon.segments seg ≡ Some segment
@@ -140,7 +141,7 @@ RequestStep old Did new = Begins old new
 RequestStep old Nothing new = Looks old new
 RequestStep old Memory new = new ≡ old
 
--- a node whose last chunk was loaded was completed, between looks
+-- a node whose last chunk was loaded was completed, after looks and before further ones
 pub record Completes (old new : NodeState) : Type 0 where
   pub seg : ℕ
   pub node : ℕ
@@ -158,33 +159,34 @@ CompleteStep old Nothing new =
     Looks old new × ((seg n : ℕ) → is_whole (loaded_at old.core seg) n ≡ true → HasNoneToComplete old.seats new.seats seg n)
 CompleteStep old Memory new = ⊥
 
--- how many claims a node has won after it claimed a leaf: one more where it won this one
+-- how many claims a node has won after it claimed a leaf: one more if it won this one
 abbrev pub claims_after : LeafClaim → ℕ → ℕ
 claims_after (leaf_claim.Claimed n) claims = claims + 1
 claims_after (leaf_claim.Held n st) claims = claims
 
--- the leaf of a segment was claimed for the partition's next reactive pull, or found to have one
+-- the leaf of a segment was claimed for the partition's next reactive pull, or was found to have a
+-- pull
 pub record ClaimsOne (seg leaf : ℕ) (old new : NodeState) : Type 0 where
   pub claim : LeafClaim
   pub few : old.claims < MAX_CLAIMS
   pub seats : StepsAt seg (ClaimsLeaf leaf (reactive_pull old.core.part old.claims) claim) old.seats new.seats
   pub counts : new.claims ≡ claims_after claim old.claims
 
--- the seats are as they were, and so is what they won
+-- the seats and the count of claims are unchanged
 abbrev pub ClaimsNone : NodeState → NodeState → Type 0
 ClaimsNone old new = (new.seats ≡ old.seats) × (new.claims ≡ old.claims)
 
--- the leaf of a segment was claimed, unless the node has won all claims that it may
+-- the leaf of a segment was claimed, unless the node has already won MAX_CLAIMS claims
 abbrev pub ClaimsAt : ℕ → ℕ → NodeState → NodeState → Type 0
 ClaimsAt seg leaf old new = ClaimsOne seg leaf old new ⊎ ((old.claims ≡ MAX_CLAIMS) × ClaimsNone old new)
 
--- what is claimed for a transaction that a partition took: the leaf where it waits, and else nothing
+-- what is claimed for a transaction that a partition took: the leaf if it waits, otherwise nothing
 abbrev pub ClaimsFor : Outcome → NodeState → NodeState → Type 0
 ClaimsFor (Done reply) old new = ClaimsNone old new
 ClaimsFor (Moved to) old new = ClaimsNone old new
 ClaimsFor (Waits seg leaf) old new = ClaimsAt seg leaf old new
 
--- a job was submitted that the partition doesn't refuse, and has its receipt if it ran
+-- a job was submitted, which the partition doesn't refuse, and has its receipt if it ran
 pub record Submits (old new : NodeState) : Type 0 where
   pub txn : TxnValue
   pub outcome : Outcome

@@ -14,11 +14,12 @@ summary Memory Did = Did
 summary Memory Nothing = Memory
 summary Memory Memory = Memory
 
--- what a step may do to a node, by its answer
+-- how a step may change a node, by its answer
 abbrev pub StepOf : Type 1
 StepOf = NodeState → Stepped → NodeState → Type 0
 
--- a step and then the next: each has an answer, there is a node between them, and both are answered by the summary
+-- a step and then the next: each has an answer, there is a node between them, and the answer of
+-- both is the summary
 pub record Then (Step Next : StepOf) (old : NodeState) (answer : Stepped) (new : NodeState) : Type 0 where
   pub between : NodeState
   pub answered : Stepped

@@ -1,4 +1,4 @@
-// The jobs that a node answered, and those that it has to post on.
+// The jobs that a node answered, and those that it has to forward.
 ghost use Rattle.std.specs.Prelude.{◌≡◌, ◌↔◌, ◌++◌, ◌∷◌, [], true, length, IsTrue, OnOk};
 
 use crate::fabric::Fabric;
@@ -10,15 +10,15 @@ use std::collections::VecDeque;
 use std::marker::Model;
 use std::sync::Wait;
 
-/// A job on its way to a partition.
+/// A job to be forwarded to a partition.
 #[derive(Debug, Drop)]
 pub struct Post {
-    /// The partition.
+    /// The partition that the job goes to.
     pub to: PartId,
     pub job: Txn,
 }
 
-/// The receipts of a node, and the jobs that it has to post on. To a contract it is a `DeskValue`.
+/// The receipts of a node, and the jobs that it has to forward. To a contract it is a `DeskValue`.
 #[derive(Debug, Drop)]
 pub(crate) struct Desk {
     receipts: Vec<Receipt>,
@@ -41,7 +41,7 @@ impl Model for Desk {
 }
 
 impl Desk {
-    /// A desk on which nothing lies.
+    /// Returns a desk without receipts or jobs.
     pub(crate) fn new(alloc: Global) -> Desk
         ensures receipts { result.receipts ≡ [] }
         ensures posts { result.posts ≡ [] }
@@ -52,7 +52,7 @@ impl Desk {
         }
     }
 
-    /// These jobs are to be posted on, and no others.
+    /// Replaces the jobs to forward by `posts`.
     pub(crate) fn keep(&mut self, posts: VecDeque<Post>)
         ensures receipts { self.new.receipts ≡ self.old.receipts }
         ensures posts { self.new.posts ≡ posts.items }
@@ -60,14 +60,14 @@ impl Desk {
         self.posts = posts;
     }
 
-    /// The receipts, in the order in which they were added.
+    /// Returns the receipts, in the order in which they were added.
     pub(crate) fn receipts(&self) -> &[Receipt]
         ensures { result.now ≡ self.now.receipts }
     {
         &self.receipts
     }
 
-    /// Takes room for one more receipt and for one more job.
+    /// Reserves room for one more receipt and one more job.
     pub(crate) fn reserve(&mut self) -> Result<(), AllocError>
         ensures receipts { self.new.receipts ≡ self.old.receipts }
         ensures posts { self.new.posts ≡ self.old.posts }
@@ -77,7 +77,7 @@ impl Desk {
         self.posts.reserve(1)
     }
 
-    /// Adds a receipt behind the others, for which there is room.
+    /// Appends `receipt`, for which there is room.
     pub(crate) fn add(&mut self, receipt: Receipt)
         requires { self.old.has_room ≡ true }
         ensures receipts { self.new.receipts ≡ self.old.receipts ++ receipt ∷ [] }
@@ -86,7 +86,8 @@ impl Desk {
         self.receipts.push_reserved(receipt);
     }
 
-    /// Posts a job on. Where the queue of that partition is full the job stays here.
+    /// Forwards `job` to partition `to`. If the queue of `to` is full or memory runs out, the job
+    /// stays here.
     pub(crate) fn post<R: Wait>(&mut self, rt: &R, fabric: &Fabric, to: PartId, job: Txn)
         requires { self.old.has_room ≡ true }
         ensures { self.new.receipts ≡ self.old.receipts }
@@ -96,7 +97,8 @@ impl Desk {
         }
     }
 
-    /// Posts the jobs in their order, up to the first whose queue is full. This one and those behind it stay.
+    /// Forwards the jobs in their order, up to the first whose queue is full or for which memory
+    /// runs out. That one and those after it stay.
     pub(crate) fn send_pending<R: Wait>(&mut self, rt: &R, fabric: &Fabric)
         ensures { self.new.receipts ≡ self.old.receipts }
     {
@@ -111,21 +113,21 @@ impl Desk {
         }
     }
 
-    /// How many jobs are left to post on.
+    /// Returns how many jobs are left to forward.
     pub(crate) fn pending(&self) -> usize
         ensures { result ≡ length self.now.posts }
     {
         self.posts.len()
     }
 
-    /// Whether no job is left to post on.
+    /// Returns true if no job is left to forward.
     pub(crate) fn is_sent(&self) -> bool
         ensures { IsTrue result ↔ (self.now.posts ≡ []) }
     {
         self.posts.is_empty()
     }
 
-    /// The receipts, and the jobs that are to be posted on.
+    /// Returns the receipts, and the jobs that are left to forward.
     pub(crate) fn into_parts(self) -> (Vec<Receipt>, VecDeque<Post>)
         ensures receipts { result.0.items ≡ self.receipts }
         ensures posts { result.1.items ≡ self.posts }

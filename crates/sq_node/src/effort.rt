@@ -1,24 +1,25 @@
-// What a node has done, by which a turn is shared out.
+// The work that a node has done, by which a turn is divided.
 
-/// What a node has done since its stage began. Work for jobs and for chunks is counted in operations of transactions: to
-/// cut or to load a family takes about as long as one operation, so that both counts can be weighed against each other.
+/// The work that a node has done since its stage began. Work on jobs and on chunks is counted in
+/// operations of transactions: to cut or to load a family takes about as long as one operation, so
+/// both counts can be compared.
 #[derive(Clone, Copy, Debug, PartialEq, Eq)]
 pub struct Effort {
-    /// For jobs that it took or resumed.
+    /// Operations for jobs that it took or resumed.
     pub jobs: u64,
-    /// For chunks that it cut or loaded.
+    /// Operations for chunks that it cut or loaded.
     pub chunks: u64,
-    /// How many families it loaded, and how many bytes these had.
+    /// How many families it loaded, and how many bytes they had.
     pub loaded: u64,
     pub loaded_bytes: u64,
-    /// How many jobs it took that then waited for rows.
+    /// How many of the jobs that it took had to wait for rows.
     pub waits: u64,
-    /// The id of the last of these jobs; 0 where there is none.
+    /// The id of the last of these jobs, or 0 if there is none.
     pub last_wait: u64,
 }
 
 impl Effort {
-    /// Nothing.
+    /// No work.
     pub(crate) const NONE: Effort = Effort {
         jobs: 0,
         chunks: 0,
@@ -28,13 +29,14 @@ impl Effort {
         last_wait: 0,
     };
 
-    /// Counts a job that was answered after so many operations, and two more, for its way there and its receipt.
+    /// Counts a job that was answered after `operations` operations, plus two for its delivery and
+    /// its receipt.
     pub(crate) fn add_answer(&mut self, operations: usize) {
         self.add_jobs(2);
         self.add_jobs(operations as u64);
     }
 
-    /// Counts a job of this id and so many operations that waits, by an eighth of them, for its copy, and two more.
+    /// Counts job `id`, which has to wait: an eighth of its `operations`, for its copy, plus two.
     pub(crate) fn add_wait(&mut self, id: u64, operations: usize) {
         self.add_jobs(2);
         self.add_jobs(operations as u64 / 8);
@@ -42,12 +44,13 @@ impl Effort {
         self.last_wait = id;
     }
 
-    /// Counts a job that is posted on, as two operations.
+    /// Counts a job that is forwarded, as two operations.
     pub(crate) fn add_post(&mut self) {
         self.add_jobs(2);
     }
 
-    /// Counts a chunk of so many families that was cut, and four more, for the chunk itself.
+    /// Counts a chunk of `families` families that was cut, plus four operations for the chunk
+    /// itself.
     pub(crate) fn add_chunk(&mut self, families: usize) {
         self.chunks = self
             .chunks
@@ -55,7 +58,8 @@ impl Effort {
             .saturating_add(4);
     }
 
-    /// Counts a chunk of so many families and bytes that was loaded, like one that was cut.
+    /// Counts a chunk of `families` families and `bytes` bytes that was loaded, at the same cost as
+    /// one that was cut.
     pub(crate) fn add_load(&mut self, families: usize, bytes: u64) {
         self.add_chunk(families);
         self.loaded = self.loaded.saturating_add(families as u64);

@@ -1,4 +1,4 @@
-// The ends that a node has of links.
+// The ends of links that a node has.
 ghost use Rattle.std.specs.Prelude.{◌≡◌, ◌<◌, length, Some, None, OnOk, OnErr, IfErr, IfSome, IfNone};
 ghost use Rattle.sq_node.specs.Ends.{EndValue, passed_on, IsEnd, WasFull, WasEmpty};
 
@@ -10,16 +10,14 @@ use std::sync::Wait;
 /// An end of a link, with its pass.
 #[derive(Drop)]
 pub struct LinkEnd<P> {
-    /// Where the link is among those of the run.
+    /// The place of the link among those of the run.
     pub link: usize,
-    /// The right to send on it, or to receive from it.
+    /// The right to send on the link, or to receive from it.
     pub pass: P,
 }
 
-/// The sending end of a link.
 pub type SendEnd = LinkEnd<SendPass>;
 
-/// The receiving end of a link.
 pub type RecvEnd = LinkEnd<RecvPass>;
 
 /// A node's end of its link with one partition, if there is one.
@@ -28,10 +26,10 @@ pub struct PartEnd<S: Side> {
     end: Option<LinkEnd<LinkPass<S>>>,
 }
 
-/// What a node sends to a partition by.
+/// A node's sending end of its link to a partition.
 pub type Sender = PartEnd<Sends>;
 
-/// What a node receives from a partition by.
+/// A node's receiving end of its link from a partition.
 pub type Receiver = PartEnd<Receives>;
 
 impl<S: Side> Model for PartEnd<S> {
@@ -44,14 +42,14 @@ impl<S: Side> Model for PartEnd<S> {
 }
 
 impl<S: Side> PartEnd<S> {
-    /// A holder of this end, or of none.
+    /// Returns a holder of `end`, or of none.
     pub(crate) fn new(end: Option<LinkEnd<LinkPass<S>>>) -> PartEnd<S>
         ensures { result ≡ end }
     {
         PartEnd { end }
     }
 
-    /// Takes the end and leaves none.
+    /// Takes the end out and leaves none.
     pub(crate) fn take(&mut self) -> PartEnd<S>
         ensures taken { result ≡ self.old }
         ensures left { self.new ≡ None }
@@ -69,7 +67,8 @@ impl<S: Side> PartEnd<S> {
 }
 
 impl PartEnd<Sends> {
-    /// Sends the chunk. It comes back where there is no link, and where the link was full at one moment of the call.
+    /// Sends `chunk`. It is returned if there is no link, or the link was full at one moment of the
+    /// call.
     pub(crate) fn send<R: Wait>(
         &mut self,
         rt: &R,
@@ -93,7 +92,8 @@ impl PartEnd<Sends> {
 }
 
 impl PartEnd<Receives> {
-    /// The next chunk. There is none where there is no link, and where the link was empty at one moment of the call.
+    /// Returns the next chunk, or `None` if there is no link or the link was empty at one moment of
+    /// the call.
     pub(crate) fn recv<R: Wait>(&mut self, rt: &R, links: &[SharedLink]) -> Option<Chunk>
         requires { (end : EndValue) → self.old ≡ Some end → IsEnd links.now end }
         ensures received { IfSome result (λ chunk.

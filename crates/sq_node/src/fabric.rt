@@ -1,5 +1,5 @@
 // What the nodes of a run share.
-ghost use Rattle.std.specs.Prelude.{◌≡◌, ◌↔◌, ◌+◌, ◌<◌, ◌≤◌, IsTrue, IfErr, OnOk};
+ghost use Rattle.std.specs.Prelude.{◌≡◌, ◌↔◌, ◌+◌, ◌<◌, ◌≤◌, false, IsTrue, IfErr, OnOk};
 ghost use Rattle.sq_ranges.specs.Prelude.{stages};
 ghost use Rattle.sq_node.specs.FabricValue.{IsFabric};
 
@@ -28,11 +28,12 @@ pub const REQUEST_PLACES: usize = 256;
 /// How many jobs the queue of a partition holds.
 pub const JOB_PLACES: usize = 4096;
 
-// What `posted` has besides, once the run takes no more jobs.
+// The bit that is set in `posted` once the run takes no more jobs.
 const CLOSED: u64 = 0x8000_0000_0000_0000;
 
-/// What the nodes of a run share by `&`: the split trees, the links, for each partition a queue of requests to begin
-/// nodes and a queue of jobs, and the receipts of earlier stages. To a contract it is a `FabricValue`.
+/// What the nodes of a run share by `&`: the split trees, the links, for each partition a queue of
+/// requests to begin nodes and a queue of jobs, and the receipts of earlier stages. To a contract
+/// it is a `FabricValue`.
 #[derive(Drop)]
 pub struct Fabric {
     recon: Recon,
@@ -44,7 +45,7 @@ pub struct Fabric {
     links: Vec<SharedLink>,
     receipts: Vec<Receipt>,
     requests: Vec<ArrayQueue<Request>>,
-    jobs: Vec<ArrayQueue<Txn>>,
+    jobs: Vec<ArrayQueue<Box<Txn>>>,
     posted: AtomicU64,
     answered: AtomicU64,
 }
@@ -64,49 +65,58 @@ impl Model for Fabric {
         × (IsTrue f.is_last_stage ↔ (stages f.recon ≤ f.stage + 1)) };
 }
 
-/// What a run shared, once its threads are joined.
+/// What a run shared, after its threads were joined.
 #[derive(Drop)]
 pub struct FabricParts {
-    /// What moved.
+    /// The reconfiguration that ran.
     pub recon: Recon,
     /// The stage that ran.
     pub stage: u64,
-    /// For each segment its split tree.
+    /// The split tree of each segment.
     pub trees: Vec<StatusTree>,
-    /// For each segment the seat that its tree was opened with.
+    /// The seat that each segment's tree was opened with.
     pub seats: Vec<TreeSeat>,
     pub links: Vec<SharedLink>,
-    /// The receipts of earlier stages, in the order in which they were handed in.
+    /// The receipts of earlier stages, in the order in which they were passed in.
     pub receipts: Vec<Receipt>,
-    /// For each partition the requests that weren't taken.
+    /// The requests that each partition has not taken.
     pub requests: Vec<ArrayQueue<Request>>,
-    /// For each partition the jobs that weren't taken.
-    pub jobs: Vec<ArrayQueue<Txn>>,
+    /// The jobs that each partition has not taken.
+    pub jobs: Vec<ArrayQueue<Box<Txn>>>,
+}
+
+/// A job that was not posted.
+#[derive(Debug, Drop)]
+pub struct Unposted {
+    pub job: Txn,
+    /// True if memory ran out; false if there is no such partition, if its queue was full, or if
+    /// the run takes no more jobs.
+    pub is_memory: bool,
 }
 
 impl Fabric {
-    /// What moves.
+    /// Returns the reconfiguration that runs.
     pub fn recon(&self) -> &Recon
         ensures { result.now ≡ self.now.recon }
     {
         &self.recon
     }
 
-    /// The stage that runs.
+    /// Returns the stage that runs.
     pub fn stage(&self) -> u64
         ensures { result ≡ self.now.stage }
     {
         self.stage
     }
 
-    /// How many partitions there are.
+    /// Returns how many partitions there are.
     pub fn parts(&self) -> u8
         ensures { result ≡ self.now.parts }
     {
         self.parts
     }
 
-    /// For each segment its split tree.
+    /// Returns the split tree of each segment.
     pub fn trees(&self) -> &[StatusTree]
         ensures trees { result.now ≡ self.now.trees }
         ensures fabric { IsFabric self.now }
@@ -114,7 +124,7 @@ impl Fabric {
         &self.trees
     }
 
-    /// The links.
+    /// Returns the links.
     pub fn links(&self) -> &[SharedLink]
         ensures links { result.now ≡ self.now.links }
         ensures fabric { IsFabric self.now }
@@ -122,7 +132,7 @@ impl Fabric {
         &self.links
     }
 
-    /// What a pull needs of it.
+    /// Returns the parts that a pull needs.
     pub fn shared(&self) -> Shared<'_>
         ensures recon { result.recon.now ≡ self.now.recon }
         ensures trees { result.trees.now ≡ self.now.trees }
@@ -135,31 +145,56 @@ impl Fabric {
         }
     }
 
-    /// Posts `job` to `part`. The job is returned if there is no such partition, if its queue was full at one moment of
-    /// the call, or if the run takes no more jobs: since [`Fabric::close_jobs`], or since a node closed the run by
-    /// [`Node::close_if_idle`](crate::Node::close_if_idle). A job that was taken is answered, or what is gathered of the
-    /// run hands it out.
-    pub fn post<R: Wait>(&self, rt: &R, part: PartId, job: Txn) -> Result<(), Txn>
+    /// Posts `job` to `part`. The job is returned if there is no such partition, if its queue was
+    /// full at one moment of the call, if memory ran out, or if the run takes no more jobs: after
+    /// [`Fabric::close_jobs`], or after a node closed the run by
+    /// [`Node::close_if_idle`](crate::Node::close_if_idle). A job that was taken is answered, or it
+    /// is among the jobs left over when the run is gathered.
+    pub fn post<R: Wait>(&self, rt: &R, part: PartId, job: Txn) -> Result<(), Unposted>
         ensures there { OnOk result (part < self.now.parts) }
-        ensures back { IfErr result (λ back. back ≡ job) }
+        ensures back { IfErr result (λ back. back.job ≡ job) }
+        ensures memory { IfErr result (λ back. IsTrue back.is_memory → part < self.now.parts) }
     {
         if part.number() >= self.parts {
-            return Err(job);
+            return Err(Unposted {
+                job,
+                is_memory: false,
+            });
         }
-        // It counts before it can be taken: nobody sees all jobs answered while this one isn't.
+        match Box::new(*self.jobs.allocator(), job) {
+            Ok(job) => self.post_boxed(rt, part, job),
+            Err(failed) => Err(Unposted {
+                job: failed.value,
+                is_memory: true,
+            }),
+        }
+    }
+
+    // Posts `job` to an existing partition.
+    fn post_boxed<R: Wait>(&self, rt: &R, part: PartId, job: Box<Txn>) -> Result<(), Unposted>
+        ensures { IfErr result (λ back. (back.job ≡ job.value) × (back.is_memory ≡ false)) }
+    {
+        // The job counts before it can be taken: no thread finds all jobs answered while this one
+        // is not.
         let posted = self.posted.fetch_add(1, Ordering::SeqCst);
         let put = if posted >= CLOSED {
             Err(job)
         } else {
-            self.put_job(rt, part, job)
+            self.push_job(rt, part, job)
         };
-        if put.is_err() {
-            self.posted.fetch_sub(1, Ordering::SeqCst);
+        match put {
+            Ok(()) => Ok(()),
+            Err(job) => {
+                self.posted.fetch_sub(1, Ordering::SeqCst);
+                Err(Unposted {
+                    job: Box::into_inner(job),
+                    is_memory: false,
+                })
+            }
         }
-        put
     }
 
-    /// The run takes no more jobs.
+    /// Closes the run to jobs.
     pub fn close_jobs<R: Wait>(&self, rt: &R) {
         for _ in rt.forever() {
             let posted = self.posted.load(Ordering::SeqCst);
@@ -169,7 +204,7 @@ impl Fabric {
         }
     }
 
-    /// The run takes jobs again.
+    /// Opens the run to jobs again.
     pub fn open_jobs<R: Wait>(&self, rt: &R) {
         for _ in rt.forever() {
             let posted = self.posted.load(Ordering::SeqCst);
@@ -179,8 +214,8 @@ impl Fabric {
         }
     }
 
-    /// Asks a partition to begin a node. The request comes back where there is no such partition, and where that queue was full
-    /// at one moment of the call.
+    /// Asks partition `part` to begin a node. `request` is returned if there is no such partition,
+    /// or its queue was full at one moment of the call.
     pub fn request<R: Wait>(&self, rt: &R, part: PartId, request: Request) -> Result<(), Request>
         ensures there { OnOk result (part < self.now.parts) }
         ensures back { IfErr result (λ back. back ≡ request) }
@@ -194,27 +229,28 @@ impl Fabric {
         }
     }
 
-    /// Whether as many jobs were answered as were posted. This is a hint, at no certain moment.
+    /// Returns true if as many jobs were answered as were posted. This is a hint: the counts belong
+    /// to no single moment.
     pub fn is_answered(&self) -> bool {
         let answered = self.answered.load(Ordering::SeqCst);
         answered == self.posted.load(Ordering::SeqCst) & !CLOSED
     }
 
-    /// The receipts of earlier stages.
+    /// Returns the receipts of earlier stages.
     pub fn receipts(&self) -> &[Receipt]
         ensures { result.now ≡ self.now.receipts }
     {
         &self.receipts
     }
 
-    /// Whether the stage that runs is the last one.
+    /// Returns true if the stage that runs is the last one.
     pub(crate) fn is_last_stage(&self) -> bool
         ensures { IsTrue result ↔ (stages self.now.recon ≤ self.now.stage + 1) }
     {
         self.is_last_stage
     }
 
-    /// What was shared.
+    /// Returns the parts, by value.
     pub fn into_parts(self) -> FabricParts
         ensures recon { result.recon ≡ self.recon }
         ensures stage { result.stage ≡ self.stage }
@@ -236,9 +272,20 @@ impl Fabric {
         }
     }
 
-    /// Puts a job into the queue of a partition.
+    /// Puts `job` into the queue of partition `part`. It is returned if the queue is full, or if
+    /// memory runs out.
     pub(crate) fn put_job<R: Wait>(&self, rt: &R, part: PartId, job: Txn) -> Result<(), Txn>
         ensures { IfErr result (λ back. back ≡ job) }
+    {
+        match Box::new(*self.jobs.allocator(), job) {
+            Ok(job) => self.push_job(rt, part, job).map_err(Box::into_inner),
+            Err(failed) => Err(failed.value),
+        }
+    }
+
+    /// Puts `job` into the queue of partition `part`, or returns it.
+    fn push_job<R: Wait>(&self, rt: &R, part: PartId, job: Box<Txn>) -> Result<(), Box<Txn>>
+        ensures { IfErr result (λ back. back.value ≡ job.value) }
     {
         match self.jobs.get(usize::from(part.number())) {
             Some(queue) => queue.push(rt, job),
@@ -246,12 +293,13 @@ impl Fabric {
         }
     }
 
-    /// The next job of a partition.
+    /// Takes the next job of partition `part`.
     pub(crate) fn take_job<R: Wait>(&self, rt: &R, part: PartId) -> Option<Txn> {
-        self.jobs.get(usize::from(part.number()))?.pop(rt)
+        let job = self.jobs.get(usize::from(part.number()))?.pop(rt)?;
+        Some(Box::into_inner(job))
     }
 
-    /// The next request to a partition.
+    /// Takes the next request to partition `part`.
     pub(crate) fn take_request<R: Wait>(&self, rt: &R, part: PartId) -> Option<Request> {
         self.requests.get(usize::from(part.number()))?.pop(rt)
     }
@@ -260,15 +308,17 @@ impl Fabric {
         self.answered.fetch_add(1, Ordering::SeqCst);
     }
 
-    /// The run takes no more jobs if as many were answered as were posted, and whether it takes none now. A job that is posted
-    /// meanwhile either counts before, or comes back.
+    /// Closes the run to jobs if as many were answered as were posted, and returns true if it is
+    /// closed now and each posted job is answered. A job that is posted during the call either
+    /// counts before, or is returned to its poster.
     pub(crate) fn close_answered(&self) -> bool {
         let answered = self.answered.load(Ordering::SeqCst);
         self.change_posted(answered, answered | CLOSED)
             || (self.posted.load(Ordering::SeqCst) >= CLOSED && self.is_answered())
     }
 
-    // Writes how many jobs were posted, where that is still what it was.
+    // Writes how many jobs were posted, unless the count has changed since it was `old`. Returns
+    // true if it did.
     fn change_posted(&self, old: u64, new: u64) -> bool {
         self.posted
             .compare_exchange(old, new, Ordering::SeqCst, Ordering::SeqCst)

@@ -11,7 +11,7 @@ use sq_exec::{CoreParts, PartCore};
 use sq_plan::PartId;
 use sq_pull::Puller;
 use sq_ranges::SegId;
-use sq_runs::RunStore;
+use sq_slab::SlabStore;
 use sq_status::TreeSeat;
 use sq_tree::NodeId;
 use std::alloc::Global;
@@ -23,21 +23,21 @@ mod links;
 mod trees;
 mod turn;
 
-/// A partition in a thread of its own: the partition, its seat at each tree, its ends of the links, and the receipts of
-/// the jobs that it answered. To a contract it is a `NodeState`.
+/// A partition in a thread of its own: the partition, its seat at each tree, its ends of the links,
+/// and the receipts of the jobs that it answered. To a contract it is a `NodeState`.
 #[derive(Drop)]
 pub struct Node {
-    core: PartCore<RunStore>,
+    core: PartCore<SlabStore>,
     seats: Vec<TreeSeat>,
     sends: Vec<Sender>,
     recvs: Vec<Receiver>,
     desk: Desk,
     puller: Puller,
-    // The nodes of trees whose last chunk was loaded, and that aren't known to be complete.
+    // The tree nodes whose last chunk was loaded and that may not be complete yet.
     to_complete: Vec<(SegId, NodeId)>,
-    // For each segment whether node 1 was seen to read complete.
+    // For each segment, whether its node 1 was seen to read complete.
     complete: Vec<bool>,
-    // Whether the tree node that was completed last was the last of its segment.
+    // Whether the last tree node that was completed was the last of its segment.
     completes_segment: bool,
     effort: Effort,
 }
@@ -66,22 +66,22 @@ impl Model for Node {
         × IsNode n.core.core n.seats.items n.to_complete.items n.complete.items };
 }
 
-/// What a node has in a run besides its partition.
+/// The parts of a node beside its partition.
 #[derive(Drop)]
 pub(crate) struct SeatsAndEnds {
-    /// For each segment its seat at the tree.
+    /// Its seat at the tree of each segment.
     pub seats: Vec<TreeSeat>,
-    /// For each partition its end of the link to it.
+    /// Its end of the link to each partition.
     pub sends: Vec<Sender>,
-    /// For each partition its end of the link from it.
+    /// Its end of the link from each partition.
     pub recvs: Vec<Receiver>,
-    /// For each segment whether node 1 was seen to read complete.
+    /// For each segment, whether its node 1 was seen to read complete.
     pub complete: Vec<bool>,
 }
 
 impl Node {
-    /// The node of a partition at this place of a run. Its move has started.
-    pub(crate) fn open(alloc: Global, mut core: PartCore<RunStore>, place: SeatsAndEnds) -> Node
+    /// Returns the node of a partition with its seats and ends. Its move has started.
+    pub(crate) fn open(alloc: Global, mut core: PartCore<SlabStore>, place: SeatsAndEnds) -> Node
         requires part { core.core.part < MAX_OWNERS }
         requires fresh { (seg n : ℕ) → is_whole (loaded_at core.core seg) n ≡ false }
         requires flags { place.complete.items ≡ replicate (length core.core.recon.segments) false }
@@ -108,31 +108,31 @@ impl Node {
         }
     }
 
-    /// These jobs are to be posted on from here, and no others.
+    /// Replaces the jobs to forward by `posts`.
     pub(crate) fn keep_posts(&mut self, posts: VecDeque<Post>)
         ensures { self.new ≡ self.old }
     {
         self.desk.keep(posts);
     }
 
-    /// The receipts of the jobs that it answered, in the order in which they were written.
+    /// Returns the receipts of the jobs that it answered, in the order in which they were written.
     pub fn receipts(&self) -> &[Receipt]
         ensures { result.now ≡ self.now.receipts }
     {
         self.desk.receipts()
     }
 
-    /// How many jobs it has to post on.
+    /// Returns how many jobs it has to forward.
     pub fn pending_jobs(&self) -> usize {
         self.desk.pending()
     }
 
-    /// What it has done since its stage began.
+    /// Returns the work that it has done since its stage began.
     pub fn effort(&self) -> Effort {
         self.effort
     }
 
-    /// Its partition.
+    /// Returns its partition.
     pub fn part(&self) -> PartId
         ensures { result ≡ self.now.core.part }
     {
@@ -140,22 +140,21 @@ impl Node {
     }
 }
 
-/// What a node had, once its thread is joined.
+/// The parts of a node, after its thread was joined.
 #[derive(Drop)]
 pub struct NodeParts {
-    /// The partition.
     pub part: PartId,
-    /// What the partition held.
-    pub core: CoreParts<RunStore>,
-    /// For each segment the seat at its tree.
+    /// The parts of its partition.
+    pub core: CoreParts<SlabStore>,
+    /// Its seat at the tree of each segment.
     pub seats: Vec<TreeSeat>,
-    /// For each partition the end of the link to it.
+    /// Its end of the link to each partition.
     pub sends: Vec<Sender>,
-    /// For each partition the end of the link from it.
+    /// Its end of the link from each partition.
     pub recvs: Vec<Receiver>,
     /// The receipts, in the order in which they were written.
     pub receipts: Vec<Receipt>,
-    /// The jobs that were to be posted on.
+    /// The jobs that it still had to forward.
     pub posts: VecDeque<Post>,
     /// The claims that it won, with the requests that weren't sent.
     pub puller: Puller,

@@ -5,13 +5,13 @@ use std::marker::Model;
 /// The answer to a transaction. To a contract it is a `ReceiptValue`.
 #[derive(Debug, Drop)]
 pub struct Receipt {
-    /// The transaction's id.
+    /// The id of the transaction.
     pub id: u64,
-    /// Its root key.
+    /// The transaction's root key.
     pub root: Root,
-    /// How many transactions the log of the root key held before it.
+    /// How many transactions the log of the root key held before this one.
     pub position: u64,
-    /// What it was answered.
+    /// The answer.
     pub reply: Reply,
 }
 

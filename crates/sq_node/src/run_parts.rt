@@ -9,7 +9,7 @@ use sq_pull::Pump;
 pub struct RunParts {
     /// What its nodes and its pumps share.
     pub fabric: Fabric,
-    /// A node for each partition, in their order.
+    /// The nodes, one for each partition, in their order.
     pub nodes: Vec<Node>,
     pub pumps: Vec<Pump>,
 }

@@ -14,8 +14,8 @@ pub enum Stepped {
 }
 
 impl Stepped {
-    /// Returns what this step and `next` did together: `Did` if one of them did something, else `Memory` if one of them
-    /// lacked memory, else `Nothing`.
+    /// Returns what this step and `next` did together: `Did` if one of them did something, else
+    /// `Memory` if one of them lacked memory, else `Nothing`.
     pub(crate) fn and(self, next: Stepped) -> Stepped
         ensures { result ≡ summary self next }
     {

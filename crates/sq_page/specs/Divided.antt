@@ -15,8 +15,8 @@ use Rattle.sq_page.specs.Named.{stored}
 abbrev pub is_owned : PlanValue → ℕ → ℕ → Bool
 is_owned plan part root = owner plan root == part
 
--- the part of a page that is a partition's: the receipts and the jobs of its root keys, and families of
--- its store, among them each that one of these receipts names
+-- partition `n`'s part of a page: the receipts and the jobs of its root keys, and families of its
+-- store, among them each that one of these receipts names
 pub record IsPartAt (plan : PlanValue) (page : Page) (n : ℕ) (part : Page) : Type 0 where
   pub still : IsStill (length page.run.stores) part.run
   pub receipts : part.run.receipts ≡ filter (λ receipt. is_owned plan n receipt.root) page.run.receipts
@@ -27,19 +27,19 @@ pub record IsPartAt (plan : PlanValue) (page : Page) (n : ℕ) (part : Page) : T
   pub copied : (receipt : ReceiptValue) (family : FamilyValue) → Contains part.run.receipts receipt
       → stored page.run.stores n receipt.root ≡ Some family → stored part.run.stores n receipt.root ≡ Some family
 
--- this is the verdict on a page under the opening of the bases of its families
+-- the verdict on a page under the opening of the bases of its families
 pub record IsAudited (plan : PlanValue) (page : Page) (verdict : Verdict) : Type 0 where
   pub rest : OpeningValue
   pub opening : IsOpeningOfBases plan page.run.stores rest
   pub judged : IsVerdict rest page.run page.jobs.items verdict
 
--- this is the verdict on the part of a page that is a partition's
+-- the verdict on partition `n`'s part of a page
 pub record IsAuditedAt (plan : PlanValue) (page : Page) (n : ℕ) (verdict : Verdict) : Type 0 where
   pub part : Page
   pub is_part : IsPartAt plan page n part
   pub audited : IsAudited plan part verdict
 
--- of each of the parts of a page this is the verdict, if there is one
+-- for each part of a page, the verdict on it, if there is one
 pub record AreAudited {E : Type 0} (plan : PlanValue) (page : Page) (said : List (Result Verdict E)) : Type 0 where
   pub count : length said ≡ length page.run.stores
   pub each : (n : ℕ) (one : Result Verdict E) → slice_get said n ≡ Some one → IfOk one (IsAuditedAt plan page n)
@@ -60,12 +60,12 @@ abbrev pub IsNotBelow : ℕ → Verdict → Type 0
 IsNotBelow number Sound = Unit {0}
 IsNotBelow number (Unsound defect) = number ≤ defect_number defect
 
--- all of these are verdicts, and none of them is a defect with a lower number
+-- all of these are verdicts, and none is a defect with a number below `number`
 abbrev pub AreNotBelow : {E : Type 0} → ℕ → List (Result Verdict E) → Type 0
 AreNotBelow {E} number said =
     (one : Result Verdict E) → Contains said one → (verdict : Verdict) × (one ≡ Ok verdict) × IsNotBelow number verdict
 
--- all of these are Sound, or this is the least defect among them
+-- all of these are Sound, or the verdict is the least defect among them
 abbrev pub IsLeastOf : {E : Type 0} → List (Result Verdict E) → Verdict → Type 0
 IsLeastOf {E} said Sound = (one : Result Verdict E) → Contains said one → one ≡ Ok Sound
 IsLeastOf {E} said (Unsound defect) = Contains said (Ok (Unsound defect)) × AreNotBelow (defect_number defect) said

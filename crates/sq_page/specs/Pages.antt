@@ -13,33 +13,34 @@ use Rattle.sq_audit.specs.Defects.{defect_number, IsVerdict}
 abbrev pub AllStored : GatheredValue → Type 0
 AllStored g = (link chunk root : ℕ) (family : FamilyValue) → StandsAt g (Chunk link chunk) root family → ⊥
 
--- nothing moves on the page, which has stores for so many partitions
+-- nothing moves on the page, which has `parts` stores
 pub record IsStill (parts : ℕ) (page : GatheredValue) : Type 0 where
   pub stage : page.stage ≡ 0
   pub links : page.links ≡ []
   pub statuses : page.statuses ≡ []
   pub count : length page.stores ≡ parts
 
--- each family of the one stands in the other, at its spot
+-- each family of `one` is in `other` too, at the same spot
 abbrev pub StandIn : GatheredValue → GatheredValue → Type 0
 StandIn one other =
     (spot : Spot) (root : ℕ) (family : FamilyValue)
     → StandsAt one spot root family → StandsAt other spot root family
 
--- each family of the one that these receipts name stands in the other, at its spot
+-- each family of `one` that these receipts name is in `other` too, at the same spot
 abbrev pub NamedStandIn : List ReceiptValue → GatheredValue → GatheredValue → Type 0
 NamedStandIn receipts one other =
     (receipt : ReceiptValue) (spot : Spot) (family : FamilyValue) → Contains receipts receipt
     → StandsAt one spot receipt.root family → StandsAt other spot receipt.root family
 
--- the page has all receipts of the run, and families of it, as and where they are, among them each that a receipt names
+-- the page has all receipts of the run, and families of it, unchanged and in their places, among
+-- them each that a receipt names
 pub record IsPageOf (g page : GatheredValue) : Type 0 where
   pub still : IsStill (length g.stores) page
   pub receipts : page.receipts ≡ g.receipts
   pub taken : StandIn page g
   pub named : NamedStandIn g.receipts g page
 
--- the plan gives each root key to the partition that has it once the stage of the run is done
+-- the plan gives each root key to the partition that owns it after the stage of the run is done
 pub record IsPlanAfter (o : OpeningValue) (g : GatheredValue) (plan : PlanValue) : Type 0 where
   pub parts : plan.parts ≡ o.old.parts
   pub owners : (root : ℕ) → owner plan root ≡ owner_in o (g.stage + 1) root
@@ -49,8 +50,8 @@ pub record HasLedTo (o : OpeningValue) (g : GatheredValue) (plan : PlanValue) : 
   pub over : IsStageOver o g
   pub after : IsPlanAfter o g plan
 
--- the opening of a page: this is its plan before and after, so that nothing moves, and its rows are the
--- bases of the page's families
+-- the opening of a page: `plan` is its plan before and after, so that nothing moves, and its rows
+-- are the bases of the page's families
 pub record IsAtRest (plan : PlanValue) (page : GatheredValue) (rest : OpeningValue) : Type 0 where
   pub opening : IsOpening rest
   pub old : rest.old ≡ plan
@@ -63,7 +64,7 @@ abbrev pub IsAboutReceipts : Verdict → Type 0
 IsAboutReceipts Sound = Unit {0}
 IsAboutReceipts (Unsound defect) = defect_number ReceiptUnknown ≤ defect_number defect
 
--- this is the verdict on each run that this is a page of, and whose stage led to this plan
+-- the verdict on each run that `page` is a page of, and whose stage led to `plan`
 abbrev pub SpeaksForRuns : PlanValue → GatheredValue → List Job → Verdict → Type 0
 SpeaksForRuns plan page jobs verdict =
     (o : OpeningValue) (g : GatheredValue) → IsOpening o → IsPlaced o g → IsStageDone o g

@@ -4,17 +4,17 @@ ghost use Rattle.std.specs.FinMap.{get};
 ghost use Rattle.sq_gather.specs.Prelude.{ROOT_END, rows_in, IsSetUp};
 ghost use Rattle.sq_page.specs.Bases.{base_or, base_beside, bases_among, IsOpeningOfBases};
 
-use sq_gather::{Config, Family, Opening, OpeningFault, Plan, RunStore, Schema, Table};
+use sq_gather::{Config, Family, Opening, OpeningFault, Plan, Schema, SlabStore, Table};
 use std::alloc::{AllocError, Global};
 
-/// The opening with this plan before and after, whose rows are the bases of the families of stores. Otherwise the first fault
-/// of the sizes, or that memory ran out.
+/// Returns an opening with `plan` before and after, whose rows are the bases of the families in
+/// `stores`. Otherwise it returns the first fault of the sizes, or a lack of memory.
 pub(crate) fn opening_of_bases(
     alloc: Global,
     schema: Schema,
     plan: &Plan,
     config: Config,
-    stores: &[RunStore],
+    stores: &[SlabStore],
 ) -> Result<Opening, OpeningFault>
     ensures { IfOk result (IsOpeningOfBases plan.now stores.now) }
 {
@@ -25,7 +25,7 @@ pub(crate) fn opening_of_bases(
     }
 }
 
-// The opening with this plan before and after, without rows.
+// Returns an opening with `plan` before and after, without rows.
 fn at_rest(
     alloc: Global,
     schema: Schema,
@@ -48,8 +48,8 @@ fn at_rest(
     }
 }
 
-// The table of the bases of the families of stores.
-fn bases(alloc: Global, stores: &[RunStore]) -> Result<Table, AllocError>
+// Returns the table of the bases of the families in `stores`.
+fn bases(alloc: Global, stores: &[SlabStore]) -> Result<Table, AllocError>
     ensures rows { IfOk result (λ table. (root : ℕ)
         → rows_in table root ≡ bases_among [] stores.now root) }
     ensures bound { IfOk result (λ table. (root : ℕ) → ROOT_END ≤ root → rows_in table root ≡ []) }
@@ -61,8 +61,8 @@ fn bases(alloc: Global, stores: &[RunStore]) -> Result<Table, AllocError>
     Ok(table)
 }
 
-// Adds the bases of the families of a store.
-fn add_store(table: &mut Table, store: &RunStore) -> Result<(), AllocError>
+// Adds the bases of the families in `store`.
+fn add_store(table: &mut Table, store: &SlabStore) -> Result<(), AllocError>
     ensures rows { OnOk result ((root : ℕ)
         → rows_in table.new root ≡ base_or (rows_in table.old root) (get store.now root)) }
     ensures bound { OnOk result ((root : ℕ) → ROOT_END ≤ root

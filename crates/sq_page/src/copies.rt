@@ -5,26 +5,26 @@ ghost use Rattle.sq_page.specs.Copies.{is_wanted, IsCopyOf, IsCopyAt, AreCopiesO
 
 use crate::family::copy_family;
 use crate::roots::NamedRoots;
-use sq_gather::{Family, FamilyStore, RunStore};
+use sq_gather::{Family, FamilyStore, SlabStore};
 use std::alloc::{AllocError, Global};
 use std::thread;
 use std::thread::Threads;
 
-/// Copies of the families of each store that have a log or one of these root keys: those of each store in a thread of their own,
-/// where one can be had.
+/// Returns copies of those families of each store that have a log or a root key in `named`. Those
+/// of each store are copied in a thread of their own, if the system grants one.
 pub(crate) fn copy_each<R: Threads + Sync>(
     rt: &R,
     alloc: Global,
     named: &NamedRoots,
-    stores: &[RunStore],
-) -> Result<Vec<RunStore>, AllocError>
+    stores: &[SlabStore],
+) -> Result<Vec<SlabStore>, AllocError>
     ensures { IfOk result (λ copies. AreCopiesOf named.now stores.now copies.items) }
 {
     let copied = thread::map_indices(
         rt,
         alloc,
         stores.len(),
-        &|part: usize| -> Result<RunStore, AllocError>
+        &|part: usize| -> Result<SlabStore, AllocError>
             requires { part < length stores.now }
             ensures { IfOk result (IsCopyAt named.entry.now stores.entry.now part) }
         { copy_store(alloc, named, &stores[part]) },
@@ -33,13 +33,14 @@ pub(crate) fn copy_each<R: Threads + Sync>(
     Ok(copies)
 }
 
-/// Copies of the families of one of the stores that have a log or one of these root keys, in its place among empty stores.
+/// Returns copies of those families of store `part` that have a log or a root key in `named`, at
+/// its place among empty stores.
 pub(crate) fn copy_alone(
     alloc: Global,
     named: &NamedRoots,
-    stores: &[RunStore],
+    stores: &[SlabStore],
     part: usize,
-) -> Result<Vec<RunStore>, AllocError>
+) -> Result<Vec<SlabStore>, AllocError>
     ensures { IfOk result (λ copies. AreCopiesAlone named.now stores.now part copies.items) }
 {
     let mut copies = Vec::with_capacity(alloc, stores.len())?;
@@ -50,27 +51,27 @@ pub(crate) fn copy_alone(
     Ok(copies)
 }
 
-// The same of this store, where it is the wanted one; else an empty store.
+// Returns such copies of `store` if `is_one` is set, else an empty store.
 fn copy_or_empty(
     alloc: Global,
     named: &NamedRoots,
-    store: &RunStore,
+    store: &SlabStore,
     is_one: bool,
-) -> Result<RunStore, AllocError>
+) -> Result<SlabStore, AllocError>
     ensures { IfOk result (IsCopyOrEmpty is_one named.now store.now) }
 {
     if is_one {
         copy_store(alloc, named, store)
     } else {
-        Ok(RunStore::new(alloc))
+        Ok(SlabStore::new(alloc))
     }
 }
 
-// The copies, if each was made.
+// Returns the copies, if each was made.
 fn all_copied(
     alloc: Global,
-    copied: Vec<Result<RunStore, AllocError>>,
-) -> Result<Vec<RunStore>, AllocError>
+    copied: Vec<Result<SlabStore, AllocError>>,
+) -> Result<Vec<SlabStore>, AllocError>
     ensures { IfOk result (λ copies. map Ok copies.items ≡ copied.items) }
 {
     let mut copies = Vec::with_capacity(alloc, copied.len())?;
@@ -80,23 +81,24 @@ fn all_copied(
     Ok(copies)
 }
 
-// A store with copies of the families of a store that have a log or one of these root keys.
-fn copy_store(alloc: Global, named: &NamedRoots, store: &RunStore) -> Result<RunStore, AllocError>
+// Returns a store with copies of those families of `store` that have a log or a root key in
+// `named`.
+fn copy_store(alloc: Global, named: &NamedRoots, store: &SlabStore) -> Result<SlabStore, AllocError>
     ensures { IfOk result (IsCopyOf named.now store.now) }
 {
     let families = copy_wanted(alloc, named, store)?;
-    let mut copy = RunStore::new(alloc);
+    let mut copy = SlabStore::new(alloc);
     match copy.give(families) {
         Ok(()) => Ok(copy),
         Err(_) => Err(AllocError),
     }
 }
 
-// Copies of these families.
+// Returns copies of those families.
 fn copy_wanted(
     alloc: Global,
     named: &NamedRoots,
-    store: &RunStore,
+    store: &SlabStore,
 ) -> Result<Vec<Family>, AllocError>
     ensures copied { IfOk result (λ copies.
         copies.items ≡ filter (is_wanted named.now) (families_in store.now)) }
@@ -111,7 +113,7 @@ fn copy_wanted(
     Ok(copies)
 }
 
-// Whether a family has a log, or its root key is among these.
+// Returns true if `family` has a log, or its root key is in `named`.
 fn is_wanted(named: &NamedRoots, family: &Family) -> bool
     ensures { result ≡ is_wanted named.now family.now }
 {

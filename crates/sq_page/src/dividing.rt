@@ -7,11 +7,12 @@ use crate::copies::copy_alone;
 use crate::page::Page;
 use crate::roots::NamedRoots;
 use sq_audit::Job;
-use sq_gather::{Gathered, Plan, Receipt, Root, RunStore};
+use sq_gather::{Gathered, Plan, Receipt, Root, SlabStore};
 use std::alloc::{AllocError, Global};
 
-/// A partition's part of a page: copies of the receipts and the jobs of the root keys that the plan gives to it, and
-/// of the families of its store that have a log or that one of these receipts names.
+/// Returns partition `part`'s part of a page: copies of the receipts and the jobs of the root keys
+/// that `plan` gives to it, and of the families of its store that have a log or that one of these
+/// receipts names.
 pub(crate) fn part_of(
     alloc: Global,
     plan: &Plan,
@@ -27,8 +28,8 @@ pub(crate) fn part_of(
     Ok(page_of(alloc, stores, receipts, jobs))
 }
 
-// A page of these, on which nothing moves.
-fn page_of(alloc: Global, stores: Vec<RunStore>, receipts: Vec<Receipt>, jobs: Vec<Job>) -> Page
+// Returns a page of these, on which nothing moves.
+fn page_of(alloc: Global, stores: Vec<SlabStore>, receipts: Vec<Receipt>, jobs: Vec<Job>) -> Page
     ensures run { result.run ≡ record {
       stage = 0;
       stores = stores.items;
@@ -50,7 +51,7 @@ fn page_of(alloc: Global, stores: Vec<RunStore>, receipts: Vec<Receipt>, jobs: V
     Page { run, jobs }
 }
 
-// Copies of the receipts of the root keys that the plan gives to a partition.
+// Returns copies of the receipts of the root keys that `plan` gives to partition `part`.
 fn receipts_of(
     alloc: Global,
     plan: &Plan,
@@ -69,7 +70,7 @@ fn receipts_of(
     Ok(ours)
 }
 
-// Copies of the jobs of the root keys that the plan gives to a partition.
+// Returns copies of the jobs on the root keys that `plan` gives to partition `part`.
 fn jobs_of(alloc: Global, plan: &Plan, part: usize, jobs: &[Job]) -> Result<Vec<Job>, AllocError>
     ensures { IfOk result (λ ours. ours.items ≡ jobs_of (is_owned plan.now part) jobs.now) }
 {
@@ -82,7 +83,7 @@ fn jobs_of(alloc: Global, plan: &Plan, part: usize, jobs: &[Job]) -> Result<Vec<
     Ok(ours)
 }
 
-// Whether the plan gives a root key to a partition.
+// Returns true if `plan` gives `root` to partition `part`.
 fn is_owned(plan: &Plan, part: usize, root: Root) -> bool
     ensures { result ≡ is_owned plan.now part root }
 {

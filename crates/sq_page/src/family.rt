@@ -5,8 +5,8 @@ ghost use Rattle.sq_gather.specs.Prelude.{logged};
 use sq_gather::{Family, Reply, Txn};
 use std::alloc::{AllocError, Global};
 
-/// A copy of a family with its log, which is run again on a copy of the base. A log whose transactions don't all commit isn't
-/// copied.
+/// Returns a copy of `family` with its log, which is run again on a copy of the base. It fails for
+/// a log whose transactions don't all commit.
 pub(crate) fn copy_family(alloc: Global, family: &Family) -> Result<Family, AllocError>
     ensures { IfOk result (λ copy. copy ≡ family.now) }
 {
@@ -20,7 +20,7 @@ pub(crate) fn copy_family(alloc: Global, family: &Family) -> Result<Family, Allo
     Ok(copy)
 }
 
-// Runs a transaction that commits.
+// Runs `txn` on `copy`. It fails unless the transaction commits.
 fn run_again(copy: &mut Family, txn: &Txn) -> Result<(), AllocError>
     requires { txn.now.root ≡ copy.old.root }
     ensures { OnOk result (copy.new ≡ logged copy.old txn.now) }

@@ -2,12 +2,13 @@
 ghost use Rattle.std.specs.Prelude.{◌≡◌, map};
 ghost use Rattle.sq_gather.specs.Prelude.{folded_store};
 
-use sq_gather::{FamilyStore, RunStore};
+use sq_gather::{FamilyStore, SlabStore};
 use std::thread;
 use std::thread::Threads;
 
-/// Folds the logs of the families of each store, in a thread of its own where one can be had. It takes no memory.
-pub(crate) fn fold_each<R: Threads + Sync>(rt: &R, stores: &mut [RunStore])
+/// Folds the logs of the families of each store, in a thread of its own if the system grants one.
+/// It allocates nothing.
+pub(crate) fn fold_each<R: Threads + Sync>(rt: &R, stores: &mut [SlabStore])
     ensures { stores.new ≡ map folded_store stores.old }
 {
     let threads = stores.len().max(1);
@@ -15,7 +16,7 @@ pub(crate) fn fold_each<R: Threads + Sync>(rt: &R, stores: &mut [RunStore])
         rt,
         stores,
         threads,
-        &|_, store: &mut RunStore|
+        &|_, store: &mut SlabStore|
             ensures { store.exit.now ≡ folded_store store.entry.now }
         { store.fold() },
     );

@@ -14,10 +14,11 @@ use std::alloc::Global;
 use std::thread;
 use std::thread::Threads;
 
-/// Whether a page of jobs whose ids differ is sound, or else its first defect, where the stage of the run that it was
-/// taken of led to this plan. The verdict is that on the run: each family of a run is where it has to be, so a defect
-/// is one of receipts or of jobs. Each partition's part of the page is audited in a thread of its own, where one can be
-/// had. It is refused for a fault of the sizes, and where there is no memory for it.
+/// Returns the verdict on a page: sound, or its first defect. The ids of the page's jobs differ,
+/// and the stage of its run led to `plan`. The verdict is also that on the run: each family of a
+/// run is in its place, so a defect is one of receipts or of jobs. Each partition's part of the
+/// page is audited in a thread of its own, if the system grants one. It fails for a fault of the
+/// sizes, or if memory runs out.
 pub fn audit_page<R: Threads + Sync>(
     rt: &R,
     alloc: Global,
@@ -45,7 +46,7 @@ pub fn audit_page<R: Threads + Sync>(
     Ok(verdict)
 }
 
-// The verdict on a partition's part of a page.
+// Returns the verdict on partition `part`'s part of a page.
 fn audit_part<R: Threads + Sync>(
     rt: &R,
     alloc: Global,
@@ -65,7 +66,8 @@ fn audit_part<R: Threads + Sync>(
     Ok(verdict)
 }
 
-// The verdict on a page of jobs whose ids differ, under the opening of the bases of its families.
+// Returns the verdict on a page, whose jobs have different ids, under the opening of the bases of
+// its families.
 fn judge<R: Threads + Sync>(
     rt: &R,
     alloc: Global,

@@ -5,7 +5,8 @@ ghost use Rattle.sq_page.specs.Divided.{IsLeastOf, lesser_of};
 use sq_audit::Verdict;
 use sq_gather::OpeningFault;
 
-/// The least defect among these, or that all are sound. Where one of them is a fault, the first that is.
+/// Returns the least defect in `said`, or `Sound` if there is none. If there is a fault, the first
+/// one is returned.
 pub(crate) fn least_of(said: &[Result<Verdict, OpeningFault>]) -> Result<Verdict, OpeningFault>
     ensures { IfOk result (IsLeastOf said.now) }
 {
@@ -19,7 +20,7 @@ pub(crate) fn least_of(said: &[Result<Verdict, OpeningFault>]) -> Result<Verdict
     Ok(least)
 }
 
-// The lesser of two verdicts.
+// Returns the lesser of two verdicts.
 fn lesser(one: Verdict, other: Verdict) -> Verdict
     ensures { result ≡ lesser_of one other }
 {

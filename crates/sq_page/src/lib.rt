@@ -1,4 +1,5 @@
-//! Pages: what is taken of a run whose stage is done, so that it is audited on its own while the run continues.
+//! Pages: what is taken of a run whose stage is done, to be audited on its own while the run
+//! continues.
 #![tactic(auto)]
 
 mod bases;

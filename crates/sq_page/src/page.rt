@@ -5,14 +5,14 @@ use sq_gather::Gathered;
 /// A page of a run, to be audited on its own.
 #[derive(Drop)]
 pub struct Page {
-    /// All receipts of the run, and of each partition the families that they name or that have a log, as they were.
-    /// Nothing moves on it.
+    /// All receipts of the run, and of each partition those families, unchanged, that the receipts
+    /// name or that have a log. Nothing moves on it.
     pub run: Gathered,
     /// The jobs that the receipts have to answer.
     pub jobs: Vec<Job>,
 }
 
-/// A page that was taken, and what it left.
+/// A page, and what it left.
 #[derive(Drop)]
 pub struct Paged {
     pub page: Page,
@@ -20,10 +20,9 @@ pub struct Paged {
     pub left: Gathered,
 }
 
-/// What a page was to be taken of, as it was handed in.
+/// The arguments of a page that was not taken, unchanged.
 #[derive(Drop)]
 pub struct Untaken {
-    /// What was gathered.
     pub gathered: Gathered,
     pub jobs: Vec<Job>,
 }

@@ -1,4 +1,4 @@
-// Root keys that receipts name.
+// The root keys that receipts name.
 ghost use Rattle.std.specs.Prelude.{◌≡◌, IfOk};
 ghost use Rattle.sq_page.specs.Named.{is_root_named, AreNamed};
 
@@ -6,8 +6,8 @@ use sq_gather::{Receipt, Root};
 use std::alloc::{AllocError, Global};
 use std::marker::Model;
 
-/// The numbers of root keys in an order by which one is found: none is lower than one before it. Each is there once for each
-/// receipt that names it.
+/// The numbers of root keys, sorted in rising order. Each is listed once for each receipt that
+/// names it.
 #[derive(Drop)]
 pub(crate) struct NamedRoots {
     numbers: Vec<u64>,
@@ -25,7 +25,7 @@ impl Model for NamedRoots {
 }
 
 impl NamedRoots {
-    /// The root keys that these receipts name.
+    /// Returns the root keys that `receipts` name.
     pub(crate) fn of(alloc: Global, receipts: &[Receipt]) -> Result<NamedRoots, AllocError>
         ensures { IfOk result (AreNamed receipts.now) }
     {
@@ -37,7 +37,7 @@ impl NamedRoots {
         Ok(NamedRoots { numbers })
     }
 
-    /// Whether a root key is one of them.
+    /// Returns true if `root` is one of them.
     pub(crate) fn has(&self, root: Root) -> bool
         ensures { result ≡ is_root_named self.now root }
     {

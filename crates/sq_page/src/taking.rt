@@ -7,14 +7,14 @@ use crate::folding::fold_each;
 use crate::named::copy_named;
 use crate::page::{Page, Paged, Untaken};
 use sq_audit::Job;
-use sq_gather::{Gathered, RunStore};
+use sq_gather::{Gathered, SlabStore};
 use std::alloc::Global;
 use std::thread::Threads;
 
-/// Takes a page of what was gathered, with no family under way, for these jobs. Its receipts go with the page, with
-/// copies of the families that they name or that have a log; and the logs of all families are folded. Each partition is
-/// gone over in a thread of its own, where one can be had. All memory is taken first: where there is none all comes
-/// back as it was.
+/// Takes a page of `gathered`, in which no family is under way, for `jobs`. The page gets the
+/// receipts, and copies of the families that they name or that have a log; the logs of all families
+/// are folded. Each partition is processed in a thread of its own, if the system grants one. All
+/// memory is allocated first: if it runs out, everything is returned unchanged.
 pub fn take_page<R: Threads + Sync>(
     rt: &R,
     alloc: Global,
@@ -34,13 +34,13 @@ pub fn take_page<R: Threads + Sync>(
     }
 }
 
-// The page of what was gathered that has these copies, and what it leaves.
+// Returns the page of `gathered` with these copies, and what it leaves.
 fn part_from<R: Threads + Sync>(
     rt: &R,
     alloc: Global,
     gathered: Gathered,
     jobs: Vec<Job>,
-    copies: Vec<RunStore>,
+    copies: Vec<SlabStore>,
 ) -> Paged
     requires stored { AllStored gathered }
     requires copies { AreCopies gathered.receipts gathered.stores copies.items }

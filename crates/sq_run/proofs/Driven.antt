@@ -45,7 +45,7 @@ module _ (fabric : FabricValue) (nodes : List NodeState) (pumps : List PumpValue
         stage = gathered.stage ∙ sym run.begun.stage;
         placed = placed o began is holds;
         goes_on = grows o began is holds;
-        written = flat_map (λ (node : NodeState). node.receipts) nodes;
-        receipts = gathered.receipts ∙ ap (λ (list : List ReceiptValue). list ++ flat_map (λ (node : NodeState). node.receipts) nodes) (sym run.begun.receipts);
+        written = flat_map (λ (node : NodeState). node.receipts) gathered.by_part;
+        receipts = gathered.receipts ∙ ap (λ (list : List ReceiptValue). list ++ flat_map (λ (node : NodeState). node.receipts) gathered.by_part) (sym run.begun.receipts);
         all_left = gathered.left ∙ run.shared.parts;
       }

@@ -20,16 +20,16 @@ pub record StageRunValue : Type 0 where
 abbrev pub stage_run_of : FabricValue → List NodeState → List PumpValue → StageRunValue
 stage_run_of fabric nodes pumps = record { fabric = fabric; nodes = nodes; pumps = pumps }
 
--- it is a run of this opening, in a stage that began so
+-- it is a run of this opening, in a stage that began with `began`
 abbrev pub BeganFrom : OpeningValue → BeganWith → StageRunValue → Type 0
 BeganFrom o began run = IsRunInStage o began run.fabric run.nodes run.pumps
 
--- it is still a run of each opening, and each beginning of its stage, as before
+-- it is still a run of each opening, and each beginning of its stage, of which it was before
 abbrev pub StaysBegun : StageRunValue → StageRunValue → Type 0
 StaysBegun old new = (o : OpeningValue) (began : BeganWith) → IsOpening o → BeganFrom o began old → BeganFrom o began new
 
--- a stage that began so ran, and left this: it is placed, each family continues the one that its root key was given,
--- and the receipts so far come before those of the stage
+-- a stage that began with `began` ran, and left `g`: it is placed, each family continues the one
+-- that its root key had at the start, and the earlier receipts come before those of the stage
 pub record RanFrom (o : OpeningValue) (began : BeganWith) (g : GatheredValue) : Type 0 where
   pub stage : g.stage ≡ began.stage
   pub placed : IsPlaced o g

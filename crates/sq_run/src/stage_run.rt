@@ -6,11 +6,11 @@ ghost use Rattle.sq_pull.specs.declared.numbers.TheConstants.{MAX_PUMPS};
 ghost use Rattle.sq_node_model.specs.Prelude.{BeganWith, first_began, folded_opening};
 ghost use Rattle.sq_driver.specs.Nodes.{AllDriven};
 ghost use Rattle.sq_driver.specs.Pumps.{AllPumpsDriven};
-ghost use Rattle.sq_gather.specs.Reopened.{IsNextStageOf, IsFirstStageAfter};
+ghost use Rattle.sq_gather.specs.Reopened.{IsNextStageOf};
 ghost use Rattle.sq_run.specs.StageRunValue.{BeganFrom, StaysBegun, RanFrom};
 
 use sq_driver::{Gate, WorkersEnd, run_workers};
-use sq_gather::{Gathered, gather, move_on, reopen};
+use sq_gather::{Gathered, gather, reopen};
 use sq_node::{Fabric, Node, RunParts};
 use sq_ranges::Opening;
 use std::alloc::{AllocError, Global};
@@ -18,7 +18,8 @@ use std::marker::Model;
 use std::sync::Wait;
 use std::thread::Threads;
 
-/// A stage of a run: what its workers share, a node for each partition, and its pumps. To a contract it is a `StageRunValue`.
+/// A stage of a run: what its workers share, a node for each partition, and its pumps. To a
+/// contract it is a `StageRunValue`.
 #[derive(Drop)]
 pub struct StageRun {
     parts: RunParts,
@@ -42,17 +43,9 @@ impl Model for StageRun {
 }
 
 impl StageRun {
-    /// The first stage of the move of an opening, with this many pumps.
-    pub fn open(alloc: Global, opening: &Opening, pumps: u32) -> Result<StageRun, AllocError>
-        requires { pumps ≤ MAX_PUMPS }
-        ensures run { IfOk result (BeganFrom opening.now (first_began opening.now)) }
-        ensures set_up { OnOk result (IsSetUp opening.now) }
-    {
-        let parts = Fabric::open(alloc, opening, pumps)?;
-        Ok(StageRun { parts })
-    }
-
-    /// The same as [`StageRun::open`]. The families of each partition are made in a thread of its own, where one can be had.
+    /// Returns the first stage of the move of `opening`, with `pumps` pumps. If there are many root
+    /// keys, the families of each partition are created in a thread of its own, if the system
+    /// grants one.
     pub fn open_in_threads<R: Threads + Sync>(
         rt: &R,
         alloc: Global,
@@ -67,10 +60,11 @@ impl StageRun {
         Ok(StageRun { parts })
     }
 
-    /// The stage after the one that this was gathered of, as [`reopen`] opens it.
+    /// Returns the stage after the one that `g` was gathered of, as [`reopen`] opens it, with
+    /// `pumps` pumps.
     ///
-    /// Where it doesn't have the families and the jobs of as many partitions, where there is no such stage, and where
-    /// there is no memory, what was gathered comes back as it was.
+    /// `g` is returned unchanged if it doesn't have the families and the jobs of as many partitions
+    /// as `opening` has, if there is no further stage, or if memory runs out.
     pub fn next_stage(
         alloc: Global,
         opening: &Opening,
@@ -86,39 +80,22 @@ impl StageRun {
         Ok(StageRun { parts })
     }
 
-    /// The first stage of another move, with what was gathered of the last stage of one, as [`move_on`] opens it.
-    ///
-    /// Where `next` is of another number of partitions, and where there is no memory, what was gathered comes back as it was.
-    pub fn next_move(
-        alloc: Global,
-        next: &Opening,
-        g: Gathered,
-        pumps: u32,
-    ) -> Result<StageRun, Gathered>
-        requires { pumps ≤ MAX_PUMPS }
-        ensures run { IfOk result (λ run. (table : TableValue)
-            → IsFirstStageAfter (folded_opening next.now table) g run.fabric run.nodes run.pumps) }
-        ensures returned { IfErr result (λ back. back ≡ g) }
-    {
-        let parts = move_on(alloc, next, g, pumps)?;
-        Ok(StageRun { parts })
-    }
-
-    /// What its workers share.
+    /// Returns what the workers share.
     pub fn fabric(&self) -> &Fabric
         ensures { result.now ≡ self.now.fabric }
     {
         &self.parts.fabric
     }
 
-    /// Its nodes, in the order of their partitions.
+    /// Returns the nodes, in the order of their partitions.
     pub fn nodes(&self) -> &[Node]
         ensures { result.now ≡ self.now.nodes }
     {
         &self.parts.nodes
     }
 
-    /// Drives each node and each pump in a thread of its own, as [`run_workers`] does, and says how they ended.
+    /// Drives each node and each pump in a thread of its own, as [`run_workers`] does, and returns
+    /// how they ended.
     pub fn drive<R: Threads + Wait + Sync, G: Gate>(
         &mut self,
         rt: &R,
@@ -140,7 +117,8 @@ impl StageRun {
         )
     }
 
-    /// Gathers what it left, once its threads are done, as [`gather`] does. Where there is no memory, it comes back as it was.
+    /// Gathers what the stage left once its threads are done, as [`gather`] does. If memory runs
+    /// out, the stage is returned unchanged.
     pub fn gather<R: Wait>(self, rt: &R, alloc: Global) -> Result<Gathered, StageRun>
         ensures ran { IfOk result (λ g. (o : OpeningValue) (began : BeganWith)
             → IsOpening o → BeganFrom o began self → RanFrom o began g) }

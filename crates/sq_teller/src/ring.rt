@@ -8,14 +8,15 @@ use sq_node::Receipt;
 use std::alloc::AllocError;
 use std::sync::Wait;
 
-// How many microseconds it sleeps at most before it tries a full ring again.
+// The longest sleep before a full ring is tried again, in microseconds.
 const LONGEST_REST: u64 = 2_000;
 
-/// A teller that sends each receipt over a ring, to another thread. It waits while the ring is full. If there is no memory for a
-/// receipt, or the ring is full and its other end is gone, it breaks off: it sends neither that receipt nor a later one.
+/// A teller that sends each receipt over a ring to another thread. It waits while the ring is full.
+/// If there is no memory for a receipt, or the ring is full and its other end is gone, it breaks
+/// off: it sends neither that receipt nor any later one.
 #[derive(Drop)]
 pub struct RingTeller {
-    /// The end of the ring on which it sends.
+    /// The sending end of the ring.
     pub producer: Producer<Receipt>,
     /// Whether it broke off.
     pub broke_off: bool,
@@ -48,7 +49,8 @@ fn copy_of(receipt: &Receipt) -> Result<Receipt, AllocError>
     })
 }
 
-// Sends a receipt. Waits while the ring is full, unless its other end is gone. Whether it was sent.
+// Sends `receipt` and returns true. Waits while the ring is full, and returns false if its other
+// end is gone.
 fn push_waiting<R: Wait>(rt: &R, producer: &mut Producer<Receipt>, receipt: Receipt) -> bool
     ensures ring { SameProducer producer.old producer.new }
     ensures sent { result ≡ true → sent producer.new ≡ sent producer.old ++ receipt ∷ [] }

@@ -1,4 +1,4 @@
-// The jobs that an earlier stage left.
+// The jobs left over from an earlier stage.
 ghost use Rattle.std.specs.Prelude.{◌≡◌, ◌+◌, ◌-◌, ◌≤◌, length, map, IfOk, IfErr};
 ghost use Rattle.std.specs.VecDeque.{deque_len, deque_capacity};
 ghost use Rattle.sq_node.specs.Left.{HaveRoom};
@@ -12,7 +12,7 @@ use std::alloc::{AllocError, Global};
 use std::collections::VecDeque;
 use std::sync::atomic::Ordering;
 
-// Room to post on, for each partition as many jobs as were left at it.
+// Returns room to forward, for each partition, as many jobs as were left at it.
 pub(super) fn open_rooms(
     alloc: Global,
     left: &[Vec<Txn>],
@@ -28,7 +28,8 @@ pub(super) fn open_rooms(
     Ok(rooms)
 }
 
-// Posts the jobs that were left at each partition there. Its node posts those that its queue has no place for.
+// Posts the jobs left at each partition to that partition. Its node forwards those that its queue
+// doesn't take.
 pub(super) fn post_left(
     fabric: &mut Fabric,
     nodes: &mut Vec<Node>,
@@ -56,8 +57,8 @@ pub(super) fn post_left(
 }
 
 impl Fabric {
-    // Queues these jobs at a partition, in their order, and counts them as posted. What its queue has no place for is to be
-    // posted, and is put into this room.
+    // Queues `jobs` at partition `part`, in their order, and counts them as posted. The first that
+    // the queue doesn't take, and those after it, are put into `room`, to be forwarded.
     fn queue_left(&mut self, part: PartId, jobs: Vec<Txn>, room: VecDeque<Post>) -> VecDeque<Post>
         requires { length jobs.items ≤ deque_capacity room - deque_len room }
         ensures { self.new ≡ self.old }
@@ -65,17 +66,34 @@ impl Fabric {
         let mut posts = room;
         for job in jobs {
             self.posted.fetch_add(1, Ordering::SeqCst);
-            if let Err(job) = self.queue_job(part, job) {
+            let queued = if posts.is_empty() {
+                self.queue_job(part, job)
+            } else {
+                Err(job)
+            };
+            if let Err(job) = queued {
                 posts.push_back_reserved(Post { to: part, job });
             }
         }
         posts
     }
 
-    // Puts a job into the queue of a partition, before the threads run. It comes back where the queue is full.
+    // Puts `job` into the queue of partition `part` before the threads run. It is returned if the
+    // queue is full, or if memory runs out.
     fn queue_job(&mut self, part: PartId, job: Txn) -> Result<(), Txn>
         ensures same { self.new ≡ self.old }
         ensures refused { IfErr result (λ back. back ≡ job) }
+    {
+        match Box::new(*self.jobs.allocator(), job) {
+            Ok(job) => self.push_job_mut(part, job).map_err(Box::into_inner),
+            Err(failed) => Err(failed.value),
+        }
+    }
+
+    // Puts `job` into the queue of partition `part` before the threads run, or returns it.
+    fn push_job_mut(&mut self, part: PartId, job: Box<Txn>) -> Result<(), Box<Txn>>
+        ensures same { self.new ≡ self.old }
+        ensures refused { IfErr result (λ back. back.value ≡ job.value) }
     {
         match self.jobs.get_mut(usize::from(part.number())) {
             Some(queue) => queue.push_mut(job),

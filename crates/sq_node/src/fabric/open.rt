@@ -15,21 +15,22 @@ use sq_exec::open_store;
 use sq_link::SharedLink;
 use sq_plan::PartId;
 use sq_ranges::{Link, Opening, Recon};
-use sq_runs::RunStore;
+use sq_slab::SlabStore;
 use sq_status::{StatusTree, TreeSeat};
 use std::alloc::{AllocError, Global};
 use std::sync::atomic::AtomicU64;
 use std::thread;
 use std::thread::Threads;
 
-// The stage in which a run opens.
+// The stage that a run opens with.
 const FIRST_STAGE: u64 = 0;
 
-// Fewer root keys than this are opened in one thread, which takes less time than to start others.
+// Fewer root keys than this are opened in one thread, which takes less time than starting others.
 const FEW_ROOTS: usize = 16_384;
 
 impl Fabric {
-    /// What a run shares, its nodes, and this many pumps, in the first stage. The move has started.
+    /// Returns what a run shares, its nodes, and `pumps` pumps, in the first stage. The move has
+    /// started.
     pub fn open(alloc: Global, opening: &Opening, pumps: u32) -> Result<RunParts, AllocError>
         requires { pumps ≤ MAX_PUMPS }
         ensures opened { IfOk result
@@ -41,8 +42,8 @@ impl Fabric {
         open_with(alloc, opening, stores, pumps)
     }
 
-    /// The same as [`Fabric::open`]. If there are many root keys, the families of each partition are made in a thread of its own,
-    /// where one can be had.
+    /// Does the same as [`Fabric::open`]. If there are many root keys, the families of each
+    /// partition are created in a thread of its own, if the system grants one.
     pub fn open_in_threads<R: Threads + Sync>(
         rt: &R,
         alloc: Global,
@@ -60,8 +61,8 @@ impl Fabric {
     }
 }
 
-// The families of each partition before the move.
-fn open_stores(alloc: Global, opening: &Opening) -> Result<Vec<RunStore>, AllocError>
+// Returns the families of each partition before the move.
+fn open_stores(alloc: Global, opening: &Opening) -> Result<Vec<SlabStore>, AllocError>
     ensures stores { IfOk result (λ stores. stores.items ≡ opened_stores opening.now) }
     ensures owned { OnOk result (HaveOwned opening.now) }
 {
@@ -73,12 +74,13 @@ fn open_stores(alloc: Global, opening: &Opening) -> Result<Vec<RunStore>, AllocE
     Ok(stores)
 }
 
-// The same, each partition in a thread of its own if there are many root keys, where one can be had.
+// Does the same; if there are many root keys, each partition in a thread of its own, if the system
+// grants one.
 fn open_stores_in_threads<R: Threads + Sync>(
     rt: &R,
     alloc: Global,
     opening: &Opening,
-) -> Result<Vec<RunStore>, AllocError>
+) -> Result<Vec<SlabStore>, AllocError>
     ensures stores { IfOk result (λ stores. stores.items ≡ opened_stores opening.now) }
     ensures owned { OnOk result (HaveOwned opening.now) }
 {
@@ -90,7 +92,7 @@ fn open_stores_in_threads<R: Threads + Sync>(
         rt,
         alloc,
         parts,
-        &|part: usize| -> Result<RunStore, AllocError>
+        &|part: usize| -> Result<SlabStore, AllocError>
             requires { part < 256 }
             ensures { IfOk result (IsOpenStore opening.entry.now part) }
         { open_store(alloc, opening, PartId::new(part as u8)) },
@@ -99,11 +101,11 @@ fn open_stores_in_threads<R: Threads + Sync>(
     Ok(stores)
 }
 
-// The stores, if each was opened.
+// Returns the stores, if each was opened.
 fn all_opened(
     alloc: Global,
-    opened: Vec<Result<RunStore, AllocError>>,
-) -> Result<Vec<RunStore>, AllocError>
+    opened: Vec<Result<SlabStore, AllocError>>,
+) -> Result<Vec<SlabStore>, AllocError>
     ensures { IfOk result (λ stores. map Ok stores.items ≡ opened.items) }
 {
     let mut stores = Vec::with_capacity(alloc, opened.len())?;
@@ -113,11 +115,12 @@ fn all_opened(
     Ok(stores)
 }
 
-// What a run shares in the first stage, the nodes of partitions that have these families, and this many pumps.
+// Returns what a run shares in the first stage, the nodes of partitions with the families in
+// `stores`, and `pumps` pumps.
 fn open_with(
     alloc: Global,
     opening: &Opening,
-    stores: Vec<RunStore>,
+    stores: Vec<SlabStore>,
     pumps: u32,
 ) -> Result<RunParts, AllocError>
     requires stores { stores.items ≡ opened_stores opening.now }
@@ -134,15 +137,15 @@ fn open_with(
     }
 }
 
-// What a stage of a run shares, the nodes of partitions that have these families, and this many pumps. Where there is no
-// memory the families come back.
+// Returns what a stage of a run shares, the nodes of partitions with the families in `stores`, and
+// `pumps` pumps. If memory runs out, `stores` is returned.
 pub(super) fn open_run(
     alloc: Global,
     opening: &Opening,
     stage: u64,
-    mut stores: Vec<RunStore>,
+    mut stores: Vec<SlabStore>,
     pumps: u32,
-) -> Result<RunParts, Vec<RunStore>>
+) -> Result<RunParts, Vec<SlabStore>>
     requires stores { length stores.items ≡ opening.now.old.parts }
     requires pumps { pumps ≤ MAX_PUMPS }
     ensures run { IfOk result (λ run. IsReopened opening.now stage stores.items [] pumps
@@ -167,7 +170,7 @@ pub(super) fn open_run(
     }
 }
 
-// What a stage of a run shares, with the ends of its links.
+// Returns what a stage of a run shares, with the ends of its links.
 fn open_fabric(
     alloc: Global,
     opening: &Opening,
@@ -204,14 +207,14 @@ fn open_fabric(
     Ok((fabric, ends))
 }
 
-// Whether a stage is the last one of a move.
+// Returns true if `stage` is the last one of a move.
 fn is_last(recon: &Recon, stage: u64) -> bool
     ensures { IsTrue result ↔ (stages recon.now ≤ stage + 1) }
 {
     stage >= recon.stages() - 1
 }
 
-// This many trees, whose nodes are all free, with their first seats.
+// Returns `count` trees, whose nodes are all free, with their first seats.
 fn open_trees(alloc: Global, count: usize) -> Result<(Vec<StatusTree>, Vec<TreeSeat>), AllocError>
     ensures count { IfOk result (λ opened. length opened.0.items ≡ count) }
     ensures seats { IfOk result (λ opened. AreFirstSeats 0 opened.0.items opened.1.items) }
@@ -226,7 +229,7 @@ fn open_trees(alloc: Global, count: usize) -> Result<(Vec<StatusTree>, Vec<TreeS
     Ok((trees, seats))
 }
 
-// The links along which keys go in a stage.
+// Returns those of `links` along which keys move in `stage`.
 fn stage_links(
     alloc: Global,
     recon: &Recon,
@@ -243,7 +246,8 @@ fn stage_links(
         .collect(alloc)
 }
 
-// Links between these partitions, with room for this many chunks each, and with their ends.
+// Returns links between these partitions, with room for `capacity` chunks each, and with their
+// ends.
 fn open_links(
     alloc: Global,
     between: &[Link],
@@ -273,7 +277,7 @@ fn open_links(
     Ok((links, LooseEnds { sends, recvs }))
 }
 
-// A queue for each partition, with this many places.
+// Returns a queue with `places` places for each partition.
 fn queues<T: Drop>(
     alloc: Global,
     parts: u8,

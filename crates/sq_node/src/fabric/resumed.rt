@@ -1,4 +1,4 @@
-// A run continues in a stage.
+// Continuing a run in a stage.
 ghost use Rattle.std.specs.Prelude.{◌≡◌, ◌↔◌, ◌≤◌, length, IfOk, IfErr, OnOk, IsTrue};
 ghost use Rattle.sq_schema.specs.Prelude.{TableValue};
 ghost use Rattle.sq_pull.specs.declared.numbers.TheConstants.{MAX_PUMPS};
@@ -13,36 +13,38 @@ use super::open::open_run;
 use crate::receipt::Receipt;
 use crate::run_parts::RunParts;
 use sq_ranges::Opening;
-use sq_runs::RunStore;
 use sq_schema::Txn;
+use sq_slab::SlabStore;
 use std::alloc::Global;
 
-/// What was handed in for a stage that doesn't begin.
+/// The arguments of a stage that doesn't begin, unchanged.
 #[derive(Debug, Drop)]
 pub struct Unresumed {
     /// The families of each partition.
-    pub stores: Vec<RunStore>,
-    /// For each partition the jobs that were left at it.
+    pub stores: Vec<SlabStore>,
+    /// The jobs that were left at each partition.
     pub left: Vec<Vec<Txn>>,
     /// The receipts of earlier stages.
     pub receipts: Vec<Receipt>,
 }
 
 impl Fabric {
-    /// What a stage of a run shares, the nodes of partitions that have these families, and this many pumps. The move has
-    /// started. The jobs that were left count as posted, and not as answered: they are in the queue of their partition in
-    /// their order, and those for which it has no place are its node's to post.
+    /// Returns what stage `stage` of a run shares, the nodes of partitions with the families in
+    /// `stores`, and `pumps` pumps. The move has started. The jobs in `left` count as posted, and
+    /// not as answered: the first of them are in the queue of their partition, in their order, and
+    /// the partition's node forwards the others, for which the queue has no room or memory runs
+    /// out.
     ///
-    /// Nothing of this has to do with the opening's rows: what holds of the nodes holds under each opening that differs from this
-    /// one in its rows alone.
+    /// Nothing of this depends on the rows of `opening`: what holds of the nodes also holds under
+    /// each opening that differs only in its rows.
     ///
-    /// Everything comes back where the families or the jobs aren't those of as many partitions as there are, where there
-    /// is no such stage, and where there is no memory.
+    /// Everything is returned if the families or the jobs are not those of as many partitions as
+    /// there are, if there is no such stage, or if memory runs out.
     pub fn resumed(
         alloc: Global,
         opening: &Opening,
         stage: u64,
-        stores: Vec<RunStore>,
+        stores: Vec<SlabStore>,
         left: Vec<Vec<Txn>>,
         receipts: Vec<Receipt>,
         pumps: u32,
@@ -99,7 +101,8 @@ impl Fabric {
     }
 }
 
-// Whether an opening has this stage, and as many partitions as there are stores and lists of jobs.
+// Returns true if `opening` has this stage, and as many partitions as there are stores and lists of
+// jobs.
 fn fits(opening: &Opening, stage: u64, stores: usize, left: usize) -> bool
     ensures { IsTrue result ↔ HasStageFor opening.now stage stores left }
 {

@@ -1,4 +1,5 @@
-// The nodes and the pumps that a stage of a run opens with, each with its seats and its ends of links.
+// The nodes and the pumps that a stage of a run opens with, each with its seats and its ends of
+// links.
 ghost use Rattle.std.specs.Prelude.{◌≡◌, ℕ, ◌+◌, ◌<◌, ◌≤◌, ◌++◌, false, length, map, reverse, replicate, slice_set, None, MatchOption, IfOk, IfErr, OnOk, OnErr, vec_capacity};
 ghost use Rattle.sq_pull.specs.Seats.{AreSeatsOf};
 ghost use Rattle.sq_pull.specs.declared.numbers.TheConstants.{MAX_PUMPS};
@@ -14,11 +15,11 @@ use sq_link::{SharedLink, Side};
 use sq_plan::PartId;
 use sq_pull::Pump;
 use sq_ranges::Opening;
-use sq_runs::RunStore;
+use sq_slab::SlabStore;
 use sq_status::{StatusTree, TreeSeat};
 use std::alloc::{AllocError, Global};
 
-// The ends of links that aren't handed out, each where its link is.
+// The ends of links that were not handed out yet, each at the place of its link.
 #[derive(Drop)]
 pub(super) struct LooseEnds {
     pub(super) sends: Vec<Sender>,
@@ -36,7 +37,7 @@ impl Fabric {
     }
 }
 
-// Shares each tree with one more worker, and gives the seats.
+// Shares each tree with one more worker, and returns this worker's seats.
 fn share_all(
     alloc: Global,
     trees: &[StatusTree],
@@ -56,14 +57,14 @@ fn share_all(
     Ok(shared)
 }
 
-// For each of these families the node of their partition; the families then are with them. Where there is no memory the
-// families stay.
+// Returns a node for each of `stores`, which holds its families. If memory runs out, the families
+// stay in `stores`.
 pub(super) fn open_nodes(
     alloc: Global,
     opening: &Opening,
     fabric: &mut Fabric,
     ends: &mut LooseEnds,
-    stores: &mut Vec<RunStore>,
+    stores: &mut Vec<SlabStore>,
 ) -> Result<Vec<Node>, AllocError>
     requires fabric { IsFabricOf opening.now fabric.old }
     requires stores { length stores.old.items ≤ opening.now.old.parts }
@@ -95,8 +96,8 @@ pub(super) fn open_nodes(
     Ok(nodes)
 }
 
-// Takes the families of these nodes back, the last node's first.
-fn give_back(mut nodes: Vec<Node>, stores: &mut Vec<RunStore>)
+// Takes the families back from `nodes`, the last node's first.
+fn give_back(mut nodes: Vec<Node>, stores: &mut Vec<SlabStore>)
     requires { length stores.old.items + length nodes.items ≤ vec_capacity stores.old }
     ensures stores { stores.new.items
         ≡ stores.old.items ++ map (λ node. node.core.store) (reverse nodes.items) }
@@ -107,15 +108,16 @@ fn give_back(mut nodes: Vec<Node>, stores: &mut Vec<RunStore>)
     }
 }
 
-// The node of a partition that has these families. Where there is no memory they come back.
+// Returns the node of partition `part`, with the families in `store`. If memory runs out, `store`
+// is returned.
 fn open_node(
     alloc: Global,
     opening: &Opening,
     fabric: &mut Fabric,
     ends: &mut LooseEnds,
     part: PartId,
-    store: RunStore,
-) -> Result<Node, RunStore>
+    store: SlabStore,
+) -> Result<Node, SlabStore>
     requires fabric { IsFabricOf opening.now fabric.old }
     requires part { part < opening.now.old.parts }
     requires sends { HasEnds src_of fabric.old.links ends.old.sends.items part }
@@ -137,7 +139,7 @@ fn open_node(
     Ok(Node::open(alloc, core, place))
 }
 
-// The place of a partition's node.
+// Returns the seats, the ends of links and the flags of a partition's node.
 fn open_place(
     alloc: Global,
     fabric: &mut Fabric,
@@ -173,7 +175,7 @@ fn open_place(
     })
 }
 
-// This many pumps.
+// Returns `count` pumps.
 pub(super) fn open_pumps(
     alloc: Global,
     count: u32,
@@ -204,7 +206,8 @@ fn open_pump(alloc: Global, fabric: &mut Fabric, number: u32) -> Result<Pump, Al
     }
 }
 
-// The ends that a partition has on this side of links, by the other partition of each.
+// Takes the ends that partition `part` has on this side of links, by the partition on the other
+// side.
 fn take_ends<S: Side>(
     alloc: Global,
     parts: u8,
@@ -224,7 +227,8 @@ fn take_ends<S: Side>(
     Ok(taken)
 }
 
-// The end that a partition has on this side of the link between it and another one, if there is such a link.
+// Takes the end that partition `part` has on this side of the link between it and `other`, if there
+// is such a link.
 fn take_end<S: Side>(
     links: &[SharedLink],
     ends: &mut [PartEnd<S>],
@@ -242,7 +246,7 @@ fn take_end<S: Side>(
     }
 }
 
-// Where the link is that has a partition on this side and another one on the other.
+// Returns the place of the link with `part` on this side and `other` on the other side.
 fn link_between<S: Side>(links: &[SharedLink], part: PartId, other: PartId) -> Option<usize>
     ensures { result ≡ link_between S.near S.far links.now part other }
 {

@@ -10,13 +10,14 @@ use crate::fabric::Fabric;
 use crate::receipt::Receipt;
 use crate::stepped::Stepped;
 use sq_exec::{Outcome, PartCore, ResumeFault, Resumed, SubmitFault};
-use sq_runs::RunStore;
 use sq_schema::{Reply, Txn};
+use sq_slab::SlabStore;
 use std::sync::Wait;
 
 impl Node {
-    /// Takes a job, and submits it. Its receipt is kept where it is answered. It is posted on where it belongs to another
-    /// partition, and posted again where it is refused. Where it waits, the leaf that it waits for is claimed.
+    /// Takes a job, and submits it. If it is answered, its receipt is kept. If it belongs to
+    /// another partition, it is forwarded, and if it is refused, it is posted here again. If it has
+    /// to wait, the leaf that it waits for is claimed.
     pub fn step_job<R: Wait>(&mut self, rt: &R, fabric: &Fabric) -> Stepped
         requires { IsNodeOf fabric.now self.old }
         ensures { DoesAndKeeps fabric.now JobStep self.old result self.new }
@@ -56,7 +57,7 @@ impl Node {
         Stepped::Did
     }
 
-    /// Takes up a transaction that waits, if one can go.
+    /// Resumes a waiting transaction, if one can run.
     pub fn step_resume<R: Wait>(&mut self, rt: &R, fabric: &Fabric) -> Stepped
         requires { IsNodeOf fabric.now self.old }
         ensures { DoesAndKeeps fabric.now ResumeStep self.old result self.new }
@@ -85,7 +86,7 @@ impl Node {
     }
 }
 
-// The outcome of a step whose transaction wasn't taken.
+// Returns the outcome of a step whose transaction was refused.
 fn refusal(fault: SubmitFault) -> Stepped
     ensures { (result ≡ Stepped.Nothing) ⊎ (result ≡ Stepped.Memory) }
 {
@@ -95,8 +96,8 @@ fn refusal(fault: SubmitFault) -> Stepped
     }
 }
 
-// The receipt of a transaction that a partition has just answered so.
-fn receipt(core: &PartCore<RunStore>, txn: Txn, reply: Reply) -> Receipt
+// Returns the receipt of a transaction that a partition has just answered with `reply`.
+fn receipt(core: &PartCore<SlabStore>, txn: Txn, reply: Reply) -> Receipt
     ensures { result ≡ record {
       id = txn.id;
       root = txn.root;

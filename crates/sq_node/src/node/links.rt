@@ -15,7 +15,7 @@ use sq_plan::PartId;
 use std::sync::Wait;
 
 impl Node {
-    /// Cuts a chunk for the first partition for which there is one to cut.
+    /// Cuts a chunk for the first partition for which one can be cut.
     pub fn step_cut(&mut self) -> Stepped
         ensures step { CutStep self.old result self.new }
         ensures of { (fabric : FabricValue) → IsNodeOf fabric self.old → IsNodeOf fabric self.new }
@@ -34,12 +34,12 @@ impl Node {
         }
     }
 
-    // How many families the chunk has that was cut for a partition and isn't sent.
+    // Returns how many families the chunk has that was cut for partition `dst` and isn't sent yet.
     fn families_cut(&self, dst: PartId) -> usize {
         self.core.outbox(dst).map_or(0, Chunk::len)
     }
 
-    // The first partition for which a chunk can be cut.
+    // Returns the first partition for which a chunk can be cut.
     fn next_cut(&self) -> Option<PartId>
         ensures some { IfSome result (λ dst. may_cut (out_at self.now.core dst) ≡ true) }
         ensures first { IfSome result (λ dst. (lower : ℕ) → lower < dst
@@ -68,7 +68,7 @@ impl Node {
         Stepped::Nothing
     }
 
-    // Sends the chunk for a partition, if there is one and its link has room for it.
+    // Sends the chunk for partition `dst`, if there is one and its link has room for it.
     fn send_to<R: Wait>(&mut self, rt: &R, fabric: &Fabric, dst: PartId) -> bool
         requires node { IsNodeOf fabric.now self.old }
         requires part { dst < fabric.now.parts }
@@ -103,7 +103,7 @@ impl Node {
         Stepped::Nothing
     }
 
-    // Receives a chunk from a partition, if its link has one and the inbox is empty.
+    // Receives a chunk from partition `src`, if its link has one and its inbox is empty.
     fn recv_from<R: Wait>(&mut self, rt: &R, fabric: &Fabric, src: PartId) -> bool
         requires node { IsNodeOf fabric.now self.old }
         requires part { src < fabric.now.parts }
@@ -119,7 +119,7 @@ impl Node {
         self.core.put_inbox(src, chunk).is_ok()
     }
 
-    /// Loads the chunk of the first partition from which one came that can be loaded.
+    /// Loads the received chunk of the first partition whose chunk can be loaded.
     pub fn step_load(&mut self, fabric: &Fabric) -> Stepped
         requires { IsNodeOf fabric.now self.old }
         ensures makes { DoesAndKeeps fabric.now LoadStep self.old result self.new }
@@ -143,7 +143,7 @@ impl Node {
         Stepped::Did
     }
 
-    // The first partition from which a chunk came that can be loaded.
+    // Returns the first partition whose received chunk can be loaded.
     fn next_load(&self, fabric: &Fabric) -> Option<PartId>
         requires { IsNodeOf fabric.now self.now }
         ensures some { IfSome result (λ src. may_load_now self.now.core src ≡ true) }
@@ -163,7 +163,8 @@ impl Node {
         None
     }
 
-    // Whether a chunk came from a partition that can be loaded, and keys come from it in the running stage.
+    // Returns true if the chunk received from `src` can be loaded, and keys move from `src` to this
+    // partition in the running stage.
     fn may_load_from(&self, fabric: &Fabric, src: PartId) -> bool
         requires { IsNodeOf fabric.now self.now }
         ensures may { result ≡ may_load_now self.now.core src }
@@ -173,7 +174,7 @@ impl Node {
     }
 }
 
-// How many bytes the families of a chunk have.
+// Returns how many bytes the families of `chunk` have.
 fn bytes_of(chunk: &Chunk) -> u64 {
     let families = chunk.families().iter();
     families.fold(0, |bytes: u64, family| bytes.saturating_add(family.size()))

@@ -16,14 +16,15 @@ use crate::stepped::Stepped;
 use sq_exec::PartCore;
 use sq_pull::Request;
 use sq_ranges::SegId;
-use sq_runs::RunStore;
+use sq_slab::SlabStore;
 use sq_status::{StatusTree, TreeSeat};
 use sq_tree::{NodeId, Status};
 use std::sync::Wait;
 
 impl Node {
-    /// Takes a request, and begins the node that it names. One that names a segment which doesn't leave here in the running
-    /// stage, a bad node, or a node that isn't claimed for its pull is dropped.
+    /// Takes a request, and begins the node that it names. A request is dropped if its segment
+    /// doesn't leave this partition in the running stage, its node doesn't exist, or the node isn't
+    /// claimed for its pull.
     pub fn step_request<R: Wait>(&mut self, rt: &R, fabric: &Fabric) -> Stepped
         requires { IsNodeOf fabric.now self.old }
         ensures { DoesAndKeeps fabric.now RequestStep self.old result self.new }
@@ -49,7 +50,8 @@ impl Node {
         Stepped::Nothing
     }
 
-    // The node that a request names, unless its segment doesn't leave here in the running stage, or is complete.
+    // Returns the node that `request` names, unless its segment doesn't leave this partition in the
+    // running stage, or is complete.
     fn named(&self, fabric: &Fabric, request: Request) -> Option<TreeNode>
         requires { IsNodeOf fabric.now self.now }
         ensures { IfSome result (λ named. IsOutward self.now.core named.seg named.node) }
@@ -65,12 +67,12 @@ impl Node {
         }
     }
 
-    // Whether node 1 of a segment was seen to read complete.
+    // Returns true if node 1 of segment `seg` was seen to read complete.
     fn is_complete(&self, seg: SegId) -> bool {
         self.complete.get(seg.index()).copied().unwrap_or(false)
     }
 
-    /// Completes a node whose last chunk was loaded, and sees whether its segment is complete with it.
+    /// Completes a node whose last chunk was loaded, and looks whether that completes its segment.
     pub fn step_complete(&mut self, fabric: &Fabric) -> Stepped
         requires { IsNodeOf fabric.now self.old }
         ensures { DoesAndKeeps fabric.now CompleteStep self.old result self.new }
@@ -88,7 +90,8 @@ impl Node {
         Stepped::Did
     }
 
-    /// Whether the tree node that it completed last was the last of its segment, which is complete with it.
+    /// Returns true if the tree node that it completed last was the last of its segment, which is
+    /// now complete.
     pub fn completes_segment(&self) -> bool {
         self.completes_segment
     }
@@ -101,9 +104,9 @@ struct TreeNode {
     node: NodeId,
 }
 
-// Begins a node that is claimed for the pull, and gives its keys up.
+// Begins the node at `at` if it is claimed for `pull`, and gives its keys up.
 fn begin(
-    core: &mut PartCore<RunStore>,
+    core: &mut PartCore<SlabStore>,
     trees: &[StatusTree],
     seats: &mut Vec<TreeSeat>,
     at: TreeNode,
@@ -127,7 +130,7 @@ fn begin(
     true
 }
 
-// Begins a node in the tree of its segment, if it is claimed for the pull.
+// Begins the node at `at` in the tree of its segment, if it is claimed for `pull`.
 fn begin_at(trees: &[StatusTree], seats: &mut Vec<TreeSeat>, at: &TreeNode, pull: u32) -> bool
     requires seats { AreSeatsOf trees.now seats.old.items }
     requires segment { at.now.seg < length trees.now }
@@ -141,7 +144,8 @@ fn begin_at(trees: &[StatusTree], seats: &mut Vec<TreeSeat>, at: &TreeNode, pull
     trees[index].begin(&mut seats[index], at.node, pull).is_ok()
 }
 
-// Completes the first of these nodes of segments that is partial, and takes it off the list. Gives its segment.
+// Completes the first of `nodes` that is partial, removes it from the list, and returns its
+// segment.
 fn complete_first(
     trees: &[StatusTree],
     seats: &mut Vec<TreeSeat>,

@@ -23,8 +23,8 @@ use sq_tree::{NodeId, Status};
 use std::sync::Wait;
 
 impl Node {
-    /// Takes a turn: sends what is pending, and then performs each step once: job, request, cut, send, recv, load,
-    /// complete, resume.
+    /// Takes a turn: sends what is pending, and then performs each step once: job, request, cut,
+    /// send, receive, load, complete, resume.
     pub fn turn<R: Wait>(&mut self, rt: &R, fabric: &Fabric) -> Stepped
         requires { IsNodeOf fabric.now self.old }
         ensures { DoesAndKeeps fabric.now (TurnStep fabric.now) self.old result self.new }
@@ -50,7 +50,8 @@ impl Node {
         recv.and(load.and(complete.and(resume)))
     }
 
-    /// Sends the pending jobs up to the first whose queue is full, and each pending request whose queue has room.
+    /// Sends the pending jobs up to the first whose queue is full or for which memory runs out, and
+    /// each pending request whose queue has room.
     pub fn send_pending<R: Wait>(&mut self, rt: &R, fabric: &Fabric)
         ensures { self.new ≡ self.old }
     {
@@ -58,8 +59,9 @@ impl Node {
         self.puller.send_pending(rt, fabric.shared().requests);
     }
 
-    /// Returns true if the node is done ([`Node::is_done`]), nothing is pending here and, in the last stage, as many jobs
-    /// were answered as were posted. The counts of jobs are hints, at no certain moment.
+    /// Returns true if the node is done ([`Node::is_done`]), nothing is pending here and, in the
+    /// last stage, as many jobs were answered as were posted. The counts of jobs are hints: they
+    /// belong to no single moment.
     pub fn idle(&mut self, fabric: &Fabric) -> bool
         requires { IsNodeOf fabric.now self.old }
         ensures looks { Looks self.old self.new }
@@ -70,8 +72,9 @@ impl Node {
         self.has_sent(fabric) && self.is_done(fabric)
     }
 
-    /// Returns true if the node is [`Node::idle`] and, in the last stage, the run takes no more jobs from then on. In the
-    /// last stage it closes the run to jobs if each posted job is answered.
+    /// Returns true if the node is [`Node::idle`] and, in the last stage, the run takes no more
+    /// jobs from then on. In the last stage it closes the run to jobs if each posted job is
+    /// answered.
     pub fn close_if_idle(&mut self, fabric: &Fabric) -> bool
         requires { IsNodeOf fabric.now self.old }
         ensures looks { Looks self.old self.new }
@@ -82,9 +85,9 @@ impl Node {
         self.idle(fabric) && (!fabric.is_last_stage() || fabric.close_answered())
     }
 
-    /// Returns true if nothing is under way here, each segment of the running stage that leaves or comes here is complete
-    /// and, in the last stage, no transaction waits. It looks at the words of a segment until node 1 reads complete, and
-    /// never again.
+    /// Returns true if nothing is under way here, each segment of the running stage that leaves or
+    /// enters this partition is complete and, in the last stage, no transaction waits. It looks at
+    /// the words of a segment until node 1 reads complete, and never again.
     pub fn is_done(&mut self, fabric: &Fabric) -> bool
         requires { IsNodeOf fabric.now self.old }
         ensures looks { Looks self.old self.new }
@@ -100,11 +103,16 @@ impl Node {
         see_all_complete(fabric, &mut self.seats, &mut self.complete, part)
     }
 
-    /// Returns true if it gave up keys that aren't all cut and sent. A driver may ask before it lets the node give up
-    /// more; no step does.
+    /// Returns true if it gave up keys that aren't all cut and sent. A driver may ask before it
+    /// lets the node give up more; no step does.
     pub fn is_giving_up(&self) -> bool {
         (0..self.core.parts()).map(PartId::new).any(|dst| self.core.may_cut(dst)
             || self.core.outbox(dst).is_some())
+    }
+
+    /// Returns true if no job waits here to be forwarded.
+    pub fn has_forwarded(&self) -> bool {
+        self.desk.is_sent()
     }
 
     /// Takes the node apart, without a copy.
@@ -134,8 +142,8 @@ impl Node {
         }
     }
 
-    // Returns true if nothing is pending here and, in the last stage, each posted job is answered, by the counts. Before
-    // the last stage what is left continues in the next one.
+    // Returns true if nothing is pending here and, in the last stage, each posted job is answered,
+    // by the counts. Before the last stage, what is left continues in the next one.
     fn has_sent(&self, fabric: &Fabric) -> bool {
         self.desk.is_sent()
             && self.puller.pending().is_empty()
@@ -189,8 +197,8 @@ impl Node {
     }
 }
 
-// Returns true if each segment of the running stage that leaves or comes to `part` is complete. It doesn't look again at
-// those whose flag in `complete` is set.
+// Returns true if each segment of the running stage that leaves or enters `part` is complete. It
+// skips those whose flag in `complete` is set.
 fn see_all_complete(
     fabric: &Fabric,
     seats: &mut Vec<TreeSeat>,
@@ -221,7 +229,7 @@ fn see_all_complete(
     true
 }
 
-// Returns true if `segment` moves in the running stage, and leaves or comes to `part`.
+// Returns true if `segment` moves in the running stage, and leaves or enters `part`.
 fn is_of(fabric: &Fabric, segment: &Range, part: PartId) -> bool
     ensures { result ≡ takes_part fabric.now.recon fabric.now.stage part segment.now }
 {

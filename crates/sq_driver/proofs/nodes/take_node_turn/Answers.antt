@@ -34,8 +34,8 @@ loop-step-preserved g c = tried g (goal.at.loop-step-preserved g c).After-try_st
 pub returns-then-not-serve_on : goal.returns-then-not-serve_on
 returns-then-not-serve_on g c = served g (goal.at.returns-then-not-serve_on g c).After-serve_on
 
-pub returns-then-not-ends_when_idle : goal.returns-then-not-ends_when_idle
-returns-then-not-ends_when_idle g c = served g (goal.at.returns-then-not-ends_when_idle g c).After-serve_on
+pub returns-then-not-ends_when_idle-2 : goal.returns-then-not-ends_when_idle-2
+returns-then-not-ends_when_idle-2 g c = served g (goal.at.returns-then-not-ends_when_idle-2 g c).After-serve_on
 
 pub returns-then-close_if_idle : goal.returns-then-close_if_idle
 returns-then-close_if_idle g c = looked g (goal.at.returns-then-close_if_idle g c).After-close_if_idle

@@ -1,6 +1,7 @@
-use Rattle.std.proofs.Common.{◌≡◌, length}
+use Rattle.std.proofs.Common.{map}
+use Rattle.sq_gather.specs.Left.{OnlyGrow}
 use Rattle.sq_gather.proofs.left.add_posts.Given as goal
 
--- there is a list for each partition still
-abbrev pub invariant-loop-to : goal.invariant-loop-to
-invariant-loop-to l = length l.left.items ≡ length l.initial.left.items
+-- the jobs only grow
+abbrev pub invariant-loop-posts : goal.invariant-loop-posts
+invariant-loop-posts l = OnlyGrow (map (λ jobs. jobs.items) l.initial.left.items) (map (λ jobs. jobs.items) l.left.items)

@@ -17,5 +17,5 @@ returns-in-Ok-clause-holds c =
 pub returns-in-Ok-clause-all : goal.returns-in-Ok-clause-all
 returns-in-Ok-clause-all c =
     let run = c.in-Ok.ensures.run in
-    all_of_new c.args.opening.now c.args.pumps _ c.in-Ok.opened.fabric c.in-Ok.opened.nodes.items c.in-Ok.opened.pumps.items c.in-Ok.ensures.set_up.opening c.in-Ok.ensures.fabric run.shared
+    all_of_new c.args.opening.now c.args.pumps _ c.in-Ok.opened.fabric c.in-Ok.opened.nodes.items c.in-Ok.opened.pumps.items run.shared
     c.in-Ok.ensures.fits.0 run.seats run.each_node run.each_pump
