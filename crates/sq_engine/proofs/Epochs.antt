@@ -19,11 +19,11 @@ use Rattle.sq_node.specs.FabricValue.{FabricValue}
 use Rattle.sq_node.specs.NodeState.{NodeState}
 use Rattle.sq_driver.specs.Nodes.{AllDriven}
 use Rattle.sq_driver.specs.Pumps.{AllPumpsDriven}
-use Rattle.sq_gather.specs.Gathered.{HoldsInStage, IsGathered}
+use Rattle.sq_gather.specs.Gathered.{HoldsInStage, InPartOrder, IsGathered}
 use Rattle.sq_gather.specs.Reopened.{IsRunInStage, IsNextStageOf, IsFirstStageAfter}
 use Rattle.sq_node_model.proofs.Folded.{rowless_opening}
 use Rattle.sq_gather.proofs.Running.{run_goes_on, holds_in_stage}
-use Rattle.sq_gather.proofs.Workers.{each_stays, each_pump_stays, written}
+use Rattle.sq_gather.proofs.Workers.{each_stays, each_pump_stays, still_in_order, written}
 use Rattle.sq_audit.specs.declared.job.Job.{Job}
 use Rattle.sq_audit.specs.Folding.{jobs_left}
 use Rattle.sq_page.specs.Pages.{AllStored, left_opening, left_gathered}
@@ -158,10 +158,10 @@ module _ (o : OpeningValue) where
       subst (λ (p : PauseValue). p.gathered.stage < stages p.opening.recon) at.1 (stage_there earlier episode at.0)
 
   -- the first epoch
-  pub opened_runs : (fabric : FabricValue) (nodes : List NodeState) (pumps : List PumpValue) → IsRunInStage o (first_began o) fabric nodes pumps
+  pub opened_runs : (fabric : FabricValue) (nodes : List NodeState) (pumps : List PumpValue) → IsRunInStage o (first_began o) fabric nodes pumps → InPartOrder nodes
       → RunsAfter o [] (epoch_value o [] fabric nodes pumps)
-  opened_runs fabric nodes pumps run =
-      (tt, first_start o, refl, record { opening = refl; jobs = none_posted []; run = run })
+  opened_runs fabric nodes pumps run order =
+      (tt, first_start o, refl, record { opening = refl; jobs = none_posted []; run = run; order = order })
 
   module _ (past : List Episode) where
     -- an epoch runs still once one more job was posted
@@ -180,6 +180,7 @@ module _ (o : OpeningValue) where
                   ap (λ (list : List Job). list ++ job ∷ []) jobs.1 ∙ append_assoc runs.1.jobs jobs.0 (job ∷ []),
                 );
                 run = running.run;
+                order = running.order;
               }),
         )
 
@@ -187,7 +188,10 @@ module _ (o : OpeningValue) where
     pub driven_runs : (old new : EpochValue) → IsOpening old.opening → OnlyDriven old new → RunsAfter o past old → RunsAfter o past new
     driven_runs old new is driven runs =
         let running = runs.3 in
-        let opening = force_is old.opening runs.1.opening running.opening is in (
+        let opening = force_is old.opening runs.1.opening running.opening is in
+        let nodes =
+        each_stays old.fabric old.nodes new.nodes driven.nodes.count
+        (λ i d lt. let was = driven.nodes.each i d lt in record { part = was.part; of = was.stays; holds = was.holds }) in (
           runs.0,
           runs.1,
           runs.2,
@@ -195,9 +199,9 @@ module _ (o : OpeningValue) where
             opening = subst (λ (kept : OpeningValue). IsInForce kept runs.1.opening) (sym driven.opening) running.opening;
             jobs = (running.jobs.0, driven.jobs ∙ running.jobs.1);
             run = subst (λ (fabric : FabricValue). IsRunInStage runs.1.opening runs.1.began fabric new.nodes new.pumps) (sym driven.fabric)
-                (run_goes_on runs.1.opening runs.1.began old.fabric old.nodes new.nodes old.pumps new.pumps opening running.run
-                (each_stays old.fabric old.nodes new.nodes driven.nodes.count (λ i d lt. let was = driven.nodes.each i d lt in record { part = was.part; of = was.stays; holds = was.holds }))
+                (run_goes_on runs.1.opening runs.1.began old.fabric old.nodes new.nodes old.pumps new.pumps opening running.run nodes
                 (each_pump_stays old.fabric old.pumps new.pumps driven.pumps.count (λ i d lt. let was = driven.pumps.each i d lt in record { of = was.stays; claims = was.claims })));
+            order = still_in_order old.fabric old.nodes new.nodes nodes running.order;
           },
         )
 
@@ -225,8 +229,8 @@ module _ (o : OpeningValue) where
                   stage = gathered.stage ∙ sym run.begun.stage;
                   placed = placed start.opening start.began opening holds;
                   goes_on = grows start.opening start.began opening holds;
-                  written = flat_map (λ (node : NodeState). node.receipts) epoch.nodes;
-                  receipts = gathered.receipts ∙ ap (λ (list : List ReceiptValue). list ++ flat_map (λ (node : NodeState). node.receipts) epoch.nodes) (sym run.begun.receipts);
+                  written = flat_map (λ (node : NodeState). node.receipts) gathered.by_part;
+                  receipts = gathered.receipts ∙ ap (λ (list : List ReceiptValue). list ++ flat_map (λ (node : NodeState). node.receipts) gathered.by_part) (sym run.begun.receipts);
                   all_left = gathered.left ∙ run.shared.parts;
                 },
               ),
@@ -239,16 +243,17 @@ module _ (o : OpeningValue) where
   pub stage_runs : (past : List Episode) (pause : PauseValue) (fabric : FabricValue) (nodes : List NodeState) (pumps : List PumpValue)
       → PausesAfter o past pause → HasDoneStage pause → HasMoreStages pause
       → ((rows : TableValue) → IsNextStageOf (folded_opening pause.opening rows) pause.gathered fabric nodes pumps)
+      → InPartOrder nodes
       → RunsAfter o past (epoch_value pause.opening pause.jobs fabric nodes pumps)
-  stage_runs [] pause fabric nodes pumps at done more runs = absurd at.1
-  stage_runs (episode ∷ earlier) pause fabric nodes pumps at done more runs =
+  stage_runs [] pause fabric nodes pumps at done more runs order = absurd at.1
+  stage_runs (episode ∷ earlier) pause fabric nodes pumps at done more runs order =
       let table = (pause_after episode).opening.table in
       let here = with_other_rows pause table in
       let placed = subst (λ (p : PauseValue). IsPlaced p.opening p.gathered) at.1 (placed_there earlier episode at.0) in (
         at.0,
         stage_start here,
         subst (λ (p : PauseValue). Follows p (stage_start here)) (sym at.1) (done, inl (more, refl)),
-        record { opening = refl; jobs = none_posted pause.jobs; run = runs table placed done },
+        record { opening = refl; jobs = none_posted pause.jobs; run = runs table placed done; order = order },
       )
 
   -- a move to a plan is due after a pause
@@ -274,9 +279,10 @@ module _ (o : OpeningValue) where
   -- the first stage of a move that was due runs
   pub move_runs : (past : List Episode) (due : PauseValue) (fabric : FabricValue) (nodes : List NodeState) (pumps : List PumpValue) → IsDueAfter o past due
       → ((rows : TableValue) → IsFirstStageAfter (folded_opening due.opening rows) due.gathered fabric nodes pumps)
+      → InPartOrder nodes
       → RunsAfter o past (epoch_value due.opening due.jobs fabric nodes pumps)
-  move_runs [] due fabric nodes pumps none runs = absurd none
-  move_runs (episode ∷ earlier) due fabric nodes pumps follows runs =
+  move_runs [] due fabric nodes pumps none runs order = absurd none
+  move_runs (episode ∷ earlier) due fabric nodes pumps follows runs order =
       let pause = pause_after episode in
       let come = follows.0 in
       let is = follows.1 in
@@ -296,6 +302,7 @@ module _ (o : OpeningValue) where
           opening = is.opening;
           jobs = ([], is.jobs ∙ sym (append-nil pause.jobs));
           run = subst (λ (p : OpeningValue × GatheredValue). IsRunInStage p.0 (onward_began pause.opening p.1) fabric nodes pumps) (λ i. (sym is.opening i, is.gathered i)) run;
+          order = order;
         },
       )
 

@@ -59,6 +59,7 @@ grown_runs o past old more runs =
           ap (λ (list : List Job). list ++ more) jobs.1 ∙ append_assoc runs.1.jobs jobs.0 more,
         );
         run = running.run;
+        order = running.order;
       },
     )
 

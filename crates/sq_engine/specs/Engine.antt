@@ -1,4 +1,4 @@
--- An engine, and how it continues.
+-- The state of an engine, and how an engine continues.
 use Rattle.std.specs.Prelude.{◌≡◌, ◌≤◌, List, [], ◌++◌, map, Option, None, Some}
 use Rattle.sq_plan.specs.PlanValue.{PlanValue}
 use Rattle.sq_store.specs.StoreValue.{StoreValue}
@@ -15,7 +15,7 @@ use Rattle.sq_epoch.specs.Progress.{stage_segments}
 use Rattle.sq_engine.specs.Values.{PauseValue, receipts_since_page, complete_segments}
 use Rattle.sq_engine.specs.History.{Episode, EpochEnded, RunsAfter, PausesAfter, IsDueAfter}
 
--- the opening in force, which may have other rows than this one has
+-- the opening in force, except for its rows
 abbrev pub opening_in : Standing → OpeningValue
 opening_in (Running epoch) = epoch.opening
 opening_in (Paused pause) = pause.opening
@@ -33,14 +33,15 @@ receipts_in (Running epoch) = receipts_since_page epoch
 receipts_in (Paused pause) = pause.gathered.receipts
 receipts_in (Due due) = due.gathered.receipts
 
--- the families of each partition, where no epoch runs
+-- the families of each partition, if no epoch runs
 abbrev pub stores_in : Standing → Option (List StoreValue)
 stores_in (Running epoch) = None
 stores_in (Paused pause) = Some pause.gathered.stores
 stores_in (Due due) = Some due.gathered.stores
 
--- how many segments move in the running stage, and how many of them are complete: at a pause by their trees, in an
--- epoch as many as its workers reported, and none of a move that is due; where no epoch runs no family was moved in one
+-- the progress of the running stage: in an epoch at most as many segments are complete as move; at
+-- a pause its trees say how many are complete; in a move that is due none is; and if no epoch runs,
+-- no family was moved
 abbrev pub HasProgress : Standing → StageProgress → Type 0
 HasProgress (Running epoch) progress =
     (progress.segments ≡ stage_segments epoch.opening.recon epoch.fabric.stage) × (progress.complete ≤ progress.segments)
@@ -53,23 +54,24 @@ HasProgress (Due due) progress =
 abbrev pub EngineRests : Standing → Type 0
 EngineRests standing = (opening_in standing).recon.ranges ≡ []
 
--- an engine that opened with this is in this state after these episodes
+-- an engine that opened with `o` and went through the episodes `past` is in this state
 abbrev pub Stands : OpeningValue → List Episode → Standing → Type 0
 Stands o past (Running epoch) = RunsAfter o past epoch
 Stands o past (Paused pause) = PausesAfter o past pause
 Stands o past (Due due) = IsDueAfter o past due
 
--- an engine continued: whatever episodes it had come by, it has come by them and perhaps by more, in which epochs ended
+-- an engine continued: it has gone through the same episodes, and perhaps through further ones, in
+-- which epochs ended
 abbrev pub KeepsHistory : Standing → Standing → Type 0
 KeepsHistory old new =
     (o : OpeningValue) (past : List Episode) → Stands o past old
     → (more : List PauseValue) × Stands o (map EpochEnded more ++ past) new
 
--- an engine continued, and no job was posted or put onto a page
+-- an engine continued, and no job was posted or put on a page
 abbrev pub KeepsHistoryAndJobs : Standing → Standing → Type 0
 KeepsHistoryAndJobs old new = KeepsHistory old new × (posted_jobs new ≡ posted_jobs old)
 
--- an engine goes to the same plan still
+-- the engine still has the same plan as its goal
 abbrev pub KeepsPlan : Standing → Standing → Type 0
 KeepsPlan old new = (opening_in new).new ≡ (opening_in old).new
 
@@ -77,7 +79,7 @@ KeepsPlan old new = (opening_in new).new ≡ (opening_in old).new
 abbrev pub KeepsReceipts : Standing → Standing → Type 0
 KeepsReceipts old new = receipts_in new ≡ receipts_in old
 
--- why an engine doesn't go to another plan: where rows move or the plans have a fault it is as it was
+-- why an engine refuses to go to `plan`; if rows move or the plans have a fault, it is unchanged
 abbrev pub IsNotMoved : Standing → PlanValue → NotMoved → Standing → Type 0
 IsNotMoved old plan Moving new = (new ≡ old) × (EngineRests old → ⊥)
 IsNotMoved old plan (Plans fault) new =

@@ -12,24 +12,25 @@ use Rattle.sq_engine.specs.declared.pause.StageEnd.TheVariants.{Missing, StageDo
 use Rattle.sq_engine.specs.Values.{PauseValue}
 use Rattle.sq_engine.specs.History.{HasMoreStages, IsLastStage, HasDoneStage}
 
--- how far the move is once an epoch has ended
+-- how far the move is after an epoch has ended
 abbrev pub EndsStage : PauseValue → StageEnd → Type 0
 EndsStage pause Missing = HasDoneStage pause → ⊥
 EndsStage pause StageDone = HasDoneStage pause × HasMoreStages pause
 EndsStage pause MoveDone = HasDoneStage pause × IsLastStage pause
 
--- why no page is taken of a pause: its stage isn't done, or it is and there is no memory
+-- why no page is taken of a pause: its stage isn't done, or memory ran out although it is
 abbrev pub GivesNoPage : PauseValue → NotTaken → Type 0
 GivesNoPage pause Moving = HasDoneStage pause → ⊥
 GivesNoPage pause Memory = HasDoneStage pause
 
--- the page is of a pause, for the jobs that have a receipt, whose ids differ
+-- a page of `pause`, for the jobs that have a receipt, whose ids differ
 pub record IsPageFrom (pause : PauseValue) (page : Page) : Type 0 where
   pub run : IsPageOf pause.gathered page.run
   pub jobs : page.jobs.items ≡ answered_jobs pause.gathered.receipts pause.jobs
   pub differ : IdsDiffer page.jobs.items
 
--- a closed engine had what the last epoch left: its last page is of that, for all jobs that are on no other page
+-- a closed engine had what the last epoch left: its last page is of that, for all jobs that are on
+-- no other page
 pub record HasClosed (pause : PauseValue) (closed : Closed) : Type 0 where
   pub opening : closed.opening ≡ pause.opening
   pub run : IsPageOf pause.gathered closed.page.run

@@ -1,4 +1,4 @@
--- An epoch that was served, and an engine.
+-- An epoch that served a client, and an engine that did.
 use Rattle.std.specs.Prelude.{◌≡◌, ℕ, Bool, true, List, [], ◌∷◌, ◌++◌}
 use Rattle.std.specs.List.{flat_map}
 use Rattle.std.specs.List.Sorted.{IsPermutation}
@@ -19,11 +19,11 @@ told_answer (Refuses job fault) = []
 told_answer Rests = []
 told_answer Ends = []
 
--- the answers that were given, in their order
+-- the answers that were given, in order
 abbrev pub told_answers : List Exchange → List ReceiptValue
 told_answers exchanges = flat_map told_answer exchanges
 
--- receipts grew by the answers that were given, each once, in whatever order
+-- the receipts grew by the answers that were given, each once, in any order
 abbrev pub GrowByTold : List ReceiptValue → List Exchange → List ReceiptValue → Type 0
 GrowByTold old exchanges new = IsPermutation (old ++ told_answers exchanges) new
 
@@ -31,8 +31,9 @@ GrowByTold old exchanges new = IsPermutation (old ++ told_answers exchanges) new
 abbrev pub segments_of_epoch : EpochValue → ℕ
 segments_of_epoch epoch = stage_segments epoch.opening.recon epoch.fabric.stage
 
--- a client posted jobs, the workers ran, nothing else changed, and the client was given the answers that the nodes wrote. What it was
--- told of the stage was true. Where a node had no thread it was asked for nothing, so that it posted none
+-- a client posted jobs, the workers ran, nothing else changed, and the client was given the answers
+-- that the nodes wrote. What it was told of the stage was true. If a node had no thread, the client
+-- was asked for nothing, and so posted no job
 pub record EpochIsServed {X : Type 0} (becomes : X → ClientCall → X → Type 0) (old : EpochValue) (before : X)
     (new : EpochValue) (after : X) (is_whole lacks_threads : Bool) : Type 0 where
   pub exchanges : List Exchange
@@ -41,8 +42,8 @@ pub record EpochIsServed {X : Type 0} (becomes : X → ClientCall → X → Type
   pub given : AllAreGiven is_whole exchanges old.nodes new.nodes
   pub none_asked : lacks_threads ≡ true → commands_in exchanges ≡ []
 
--- an engine came to an epoch, this was served, and the engine continued from there. Where each answer was given, its receipts since the
--- last page grew by just these
+-- an engine came to an epoch, which served a client, and the engine continued from there. If each
+-- answer was given, its receipts since the last page grew by exactly those answers
 pub record EngineIsServed {X : Type 0} (becomes : X → ClientCall → X → Type 0) (old : Standing) (before : X)
     (new : Standing) (after : X) (is_whole lacks_threads : Bool) : Type 0 where
   pub epoch : EpochValue

@@ -1,4 +1,4 @@
--- Pages that are taken of an engine, the last of them when it is closed.
+-- Pages taken of an engine, the last of them at its close.
 use Rattle.std.specs.Prelude.{◌≡◌, List, []}
 use Rattle.sq_ranges.specs.OpeningValue.{OpeningValue}
 use Rattle.sq_page.specs.declared.page.Page.{Page}
@@ -13,14 +13,15 @@ use Rattle.sq_engine.specs.History.{Episode, IsLastStage, HasDoneStage, PausesAf
 use Rattle.sq_engine.specs.Outcomes.{IsPageFrom, HasClosed}
 use Rattle.sq_engine.specs.Engine.{opening_in, receipts_in, EngineRests, KeepsHistoryAndJobs, KeepsReceipts}
 
--- a page was taken of a pause, and left this: whatever the engine had come by, it has come by this then
+-- a page was taken of `pause` and left `left`: whatever episodes led to `pause`, they and the page
+-- lead to `left`
 abbrev pub LeavesPage : PauseValue → PauseValue → Type 0
 LeavesPage pause left =
     (o : OpeningValue) (past : List Episode)
     → PausesAfter o past pause → GoesOnAfterPage o past left
 
--- a page was taken of an engine once it had come to a pause at which the last stage of a move was done, with the receipts since the page
--- before, and it continued from what that left, without receipts
+-- a page was taken of an engine at a pause after the last stage of a move, with the receipts since
+-- the page before; the engine continued from what the page left, without receipts
 pub record TakesItsPage (old : Standing) (page : Page) (new : Standing) : Type 0 where
   pub pause : PauseValue
   pub comes : KeepsHistoryAndJobs old (Paused pause)
@@ -34,22 +35,23 @@ pub record TakesItsPage (old : Standing) (page : Page) (new : Standing) : Type 0
   pub receipts : KeepsReceipts old (Paused pause)
   pub none_since : receipts_in new ≡ []
 
--- and the page has the plan that was reached
+-- the same, and the page has the plan that was reached
 pub record TakesPage (old : Standing) (page : RestPage) (new : Standing) : Type 0 where
   pub taken : TakesItsPage old page.page new
   pub plan : page.plan ≡ (opening_in old).new
 
--- why nothing is taken: where rows move the engine is as it was
+-- why no page is taken; if rows move, the engine is unchanged
 abbrev pub IsNotTaken : Standing → NotTaken → Standing → Type 0
 IsNotTaken old Moving new = (new ≡ old) × (EngineRests old → ⊥)
 IsNotTaken old Memory new = KeepsHistoryAndJobs old new
 
--- why an engine isn't paused, which is as it was: its rows move, or there is no memory
+-- why an engine isn't paused: its rows move, or memory ran out; it is unchanged
 abbrev pub IsNotPaused : Standing → NotTaken → Standing → Type 0
 IsNotPaused old Moving new = (new ≡ old) × (EngineRests old → ⊥)
 IsNotPaused old Memory new = (new ≡ old) × EngineRests old
 
--- an engine was closed once it had come to a pause at which the last stage of a move was done, with the receipts since the last page
+-- an engine was closed at a pause after the last stage of a move, with the receipts since the last
+-- page
 pub record HasClosedAfter (standing : Standing) (closed : Closed) : Type 0 where
   pub pause : PauseValue
   pub comes : KeepsHistoryAndJobs standing (Paused pause)

@@ -10,8 +10,9 @@ use Rattle.sq_engine.specs.History.{Episode, pause_after, IsLastStage, HasDoneSt
 use Rattle.sq_engine.specs.Outcomes.{HasClosed}
 use Rattle.sq_engine.specs.Ending.{paged, AllSound, EngineEndsAsPlanned}
 
--- this is the verdict on what an engine had at this pause, after the latest of these episodes, for all jobs that are on no page;
--- and where it is Sound, and each page was found sound, the engine ends as planned
+-- the verdict on what an engine had at the pause `last`, the latest of the episodes `past`, for all
+-- jobs that are on no page; if it is Sound, and each page was found sound, the engine ends as
+-- planned
 pub record IsEndVerdict (o : OpeningValue) (past : List Episode) (last : PauseValue) (verdict : Verdict) : Type 0 where
   pub right : IsVerdict last.opening last.gathered last.jobs verdict
   pub planned : verdict ≡ Sound → AllSound (paged past) → EngineEndsAsPlanned o past last
@@ -20,7 +21,7 @@ abbrev pub IsVerdictAfter : OpeningValue → List Episode → Verdict → Type 0
 IsVerdictAfter o [] verdict = ⊥
 IsVerdictAfter o (episode ∷ earlier) verdict = IsEndVerdict o (episode ∷ earlier) (pause_after episode) verdict
 
--- this is the verdict on each engine that was closed so, whatever it had come by
+-- the verdict on each engine that was closed with `closed`, whatever episodes it went through
 abbrev pub SpeaksForEngines : Closed → Verdict → Type 0
 SpeaksForEngines closed verdict =
     (o : OpeningValue) (past : List Episode) (pause : PauseValue)

@@ -5,12 +5,13 @@ use sq_gather::Gathered;
 use sq_page::Page;
 use sq_ranges::Opening;
 
-/// What an engine had, and its last page.
+/// What an engine had when it was closed, and its last page.
 #[derive(Drop)]
 pub struct Closed {
-    /// The opening that was in force. After a page it may have other rows than these.
+    /// The opening that was in force. After a page it still has the rows from before that page.
     pub opening: Opening,
-    /// The last page: the receipts since the page before, and all jobs that are on no other page.
+    /// The last page: the receipts since the page before it, and every job that is on no other
+    /// page.
     pub page: Page,
     /// What the page left: the families with their logs folded, and no receipts.
     pub gathered: Gathered,

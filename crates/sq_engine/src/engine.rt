@@ -1,4 +1,4 @@
-// An engine that lasts.
+// A long-running engine.
 ghost use Rattle.std.specs.Prelude.{◌≡◌, ◌≤◌, ◌↔◌, ◌∷◌, [], ◌++◌, true, IsTrue, IsSome};
 ghost use Rattle.std.specs.Prelude.{option_copied, IfNone, IfOk, IfErr, OnOk, OnErr, IsErrOf, MatchResult};
 ghost use Rattle.std.specs.List.{list_any};
@@ -26,15 +26,15 @@ use sq_epoch::{Client, PostFault, StageProgress, any_shows_long_log};
 use sq_page::Page;
 use sq_plan::{PartId, Plan};
 use sq_ranges::{Opening, Recon, ReconFault};
-use sq_runs::RunStore;
 use sq_schema::Txn;
+use sq_slab::SlabStore;
 use std::alloc::Global;
 use std::marker::Model;
 use std::sync::Wait;
 use std::thread::Threads;
 use thiserror::Error;
 
-/// Why a job isn't posted to an engine.
+/// Why an engine refuses a job.
 #[derive(Clone, Copy, Debug, PartialEq, Eq, Error)]
 pub enum NotPosted {
     #[error("no epoch runs")]
@@ -43,7 +43,7 @@ pub enum NotPosted {
     Refused(PostFault),
 }
 
-/// Why an engine doesn't go to another plan.
+/// Why an engine refuses to go to another plan.
 #[derive(Clone, Copy, Debug, PartialEq, Eq, Error)]
 pub enum NotMoved {
     #[error("rows move")]
@@ -54,8 +54,8 @@ pub enum NotMoved {
     Memory,
 }
 
-/// An engine that lasts: jobs are posted and answered while rows move, and one move follows another. To a contract it is its
-/// `Standing`.
+/// A long-running engine: it takes and answers jobs while rows move, and performs one move after
+/// another. To a contract it is its `Standing`.
 #[derive(Drop)]
 pub struct Engine {
     standing: Standing,
@@ -78,26 +78,28 @@ impl Model for Engine {
     ghost invariant = { λ e. e.pumps ≤ MAX_PUMPS };
 }
 
-/// An engine that was served.
+/// What [`Engine::serve`] returns.
 #[derive(Drop)]
 pub struct EngineServed {
-    /// The engine, which has continued where it could.
+    /// The engine, which has continued if it could.
     pub engine: Engine,
-    /// Whether each answer that was written was given, as in [`Served`].
+    /// Whether the client was given each answer that was written, as in [`Served`].
     pub is_whole: bool,
-    /// Whether the epoch ended since no thread could be had for a node, as in [`Served`].
+    /// Whether the epoch ended because a node got no thread, as in [`Served`].
     pub lacks_threads: bool,
-    /// How its workers ended, as in [`Served`].
+    /// How the epoch's workers ended, as in [`Served`].
     pub end: WorkersEnd,
-    /// Whether they ended since one of them lacked memory for some seconds, and could do nothing meanwhile.
+    /// Whether the workers ended because one of them lacked memory for some seconds and could do
+    /// nothing meanwhile.
     pub lacks_memory: bool,
-    /// How far its stage was as the epoch ended, by the reports of the workers.
+    /// The progress of the stage when the epoch ended, as its workers reported it.
     pub progress: StageProgress,
 }
 
 impl Engine {
-    /// An engine in the first stage of an opening, with the families of its rows and this many pumps. It is at rest where
-    /// both plans are the same. Where there is no memory the opening comes back as it was.
+    /// Returns an engine in the first stage of `opening`, with the families of its rows and `pumps`
+    /// pumps. It is at rest if both plans are the same. If memory runs out, `opening` is returned
+    /// unchanged.
     pub fn open<R: Threads + Sync>(
         rt: &R,
         alloc: Global,
@@ -117,7 +119,7 @@ impl Engine {
         })
     }
 
-    /// The opening in force.
+    /// Returns the opening in force. After a page it still has the rows from before that page.
     pub fn opening(&self) -> &Opening
         ensures opening { result.now ≡ opening_in self.now }
         ensures set_up { IsSetUp result.now }
@@ -129,15 +131,16 @@ impl Engine {
         }
     }
 
-    /// Whether nothing moves.
+    /// Returns true if no rows move.
     pub fn is_at_rest(&self) -> bool
         ensures { IsTrue result ↔ EngineRests self.now }
     {
         self.opening().recon().ranges().is_empty()
     }
 
-    /// How far the running stage is: how many segments move in it, and how many of them are complete. In an epoch the
-    /// workers reported that; at a pause it is read off the trees; and a move that is due has completed none.
+    /// Returns the progress of the running stage: how many segments move in it, and how many of
+    /// them are complete. In an epoch the count of complete segments is what the workers reported;
+    /// at a pause it is read from the trees; for a move that is due it is 0.
     pub fn progress(&self) -> StageProgress
         ensures { HasProgress self.now result }
     {
@@ -148,8 +151,9 @@ impl Engine {
         }
     }
 
-    /// The families of each partition, where no epoch runs, as after [`Engine::pause`].
-    pub fn stores(&self) -> Option<&[RunStore]>
+    /// Returns the families of each partition, or `None` while an epoch runs. After
+    /// [`Engine::pause`] none runs.
+    pub fn stores(&self) -> Option<&[SlabStore]>
         ensures { option_copied result ≡ stores_in self.now }
     {
         match &self.standing {
@@ -159,8 +163,9 @@ impl Engine {
         }
     }
 
-    /// Ends the epoch of an engine at rest, so that its families are lent: [`Engine::stores`]. What runs or serves it next begins
-    /// another epoch. Where rows move, and where there is no memory, the engine comes back as it was.
+    /// Ends the epoch of an engine at rest, so that [`Engine::stores`] returns its families. The
+    /// next run or serve begins another epoch. If rows move or memory runs out, the engine is
+    /// returned unchanged.
     pub fn pause<R: Wait>(self, rt: &R, alloc: Global) -> Result<Engine, (NotTaken, Engine)>
         ensures at_rest { OnOk result (EngineRests self) }
         ensures paused { IfOk result (λ engine. KeepsHistoryAndJobs self engine) }
@@ -179,8 +184,8 @@ impl Engine {
         }
     }
 
-    /// Posts a job to a partition, as [`Epoch::post`] does, or says why it doesn't. No epoch runs after [`Engine::pause`] and
-    /// while the engine waits for memory.
+    /// Posts a copy of `txn` to partition `part`, as [`Epoch::post`] does, or returns why not. It
+    /// fails with `NoEpoch` after [`Engine::pause`] and while the engine waits for memory.
     pub fn post<R: Wait>(&mut self, rt: &R, part: PartId, txn: &Txn) -> Result<(), NotPosted>
         ensures ok { OnOk result (posted_jobs self.new
             ≡ posted_jobs self.old ++ record { part = part; txn = txn.now } ∷ []) }
@@ -197,10 +202,11 @@ impl Engine {
         }
     }
 
-    /// Runs the workers of the epoch, as [`Epoch::run`] does, and then continues where it can: once each segment of the
-    /// stage is complete to the next stage, and after the last one to rest. Workers that continue where they are idle
-    /// end then too. Where there is no memory to continue it waits, and the next call tries it first. Returns how the workers
-    /// ended; `None` if there was no memory to begin the epoch.
+    /// Runs the epoch's workers, as [`Epoch::run`] does, and then continues if it can: to the next
+    /// stage once each segment of this one is complete, and after the last stage to rest. Once each
+    /// segment is complete, workers that would keep running while idle end too. If memory runs out,
+    /// the engine waits, and the next call tries first to continue. Returns how the workers ended,
+    /// or `None` if there was no memory to begin the epoch.
     pub fn run_epoch<R: Threads + Wait + Sync, G: Gate>(
         self,
         rt: &R,
@@ -224,11 +230,11 @@ impl Engine {
         }
     }
 
-    /// Runs the epoch with a client, as [`Epoch::serve`] does, and then continues where it can, as
-    /// [`Engine::run_epoch`] does. At rest the epoch ends too where an answer shows that a page should be taken
-    /// ([`Engine::wants_page`]). Where each answer was given, the receipts since the last page have grown by just
-    /// these. Where there is no memory the engine comes back, perhaps in a later stage, and the client was not
-    /// called.
+    /// Runs the epoch and serves `client`, as [`Epoch::serve`] does, and then continues if it can,
+    /// as [`Engine::run_epoch`] does. At rest the epoch also ends once an answer shows that a page
+    /// should be taken ([`Engine::wants_page`]). If each answer was given, the receipts since the
+    /// last page have grown by exactly those answers. If memory runs out, the engine is returned,
+    /// perhaps in a later stage, and `client` was not called.
     pub fn serve<C: Client, R: Threads + Wait + Sync>(
         self,
         rt: &R,
@@ -282,8 +288,8 @@ impl Engine {
         }
     }
 
-    /// Whether a log is so long that a page should be taken once the engine is at rest: a receipt since the last page has
-    /// [`LONG_LOG`] or a later position.
+    /// Returns true if a log is so long that a page should be taken once the engine is at rest: a
+    /// receipt since the last page has position [`LONG_LOG`](sq_epoch::LONG_LOG) or a later one.
     pub fn wants_page(&self) -> bool
         ensures { result ≡ list_any shows_long_log (receipts_in self.now) }
     {
@@ -294,8 +300,9 @@ impl Engine {
         }
     }
 
-    /// Goes to another plan: the move begins in its first stage. Otherwise the engine comes back, as it was where rows move or
-    /// the plans have a fault; where there is no memory an epoch may have ended.
+    /// Begins a move to `plan`, in its first stage. If rows move or the plans have a fault, the
+    /// engine is returned unchanged; if memory runs out, it is returned too, and an epoch may have
+    /// ended.
     pub fn move_to<R: Wait>(
         self,
         rt: &R,
@@ -323,8 +330,10 @@ impl Engine {
         }
     }
 
-    /// Takes a page of an engine at rest, for the jobs that have a receipt, as [`Pause::take_page`] does, and continues
-    /// without it. Where there is no memory for it an epoch may have ended.
+    /// Takes a page of an engine at rest for the jobs that have a receipt, as [`Pause::take_page`]
+    /// does, and returns the page and the engine, which continues without it. If rows move, the
+    /// engine is returned unchanged; if memory runs out, it is returned too, and an epoch may have
+    /// ended.
     pub fn take_page<R: Threads + Wait + Sync>(
         self,
         rt: &R,
@@ -359,9 +368,10 @@ impl Engine {
         }
     }
 
-    /// Closes an engine at rest: the epoch ends, and the last page is taken of what it left, as [`Pause::close`] does. Where
-    /// there is no memory for it an epoch may have ended. What the engine had is judged by [`Closed::audit`]: where that is sound,
-    /// and so was each page before, it ends as planned (the law
+    /// Closes an engine at rest: ends the epoch and takes the last page of what it left, as
+    /// [`Pause::close`] does. If rows move, the engine is returned unchanged; if memory runs out,
+    /// it is returned too, and an epoch may have ended. [`Closed::audit`] judges what the engine
+    /// had: if it is sound, and so was each page before, the engine ends as planned (the law
     /// [`a_sound_engine_ends_where_planned`](crate::laws::a_sound_engine_ends_where_planned)).
     pub fn close<R: Threads + Wait + Sync>(
         self,
@@ -384,7 +394,7 @@ impl Engine {
     }
 }
 
-// Ends the epoch, if one runs. Where there is no memory it comes back as it was.
+// Ends the epoch, if one runs. If memory runs out, `standing` is returned unchanged.
 fn end_epoch<R: Wait>(rt: &R, alloc: Global, standing: Standing) -> Result<Standing, Standing>
     ensures goes { IfOk result (λ new. KeepsHistoryAndJobs standing new) }
     ensures opening { IfOk result (λ new. opening_in new ≡ opening_in standing) }
@@ -402,7 +412,7 @@ fn end_epoch<R: Wait>(rt: &R, alloc: Global, standing: Standing) -> Result<Stand
     }
 }
 
-// Continues from an epoch that ran, where the segments of its stage are complete by the reports of its workers.
+// Continues after an epoch if its workers reported each segment of its stage complete.
 fn end_stage<R: Wait>(rt: &R, alloc: Global, epoch: Epoch, pumps: u32) -> Standing
     requires { pumps ≤ MAX_PUMPS }
     ensures goes { KeepsHistoryAndJobs (Standing.Running epoch) result }
@@ -418,7 +428,7 @@ fn end_stage<R: Wait>(rt: &R, alloc: Global, epoch: Epoch, pumps: u32) -> Standi
     }
 }
 
-// Goes to another plan from rest. Where there is no memory for it, the engine may be paused.
+// Begins a move to `plan` from rest. If memory runs out, the engine may be paused.
 fn go_to<R: Wait>(
     rt: &R,
     alloc: Global,
@@ -441,14 +451,14 @@ fn go_to<R: Wait>(
     }
 }
 
-// The first fault of a move from the plan that was reached to another one.
+// Returns the first fault of a move from the plan that was reached to `plan`.
 fn plan_fault(opening: &Opening, plan: &Plan) -> Option<ReconFault>
     ensures { result ≡ recon_fault opening.now.new plan.now opening.now.config.width }
 {
     Recon::fault(opening.new_plan(), plan, opening.config().width)
 }
 
-// Takes a page of an engine at rest, which continues. Where there is no memory for it, the engine may be paused.
+// Takes a page of an engine at rest, which continues. If memory runs out, the engine may be paused.
 fn page_of<R: Threads + Wait + Sync>(
     rt: &R,
     alloc: Global,
@@ -468,7 +478,7 @@ fn page_of<R: Threads + Wait + Sync>(
     }
 }
 
-// Closes an engine at rest. Where there is no memory for it, the engine may be paused.
+// Closes an engine at rest. If memory runs out, the engine may be paused.
 fn close_standing<R: Threads + Wait + Sync>(
     rt: &R,
     alloc: Global,

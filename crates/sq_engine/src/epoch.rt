@@ -4,7 +4,6 @@ ghost use Rattle.std.specs.Prelude.{OnErr, IsErrOf, IsTrue};
 ghost use Rattle.std.specs.List.{list_any};
 ghost use Rattle.sq_pull.specs.declared.numbers.TheConstants.{MAX_PUMPS};
 ghost use Rattle.sq_ranges.specs.Prelude.{OpeningValue, IsSetUp};
-ghost use Rattle.sq_audit.specs.Answers.{IdsDiffer};
 ghost use Rattle.sq_engine.specs.Values.{receipts_since_page};
 ghost use Rattle.sq_epoch.specs.Progress.{stage_segments};
 ghost use Rattle.sq_epoch.specs.Posted.{is_id_in};
@@ -12,7 +11,6 @@ ghost use Rattle.sq_epoch.specs.LongLog.{shows_long_log};
 ghost use Rattle.sq_engine.specs.History.{Episode, RunsAfter, EndsEpochAfter, OnlyDriven};
 
 use crate::pause::Pause;
-use sq_audit::Job;
 use sq_driver::{Gate, WorkersEnd, run_workers};
 use sq_epoch::{
     CountingGate, PostFault, PostedJobs, StageProgress, any_node_shows_long_log,
@@ -28,8 +26,8 @@ use std::marker::Model;
 use std::sync::Wait;
 use std::thread::Threads;
 
-/// An epoch of an engine: a stage of a move, or rest. Jobs are posted to it, and its workers run. To a contract it is an
-/// `EpochValue`, to which some epochs lead.
+/// An epoch of an engine: one stage of a move, or rest. It takes jobs and runs its workers. To a
+/// contract it is an `EpochValue` that some episodes lead to.
 #[derive(Drop)]
 pub struct Epoch {
     pub(crate) opening: Opening,
@@ -56,9 +54,10 @@ impl Model for Epoch {
 }
 
 impl Epoch {
-    /// The first epoch of an engine, which has the families of the opening's rows: the first stage of its move, with this
-    /// many pumps. The families of each partition are made in a thread of its own, where one can be had. Where there is no
-    /// memory the opening comes back as it was.
+    /// Returns the first epoch of an engine: the first stage of the move of `opening`, with the
+    /// families of its rows and `pumps` pumps. If there are many root keys, the families of each
+    /// partition are created in a thread of its own, if the system grants one. If memory runs out,
+    /// `opening` is returned unchanged.
     pub fn open<R: Threads + Sync>(
         rt: &R,
         alloc: Global,
@@ -83,7 +82,7 @@ impl Epoch {
         })
     }
 
-    /// The opening in force. After a page it may have other rows than these.
+    /// Returns the opening in force. After a page it still has the rows from before that page.
     pub fn opening(&self) -> &Opening
         ensures opening { result.now ≡ self.now.opening }
         ensures set_up { IsSetUp result.now }
@@ -91,22 +90,15 @@ impl Epoch {
         &self.opening
     }
 
-    /// The jobs that were posted and are on no page, in the order in which they were posted.
-    pub fn jobs(&self) -> &[Job]
-        ensures jobs { result.now ≡ self.now.jobs }
-        ensures differ { IdsDiffer result.now }
-    {
-        self.jobs.as_slice()
-    }
-
-    /// How many segments move in the stage.
+    /// Returns how many segments move in the stage.
     pub fn segments(&self) -> u64
         ensures { result ≡ stage_segments self.now.opening.recon self.now.fabric.stage }
     {
         stage_segments(self.opening.recon(), self.run.fabric.stage())
     }
 
-    /// How many segments move in the stage, and how many of them are complete by the reports of the workers.
+    /// Returns how many segments move in the stage, and how many of them are complete as the
+    /// workers reported.
     pub fn progress(&self) -> StageProgress
         ensures segments { result.segments
             ≡ stage_segments self.now.opening.recon self.now.fabric.stage }
@@ -121,9 +113,9 @@ impl Epoch {
         }
     }
 
-    /// Posts a job to a partition: a copy of this transaction. It is refused where there is no such partition, where a job
-    /// that was posted before and is on no page has its id, where the partition's queue was full at one moment of the call,
-    /// and where there is no memory; and then nothing changes.
+    /// Posts a copy of `txn` to partition `part`. It fails, and changes nothing, if there is no
+    /// such partition, if an earlier job that is on no page has the same id, if the queue of `part`
+    /// was full at one moment of the call, or if memory runs out.
     pub fn post<R: Wait>(&mut self, rt: &R, part: PartId, txn: &Txn) -> Result<(), PostFault>
         ensures ok { OnOk result (self.new ≡ record self.old {
           jobs = self.old.jobs ++ record { part = part; txn = txn.now } ∷ [];
@@ -138,11 +130,12 @@ impl Epoch {
         post_job(rt, &self.run.fabric, &mut self.jobs, part, txn)
     }
 
-    /// Runs the workers: each partition and each pump in a thread of its own, for this many turns at most. All of them
-    /// have ended when it returns, and it returns how. A node ends before if it is idle, and each worker if the gate says so.
-    /// If nodes that are idle continue by the gate, they end once each segment that moves in the stage is complete. All
-    /// end too if one of them has no work for some seconds while no thread can be had for another, and if one lacks
-    /// memory for as long. Jobs may be posted after that, and the workers run again.
+    /// Runs the workers, each partition and each pump in a thread of its own, for at most `turns`
+    /// turns each, and returns how they ended once all have ended. A node ends earlier if it is
+    /// idle, and any worker if `gate` says so. If `gate` keeps idle nodes running, they end once
+    /// each segment that moves in the stage is complete. All end, too, if one of them has had no
+    /// work for some seconds while a node or all pumps have no thread, or if one lacks memory for
+    /// as long. Then jobs may be posted, and the workers run again.
     pub fn run<R: Threads + Wait + Sync, G: Gate>(
         self,
         rt: &R,
@@ -179,9 +172,9 @@ impl Epoch {
         (epoch, end)
     }
 
-    /// Ends the epoch: what its workers left is gathered. It is placed, whatever they did. Its receipts are those since the last
-    /// page: the ones from before the epoch, and behind them those of each partition. Where there is no memory the epoch comes back
-    /// as it was.
+    /// Ends the epoch and gathers what its workers left, which is placed, whatever they did. The
+    /// receipts are those since the last page: first those from before the epoch, then those of
+    /// each partition. If memory runs out, the epoch is returned unchanged.
     pub fn end<R: Wait>(self, rt: &R, alloc: Global) -> Result<Pause, Epoch>
         ensures ended { IfOk result (λ pause. (o : OpeningValue) (past : List Episode)
             → RunsAfter o past self → EndsEpochAfter o past pause) }
@@ -212,14 +205,14 @@ impl Epoch {
         }
     }
 
-    // Whether a receipt since the last page shows a long log.
+    // Returns true if a receipt since the last page shows a long log.
     pub(crate) fn wants_page(&self) -> bool
         ensures { result ≡ list_any shows_long_log (receipts_since_page self.now) }
     {
         any_shows_long_log(self.run.fabric.receipts()) || any_node_shows_long_log(&self.run.nodes)
     }
 
-    // Whether segments move in the stage, and all of them are complete by the reports of the workers.
+    // Returns true if segments move in the stage and the workers reported all of them complete.
     pub(crate) fn is_stage_done(&self) -> bool {
         self.progress.is_done()
     }

@@ -1,10 +1,13 @@
-//! An engine that lasts: jobs are posted and answered while rows move, and one move follows another.
+//! A long-running engine: it takes and answers jobs while rows move, and performs one move after
+//! another.
 //!
-//! It goes by epochs. An [`Epoch`] is one stage of a move, or rest, which is a move that moves nothing: jobs are posted
-//! to it, and its workers run. Once it ends, what it left is a [`Pause`]: the next stage begins with it, a page is
-//! taken of it, or it is closed. After the last stage a [`NextMove`] proceeds to another plan.
+//! An engine runs in epochs. An [`Epoch`] is one stage of a move, or rest, which is a move of no
+//! rows: it takes jobs and runs its workers. What it leaves when it ends is a [`Pause`], from which
+//! the next stage begins, a page is taken, or the engine is closed. After the last stage a
+//! [`NextMove`] leads to another plan.
 //!
-//! An [`Engine`] goes over them on its own: from stage to stage, and after the last one to rest.
+//! An [`Engine`] goes through them on its own: from stage to stage, and after the last stage to
+//! rest.
 #![tactic(auto)]
 
 mod closed;
@@ -25,5 +28,5 @@ pub use next_move::NextMove;
 pub use pause::{NotTaken, Pause, StageEnd};
 pub use rest_page::RestPage;
 pub use serving::Served;
-pub use sq_epoch::{Client, Command, LONG_LOG, PostFault, StageProgress};
+pub use sq_epoch::{Client, Command, PostFault, StageProgress};
 pub use standing::Standing;

@@ -13,11 +13,11 @@ use sq_ranges::Opening;
 use std::alloc::Global;
 use std::marker::Model;
 
-// The stage in which a move begins.
+// The stage that a move begins with.
 const FIRST_STAGE: u64 = 0;
 
-/// An engine on its way to another plan: a move is due, with what was gathered of the last stage of the one before. To
-/// a contract it is a `PauseValue`.
+/// An engine on its way to another plan: a move that is due, with what was gathered of the last
+/// stage of the move before. To a contract it is a `PauseValue`.
 #[derive(Drop)]
 pub struct NextMove {
     pub(crate) opening: Opening,
@@ -41,7 +41,7 @@ impl Model for NextMove {
 }
 
 impl NextMove {
-    /// The opening of the move. After a page it may have other rows than these.
+    /// Returns the opening of the move. After a page it still has the rows from before that page.
     pub fn opening(&self) -> &Opening
         ensures opening { result.now ≡ self.now.opening }
         ensures set_up { IsSetUp result.now }
@@ -49,14 +49,14 @@ impl NextMove {
         &self.opening
     }
 
-    /// What the last epoch left.
+    /// Returns what the last epoch left.
     pub fn gathered(&self) -> &Gathered
         ensures { result.now ≡ self.now.gathered }
     {
         &self.gathered
     }
 
-    /// How far its first stage is: none of its segments is complete.
+    /// Returns the progress of the first stage: no segment of it is complete.
     pub fn progress(&self) -> StageProgress
         ensures { result ≡ record {
           segments = stage_segments self.now.opening.recon 0;
@@ -68,7 +68,8 @@ impl NextMove {
         StageProgress::at_start(stage_segments(self.opening.recon(), FIRST_STAGE))
     }
 
-    /// Begins the first stage of the move, with this many pumps. Where there is no memory all comes back as it was.
+    /// Begins the first stage of the move, with `pumps` pumps. If memory runs out, the move is
+    /// returned unchanged.
     pub fn begin(self, alloc: Global, pumps: u32) -> Result<Epoch, NextMove>
         requires { pumps ≤ MAX_PUMPS }
         ensures begun { IfOk result (λ epoch. (o : OpeningValue) (past : List Episode)

@@ -1,4 +1,4 @@
-// What an epoch left.
+// An engine between two epochs.
 ghost use Rattle.std.specs.Prelude.{◌≡◌, ◌+◌, ◌<◌, ◌≤◌, true, false, List, [], filter, None};
 ghost use Rattle.std.specs.Prelude.{MatchResult, IfOk, IfErr, OnOk};
 ghost use Rattle.sq_schema.specs.Prelude.{TableValue};
@@ -6,7 +6,6 @@ ghost use Rattle.sq_pull.specs.declared.numbers.TheConstants.{MAX_PUMPS};
 ghost use Rattle.sq_ranges.specs.Prelude.{OpeningValue, IsSetUp, stages};
 ghost use Rattle.sq_ranges.specs.Refused.{config_fault, MayRefuse};
 ghost use Rattle.sq_node_model.specs.Prelude.{IsPlaced, folded_opening};
-ghost use Rattle.sq_audit.specs.Answers.{IdsDiffer};
 ghost use Rattle.sq_audit.specs.ById.{ListsIds, is_listed};
 ghost use Rattle.sq_engine.specs.Values.{receipts_since_page, complete_segments};
 ghost use Rattle.sq_epoch.specs.Progress.{stage_segments};
@@ -29,10 +28,10 @@ use std::marker::Model;
 use std::thread::Threads;
 use thiserror::Error;
 
-/// How far a move is once an epoch of it has ended.
+/// How far a move is when an epoch of it has ended.
 #[derive(Clone, Copy, Debug, PartialEq, Eq)]
 pub enum StageEnd {
-    /// A segment of the stage isn't complete.
+    /// Some segment of the stage is not complete.
     Missing,
     /// Each segment of the stage is complete, and more stages follow.
     StageDone,
@@ -49,8 +48,8 @@ pub enum NotTaken {
     Memory,
 }
 
-/// An engine between two epochs: what the last one left, which is placed. To a contract it is a `PauseValue`, to which some
-/// epochs lead, whatever rows the opening in force has.
+/// An engine between two epochs: what the last epoch left, which is placed. To a contract it is a
+/// `PauseValue` that some episodes lead to, whatever rows the opening in force has.
 #[derive(Drop)]
 pub struct Pause {
     pub(crate) opening: Opening,
@@ -74,7 +73,7 @@ impl Model for Pause {
 }
 
 impl Pause {
-    /// The opening in force. After a page it may have other rows than these.
+    /// Returns the opening in force. After a page it still has the rows from before that page.
     pub fn opening(&self) -> &Opening
         ensures opening { result.now ≡ self.now.opening }
         ensures set_up { IsSetUp result.now }
@@ -82,15 +81,7 @@ impl Pause {
         &self.opening
     }
 
-    /// The jobs that were posted and are on no page, in the order in which they were posted.
-    pub fn jobs(&self) -> &[Job]
-        ensures jobs { result.now ≡ self.now.jobs }
-        ensures differ { IdsDiffer result.now }
-    {
-        self.jobs.as_slice()
-    }
-
-    /// What the last epoch left.
+    /// Returns what the last epoch left.
     pub fn gathered(&self) -> &Gathered
         ensures gathered { result.now ≡ self.now.gathered }
         ensures placed { (table : TableValue)
@@ -99,7 +90,8 @@ impl Pause {
         &self.gathered
     }
 
-    /// How many segments move in the stage, and how many of them are complete by their trees.
+    /// Returns how many segments move in the stage, and how many of them are complete by their
+    /// trees. It counts no moved families and no moved bytes.
     pub fn progress(&self) -> StageProgress
         ensures segments { result.segments
             ≡ stage_segments self.now.opening.recon self.now.gathered.stage }
@@ -116,7 +108,7 @@ impl Pause {
         }
     }
 
-    /// How far the move is.
+    /// Returns how far the move is.
     pub fn stage_end(&self) -> StageEnd
         ensures { EndsStage self.now result }
     {
@@ -131,7 +123,8 @@ impl Pause {
         }
     }
 
-    /// Begins the next stage of the move, with this many pumps. Where there is no memory all comes back as it was.
+    /// Begins the next stage of the move, with `pumps` pumps. If memory runs out, the pause is
+    /// returned unchanged.
     pub fn next_stage(self, alloc: Global, pumps: u32) -> Result<Epoch, Pause>
         requires pumps { pumps ≤ MAX_PUMPS }
         requires done { HasDoneStage self }
@@ -167,8 +160,8 @@ impl Pause {
         }
     }
 
-    /// Continues to another plan, from the one that was reached. Otherwise all comes back as it was, with the first
-    /// fault of the plans, or that memory ran out.
+    /// Prepares a move from the plan that was reached to `plan`. Otherwise the pause is returned
+    /// unchanged, with the first fault of the plans or a lack of memory.
     pub fn move_to(self, alloc: Global, plan: Plan) -> Result<NextMove, (OpeningFault, Pause)>
         requires done { HasDoneStage self }
         requires last { IsLastStage self }
@@ -203,9 +196,10 @@ impl Pause {
         }
     }
 
-    /// Takes a page for the jobs that have a receipt: the receipts go with it, and families with their logs, as
-    /// [`take_page`] does. What continues has the logs folded and the jobs without a receipt; the ids of the others may
-    /// come again. Where a segment of the stage isn't complete, and where there is no memory, all comes back as it was.
+    /// Takes a page for the jobs that have a receipt: the page gets the receipts, and copies of
+    /// families with their logs, as [`take_page`] describes. The pause that continues has folded
+    /// logs and the jobs without a receipt; the ids of the answered jobs may be used again. If some
+    /// segment of the stage is not complete, or memory runs out, the pause is returned unchanged.
     pub fn take_page<R: Threads + Sync>(
         self,
         rt: &R,
@@ -229,8 +223,8 @@ impl Pause {
         }
     }
 
-    /// Closes the engine: takes its last page, for all jobs that are on no other one. Where a segment of the stage isn't
-    /// complete, and where there is no memory, all comes back as it was.
+    /// Closes the engine: takes its last page, for all jobs that are on no other page. If some
+    /// segment of the stage is not complete, or memory runs out, the pause is returned unchanged.
     pub fn close<R: Threads + Sync>(
         self,
         rt: &R,
@@ -250,7 +244,8 @@ impl Pause {
         }
     }
 
-    // Takes a page of a pause whose stage is done. Where there is no memory all comes back as it was.
+    // Takes a page of a pause whose stage is done. If memory runs out, the pause is returned
+    // unchanged.
     fn take_done_page<R: Threads + Sync>(
         self,
         rt: &R,
@@ -297,7 +292,8 @@ impl Pause {
         }
     }
 
-    // Closes the engine at a pause whose stage is done. Where there is no memory all comes back as it was.
+    // Closes the engine at a pause whose stage is done. If memory runs out, the pause is returned
+    // unchanged.
     fn close_done<R: Threads + Sync>(self, rt: &R, alloc: Global) -> Result<Closed, Pause>
         requires { HasDoneStage self }
         ensures closed { IfOk result (HasClosed self) }
@@ -324,7 +320,8 @@ impl Pause {
     }
 }
 
-// The ids of the receipts, each with its root key, by id, and copies of the jobs that have one.
+// Returns the ids of the receipts, sorted, each with its root key, and copies of the jobs that have
+// a receipt.
 fn answered_of(
     alloc: Global,
     g: &Gathered,

@@ -11,23 +11,22 @@ use sq_schema::Schema;
 use std::alloc::Global;
 use std::thread::Threads;
 
-/// A page that was taken of an engine at rest, with what its audit needs. It is a value of its own: it may be audited
-/// in another thread while the engine continues.
+/// A page taken of an engine at rest, with what its audit needs. It stands on its own: another
+/// thread may audit it while the engine continues.
 #[derive(Drop)]
 pub struct RestPage {
     pub page: Page,
-    /// Which tables there are.
+    /// The schema of the tables.
     pub schema: Schema,
     /// The plan that was reached.
     pub plan: Plan,
-    /// The sizes.
     pub config: Config,
     ghost differ: { IdsDiffer page.jobs.items },
 }
 
 impl RestPage {
-    /// Whether the page is sound, or else its first defect. The verdict is that on what the engine had when the page
-    /// was taken. It is refused where there is no memory for it.
+    /// Returns the verdict on the page: sound, or its first defect. It is the verdict on what the
+    /// engine had when the page was taken. It fails if memory runs out.
     pub fn audit<R: Threads + Sync>(&self, rt: &R, alloc: Global) -> Result<Verdict, OpeningFault>
         ensures { IfOk result
             (SpeaksForRuns self.now.plan self.now.page.run self.now.page.jobs.items) }

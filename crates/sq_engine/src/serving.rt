@@ -1,4 +1,4 @@
-// Epochs that are served.
+// Serving a client in an epoch.
 ghost use Rattle.std.specs.Prelude.{◌≡◌, true, List, IfOk, IfErr, OnErr};
 ghost use Rattle.sq_ranges.specs.Prelude.{OpeningValue};
 ghost use Rattle.sq_engine.specs.History.{Episode, RunsAfter, OnlyDriven};
@@ -12,30 +12,35 @@ use std::alloc::Global;
 use std::sync::Wait;
 use std::thread::Threads;
 
-/// An epoch that was served.
+/// What [`Epoch::serve`] returns.
 #[derive(Drop)]
 pub struct Served {
-    /// The epoch. Its workers have ended.
+    /// The epoch. All its workers have ended.
     pub epoch: Epoch,
-    /// Whether each answer that was written was given. Where there was no memory for one, its partition gave neither that one
-    /// nor a later one.
+    /// Whether the client was given each answer that was written. If there was no memory for one,
+    /// the client was given neither that answer nor a later one of its partition.
     pub is_whole: bool,
-    /// Whether it ended since no thread could be had for a node. Its client wasn't asked for anything then, and posted no job.
+    /// Whether the epoch ended because a node got no thread. Its client was then asked for nothing,
+    /// and posted no job.
     pub lacks_threads: bool,
-    /// How its workers ended. If no pump had a thread it is [`WorkersEnd::LacksThreads`] although each node had one.
+    /// How the workers ended. If no pump got a thread, it is [`WorkersEnd::LacksThreads`], even if
+    /// each node did.
     pub end: WorkersEnd,
 }
 
 impl Epoch {
-    /// Runs the workers, each partition and each pump in a thread of its own, for this many turns at most, and serves a client
-    /// in this thread meanwhile: it is asked for jobs, which are posted, and is given each answer as soon as it comes.
+    /// Runs the workers, each partition and each pump in a thread of its own, for at most `turns`
+    /// turns each, and serves `client` in this thread meanwhile: `client` is asked for jobs, which
+    /// are posted, and is given each answer as soon as it arrives.
     ///
-    /// The epoch ends where its client wants that, where each segment that moves in its stage is complete, where an answer is
-    /// missing for lack of memory, where no thread can be had for a node, and where a worker lacks memory for some seconds; at rest
-    /// also where an answer comes whose receipt has [`LONG_LOG`](crate::LONG_LOG) or a later position. All workers have ended when
-    /// it returns, and the client has been given the answers that were still on their way. What the client is told of the stage is
-    /// true of this epoch: as many segments move. Where there is no memory for the rings over which answers come, the epoch comes
-    /// back as it was, and the client was not called.
+    /// The epoch ends if `client` asks for it, each segment that moves in its stage is complete, an
+    /// answer is missing for lack of memory, a node gets no thread, or a worker lacks memory for
+    /// some seconds; at rest also if the receipt of an answer has position
+    /// [`LONG_LOG`](sq_epoch::LONG_LOG) or a later one. When it returns, all workers have ended,
+    /// and `client` has been given the answers that were still on their way. What `client` is told
+    /// of the stage is true of this epoch: it names the number of segments that move. If there is
+    /// no memory for the rings that carry answers, the epoch is returned unchanged, and `client`
+    /// was not called.
     pub fn serve<C: Client, R: Threads + Wait + Sync>(
         self,
         rt: &R,

@@ -1,4 +1,4 @@
-// How far an engine is.
+// The state of an engine.
 ghost use Rattle.std.specs.Prelude.{◌≡◌, ◌≤◌, IfOk, IfErr};
 ghost use Rattle.sq_pull.specs.declared.numbers.TheConstants.{MAX_PUMPS};
 ghost use Rattle.sq_engine.specs.History.{IsLastStage, HasDoneStage, onward_opening};
@@ -11,18 +11,18 @@ use sq_plan::Plan;
 use std::alloc::Global;
 use std::sync::Wait;
 
-/// How far an engine is.
+/// The state of an engine.
 #[derive(Drop)]
 pub enum Standing {
     /// An epoch runs.
     Running(Epoch),
-    /// An epoch has ended, and none has begun after it.
+    /// An epoch has ended, and the next has not begun.
     Paused(Pause),
-    /// A move is to begin.
+    /// A move is due.
     Due(NextMove),
 }
 
-/// Continues where an engine waits for memory, where there is memory for it.
+/// Continues an engine that waits for memory, if there is enough now.
 pub(crate) fn resume(alloc: Global, standing: Standing, pumps: u32) -> Standing
     requires { pumps ≤ MAX_PUMPS }
     ensures goes { KeepsHistoryAndJobs standing result }
@@ -36,7 +36,7 @@ pub(crate) fn resume(alloc: Global, standing: Standing, pumps: u32) -> Standing
     }
 }
 
-/// Begins the move that is due, where one is and there is memory for it.
+/// Begins the move that is due, if there is one and memory suffices.
 pub(crate) fn begin_due(alloc: Global, standing: Standing, pumps: u32) -> Standing
     requires { pumps ≤ MAX_PUMPS }
     ensures goes { KeepsHistoryAndJobs standing result }
@@ -50,8 +50,8 @@ pub(crate) fn begin_due(alloc: Global, standing: Standing, pumps: u32) -> Standi
     }
 }
 
-/// The pause of an engine: the epoch that runs ends. Where a move is due, and where there is no memory, all comes back as it
-/// was.
+/// Ends the epoch that runs, and returns the engine's pause. If a move is due or memory runs out,
+/// `standing` is returned unchanged.
 pub(crate) fn pause_of<R: Wait>(
     rt: &R,
     alloc: Global,
@@ -72,7 +72,8 @@ pub(crate) fn pause_of<R: Wait>(
     }
 }
 
-/// The pause of an engine at which the last stage of a move is done. Otherwise the engine comes back, perhaps paused.
+/// Returns the engine's pause after the last stage of a move. Otherwise the engine is returned,
+/// perhaps paused.
 pub(crate) fn done_pause_of<R: Wait>(
     rt: &R,
     alloc: Global,
@@ -96,7 +97,8 @@ pub(crate) fn done_pause_of<R: Wait>(
     }
 }
 
-/// Goes to another plan after a pause, where the move before is done. Otherwise the pause comes back: there is no memory.
+/// Begins a move to `plan` after a pause, if the move before it is done. Otherwise, or if the plans
+/// have a fault or memory runs out, `pause` is returned.
 pub(crate) fn move_from(
     alloc: Global,
     pause: Pause,
@@ -118,8 +120,8 @@ pub(crate) fn move_from(
     }
 }
 
-/// Continues after a pause, where there is memory for it: to the next stage, or after the last one to rest. Where a
-/// segment of the stage isn't complete nothing changes.
+/// Continues after a pause, if memory suffices: to the next stage, or after the last stage to rest.
+/// If some segment of the stage is not complete, nothing changes.
 pub(crate) fn go_on(alloc: Global, pause: Pause, pumps: u32) -> Standing
     requires { pumps ≤ MAX_PUMPS }
     ensures goes { KeepsHistoryAndJobs (Standing.Paused pause) result }
@@ -136,7 +138,7 @@ pub(crate) fn go_on(alloc: Global, pause: Pause, pumps: u32) -> Standing
     }
 }
 
-// Rests after the last stage of a move: a move to the plan that was reached moves nothing.
+// Rests after the last stage of a move: a move to the plan that was reached moves no rows.
 fn rest(alloc: Global, pause: Pause, pumps: u32) -> Standing
     requires pumps { pumps ≤ MAX_PUMPS }
     requires done { HasDoneStage pause }
@@ -154,7 +156,7 @@ fn rest(alloc: Global, pause: Pause, pumps: u32) -> Standing
     }
 }
 
-// Begins a move that is due, where there is memory for it.
+// Begins a move that is due, if memory suffices.
 fn begin(alloc: Global, due: NextMove, pumps: u32) -> Standing
     requires { pumps ≤ MAX_PUMPS }
     ensures goes { KeepsHistoryAndJobs (Standing.Due due) result }

@@ -12,11 +12,11 @@ use std::alloc::Global;
 use std::thread::Threads;
 
 impl Closed {
-    /// Whether the last page is sound, or else its first defect. This is the verdict on what the engine had when it
-    /// was closed, for all jobs that are on no page before. Where it is sound, and so was each page before, the
-    /// engine ends as planned: the law
-    /// [`a_sound_engine_ends_where_planned`](crate::laws::a_sound_engine_ends_where_planned). It is refused where
-    /// there is no memory for it.
+    /// Returns the verdict on the last page: sound, or its first defect. It is the verdict on what
+    /// the engine had when it was closed, for all jobs that are on no page before. If it is sound,
+    /// and so was each page before, the engine ends as planned: the law
+    /// [`a_sound_engine_ends_where_planned`](crate::laws::a_sound_engine_ends_where_planned). It
+    /// fails if memory runs out.
     pub fn audit<R: Threads + Sync>(&self, rt: &R, alloc: Global) -> Result<Verdict, OpeningFault>
         ensures page { IfOk result
             (SpeaksForRuns self.now.opening.new self.now.page.run self.now.page.jobs.items) }

@@ -8,21 +8,22 @@ use Rattle.sq_epoch.specs.declared.client.Command.{Command}
 use Rattle.sq_epoch.specs.declared.client.Command.TheVariants.{Post, Rest, End}
 use Rattle.sq_epoch.specs.declared.stage_progress.StageProgress.{StageProgress}
 
--- a client was told how far its stage is and asked for its next command, was given an answer of a partition, or had a job returned
--- that isn't posted
+-- a client was told the progress of its stage and asked for its next command, was given an answer
+-- of a partition, or got back a job that wasn't posted
 pub data ClientCall : Type 0 where
   Asked : (progress : StageProgress) → (command : Command) → ClientCall
   Told : (part : ℕ) → (receipt : ReceiptValue) → ClientCall
   Returned : (job : Job) → (fault : PostFault) → ClientCall
 
--- what a call makes of a client, which is told of a stage in which this many segments move
+-- how a call changes a client that is told of a stage in which `segments` segments move
 abbrev pub InStage : {X : Type 0} → ℕ → (X → ClientCall → X → Type 0) → X → ClientCall → X → Type 0
 InStage segments becomes old (Asked progress command) new =
     (progress.segments ≡ segments) × becomes old (Asked progress command) new
 InStage segments becomes old (Told part receipt) new = becomes old (Told part receipt) new
 InStage segments becomes old (Returned job fault) new = becomes old (Returned job fault) new
 
--- an answer was given, a job was posted or refused, or the client wanted nothing, or that the epoch ends
+-- an answer was given, a job was posted or refused, or the client asked for nothing, or for the end
+-- of the epoch
 pub data Exchange : Type 0 where
   Answers : (part : ℕ) → (receipt : ReceiptValue) → Exchange
   Posts : (job : Job) → Exchange
@@ -34,7 +35,7 @@ pub data Exchange : Type 0 where
 abbrev pub IsAsked : {X : Type 0} → (X → ClientCall → X → Type 0) → X → Command → X → Type 0
 IsAsked becomes old command new = (progress : StageProgress) × becomes old (Asked progress command) new
 
--- what an exchange makes of a client
+-- how an exchange changes a client
 abbrev pub Exchanges : {X : Type 0} → (X → ClientCall → X → Type 0) → X → Exchange → X → Type 0
 Exchanges becomes old (Answers part receipt) new = becomes old (Told part receipt) new
 Exchanges becomes old (Posts job) new = IsAsked becomes old (Post job) new
@@ -43,7 +44,7 @@ Exchanges {X} becomes old (Refuses job fault) new =
 Exchanges becomes old Rests new = IsAsked becomes old Rest new
 Exchanges becomes old Ends new = IsAsked becomes old End new
 
--- what these exchanges, one after another, make of a client
+-- how these exchanges, one after another, change a client
 abbrev pub ExchangesEach : {X : Type 0} → (X → ClientCall → X → Type 0) → X → List Exchange → X → Type 0
 ExchangesEach becomes first [] last = last ≡ first
 ExchangesEach {X} becomes first (exchange ∷ more) last =
@@ -56,7 +57,7 @@ answer_at part (Refuses job fault) = []
 answer_at part Rests = []
 answer_at part Ends = []
 
--- the answers of a partition that were given, in their order
+-- the answers of a partition that were given, in order
 abbrev pub given_from : ℕ → List Exchange → List ReceiptValue
 given_from part exchanges = flat_map (answer_at part) exchanges
 
@@ -67,7 +68,7 @@ posted_job (Refuses job fault) = []
 posted_job Rests = []
 posted_job Ends = []
 
--- the jobs that were posted, in their order
+-- the jobs that were posted, in order
 abbrev pub posted_in : List Exchange → List Job
 posted_in exchanges = flat_map posted_job exchanges
 
@@ -78,17 +79,18 @@ command_in (Refuses job fault) = Post job ∷ []
 command_in Rests = Rest ∷ []
 command_in Ends = End ∷ []
 
--- the commands for which a client was asked, in their order
+-- the commands that a client was asked for, in order
 abbrev pub commands_in : List Exchange → List Command
 commands_in exchanges = flat_map command_in exchanges
 
--- a job was posted, or went back to its client
+-- a job was posted, or returned to its client
 abbrev pub IsOffered : {X : Type 0} → (X → ClientCall → X → Type 0) → Job → List Job → X → List Job → X → Type 0
 IsOffered becomes job old_jobs before new_jobs after =
     ((new_jobs ≡ old_jobs ++ job ∷ []) × (after ≡ before))
     ⊎ ((new_jobs ≡ old_jobs) × (fault : PostFault) × becomes before (Returned job fault) after)
 
--- a client was done a wish: no answer was given, and these jobs grew by those that were posted
+-- a command of a client was executed: no answer was given, and the jobs grew by those that were
+-- posted
 pub record DoesWish {X : Type 0} (becomes : X → ClientCall → X → Type 0)
     (old_jobs : List Job) (before : X) (new_jobs : List Job) (after : X) : Type 0 where
   pub exchanges : List Exchange

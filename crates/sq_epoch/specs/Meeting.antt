@@ -1,4 +1,4 @@
--- What passes where an epoch and its client meet.
+-- What a front exchanges with its client.
 use Rattle.std.specs.Prelude.{Bool}
 use Rattle.sq_epoch.specs.Exchanges.{ClientCall}
 use Rattle.sq_epoch.specs.Rings.{Serves}

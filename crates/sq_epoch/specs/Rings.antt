@@ -1,4 +1,4 @@
--- The rings of an epoch that is served, one for each partition, by their ends.
+-- The rings of an epoch that serves a client, one for each partition, by their ends.
 use Rattle.std.specs.Prelude.{◌≡◌, ℕ, ◌<◌, Bool, true, List, [], ◌++◌, length, slice_get, slice_index_or}
 use Rattle.std.specs.Option.{option_map_or}
 use Rattle.rtrb.specs.Ring.{received, SameConsumer}
@@ -8,7 +8,7 @@ use Rattle.sq_epoch.specs.Exchanges.{ClientCall, Exchange, ExchangesEach, given_
 use Rattle.sq_audit.specs.declared.job.Job.{Job}
 
 module _ {A P : Type 0} where
-  -- what came over the ring of a partition so far
+  -- what has been received over the ring of a partition
   abbrev pub received_at : List (Consumer ReceiptValue A P) → ℕ → List ReceiptValue
   received_at rings part = option_map_or received (slice_get rings part) []
 
@@ -18,7 +18,8 @@ module _ {A P : Type 0} where
     pub each : (i : ℕ) (d : Consumer ReceiptValue A P) → i < length old
         → SameConsumer (slice_index_or old i d) (slice_index_or new i d)
 
-  -- by these exchanges a client was given just what came over the rings, each once, in its order
+  -- by these exchanges a client was given exactly what arrived over the rings, each receipt once,
+  -- in the order of its ring
   pub record Passes {X : Type 0} (becomes : X → ClientCall → X → Type 0) (exchanges : List Exchange)
       (old : List (Consumer ReceiptValue A P)) (before : X)
       (new : List (Consumer ReceiptValue A P)) (after : X) : Type 0 where
@@ -26,7 +27,7 @@ module _ {A P : Type 0} where
     pub rings : AreSameRings old new
     pub given : (part : ℕ) → received_at new part ≡ received_at old part ++ given_from part exchanges
 
-  -- a client was given what came over the rings, and nothing else passed
+  -- a client was given what arrived over the rings, and nothing else was exchanged
   pub record GivesCome {X : Type 0} (becomes : X → ClientCall → X → Type 0)
       (old : List (Consumer ReceiptValue A P)) (before : X)
       (new : List (Consumer ReceiptValue A P)) (after : X) : Type 0 where
@@ -34,8 +35,8 @@ module _ {A P : Type 0} where
     pub passes : Passes becomes exchanges old before new after
     pub none_asked : commands_in exchanges ≡ []
 
-  -- a client was served: it was given what came over the rings, and these jobs grew by those that it posted. Where a node has no
-  -- thread it was asked for nothing
+  -- a client was served: it was given what arrived over the rings, and the jobs grew by those that
+  -- it posted. If a node has no thread, it was asked for nothing
   pub record Serves {X : Type 0} (becomes : X → ClientCall → X → Type 0)
       (old_jobs : List Job) (old : List (Consumer ReceiptValue A P)) (before : X)
       (new_jobs : List Job) (new : List (Consumer ReceiptValue A P)) (after : X) (lacks_threads : Bool) : Type 0 where
@@ -44,7 +45,7 @@ module _ {A P : Type 0} where
     pub jobs : new_jobs ≡ old_jobs ++ posted_in exchanges
     pub none_asked : lacks_threads ≡ true → commands_in exchanges ≡ []
 
--- a client was given the receipts by which what was received of a partition grew, each once, in their order
+-- a client was given the receipts by which those received of a partition grew, each once, in order
 pub record GivesGrown {X : Type 0} (becomes : X → ClientCall → X → Type 0) (part : ℕ)
     (was : List ReceiptValue) (before : X) (now : List ReceiptValue) (after : X) : Type 0 where
   pub exchanges : List Exchange

@@ -1,4 +1,4 @@
--- An epoch that is served.
+-- An epoch that serves a client.
 use Rattle.std.specs.Prelude.{◌≡◌, ◌≢◌, ℕ, ◌<◌, ◌≤◌, Bool, true, false, List, [], ◌++◌, length, slice_index_or, vec_capacity}
 use Rattle.sq_node_model.specs.NodeValue.{ReceiptValue}
 use Rattle.sq_pull.specs.Pump.{PumpValue}
@@ -12,13 +12,14 @@ use Rattle.sq_epoch.specs.declared.serving.ServedParts.{ServedParts}
 use Rattle.sq_epoch.specs.Exchanges.{ClientCall, Exchange, ExchangesEach, given_from, posted_in, commands_in}
 use Rattle.sq_epoch.specs.Telling.{tellers_of, AreNewRings}
 
--- nodes with tellers that send over rings, over which nothing went so far, and room for the nodes
+-- nodes with tellers that send over rings, over which nothing was sent yet, and room for the nodes
 pub record IsReadyToServe (parts : ℕ) (ready : ReadyToServe) : Type 0 where
   pub rings : AreNewRings parts (tellers_of ready.pairs.items) ready.rings.items
   pub none : ready.room.items ≡ []
   pub room : length ready.pairs.items ≤ vec_capacity ready.room
 
--- a client was given the answers that a node wrote, each once, in their order. Where not all came, the last may be missing
+-- a client was given the answers that a node wrote, each once, in order. If not all arrived, the
+-- last ones may be missing
 pub record AreGiven (is_whole : Bool) (given : List ReceiptValue) (old new : NodeState) : Type 0 where
   pub missing : List ReceiptValue
   pub written : new.receipts ≡ old.receipts ++ given ++ missing
@@ -30,7 +31,8 @@ pub record LacksAnswer (given : List ReceiptValue) (old new : NodeState) : Type 
   pub written : new.receipts ≡ old.receipts ++ given ++ missing
   pub some : missing ≢ []
 
--- a client was given the answers of each partition, and of no other. Where not all came, one of a partition is missing
+-- a client was given the answers of each partition, and of no other. If not all arrived, one of a
+-- partition is missing
 pub record AllAreGiven (is_whole : Bool) (exchanges : List Exchange) (old new : List NodeState) : Type 0 where
   pub each : (part : ℕ) (d : NodeState) → part < length old
       → AreGiven is_whole (given_from part exchanges) (slice_index_or old part d) (slice_index_or new part d)
@@ -38,7 +40,8 @@ pub record AllAreGiven (is_whole : Bool) (exchanges : List Exchange) (old new : 
   pub not_whole : is_whole ≡ false → (part : ℕ) × (part < length old)
       × ((d : NodeState) → LacksAnswer (given_from part exchanges) (slice_index_or old part d) (slice_index_or new part d))
 
--- the workers of an epoch were driven, and its client was served, or asked for nothing where a node has no thread
+-- the workers of an epoch were driven, and its client was served, or asked for nothing if a node
+-- has no thread
 pub record IsServedWith {X : Type 0} (becomes : X → ClientCall → X → Type 0) (fabric : FabricValue)
     (nodes : List NodeState) (pumps : List PumpValue) (jobs : List Job) (before : X)
     (new : ServedParts) (after : X) : Type 0 where

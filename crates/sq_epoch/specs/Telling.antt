@@ -13,18 +13,18 @@ use Rattle.sq_driver.specs.declared.teller.TellingNode.{TellingNode}
 abbrev pub tellers_of : {X : Type 0} → List (TellingNode X) → List X
 tellers_of {X} pairs = map (λ (pair : TellingNode X). pair.teller) pairs
 
--- the end of a ring over which answers come
+-- the receiving end of a ring that carries answers
 abbrev pub Ring : Type 0
 Ring = Consumer ReceiptValue Global AnyItems
 
--- a teller sends over a ring, over which nothing went so far
+-- a teller sends over a ring, over which nothing was sent yet
 pub record IsNewRing (teller : RingTeller) (ring : Ring) : Type 0 where
   pub goes_on : teller.broke_off ≡ false
   pub pair : IsPair teller.producer ring
   pub none_sent : sent teller.producer ≡ []
   pub none_received : received ring ≡ []
 
--- for each of so many partitions a teller and a ring, over which nothing went so far
+-- a teller and a ring for each of `parts` partitions, over which nothing was sent yet
 pub record AreNewRings (parts : ℕ) (tellers : List RingTeller) (rings : List Ring) : Type 0 where
   pub all_tellers : length tellers ≡ parts
   pub all_rings : length rings ≡ parts
@@ -42,6 +42,6 @@ HasAllSent pairs rings =
     (i : ℕ) (p : TellingNode RingTeller) (r : Ring) → i < length pairs
     → received (slice_index_or rings i r) ≡ sent (slice_index_or pairs i p).teller.producer
 
--- none of the tellers broke off
+-- no teller broke off
 abbrev pub are_whole : List (TellingNode RingTeller) → Bool
 are_whole pairs = list_all (λ pair. not pair.teller.broke_off) pairs

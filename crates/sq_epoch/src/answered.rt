@@ -1,10 +1,10 @@
-// The ids of jobs that have a receipt.
+// The ids of answered jobs.
 ghost use Rattle.sq_epoch.specs.Posted.{ForgetsIds};
 
 use sq_audit::Job;
 use std::collections::BTreeSet;
 
-/// Takes the ids of these jobs out.
+/// Removes the ids of `jobs` from `ids`.
 pub(crate) fn forget_ids(ids: &mut BTreeSet<u64>, jobs: &[Job])
     ensures { ForgetsIds jobs.now ids.old ids.new }
 {

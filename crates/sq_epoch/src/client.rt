@@ -1,4 +1,4 @@
-// Clients that post jobs to an epoch while its workers run, and are given their answers.
+// Clients that post jobs to an epoch while its workers run, and are given the answers.
 ghost use Rattle.sq_epoch.specs.Exchanges.{ClientCall, Asked, Told, Returned};
 
 use crate::posted::PostFault;
@@ -9,41 +9,43 @@ use sq_node::Receipt;
 use sq_plan::PartId;
 use std::sync::Wait;
 
-// How many microseconds the thread of a client sleeps at most by default.
+// The longest default sleep of a client's thread, in microseconds.
 const LONGEST_REST: u64 = 2_000;
 
-/// What a client wants next.
+/// What a client asks for next.
 #[derive(Debug, Drop)]
 pub enum Command {
-    /// A job is posted.
+    /// Posts this job.
     Post(Job),
-    /// Nothing now. It is asked again.
+    /// Nothing now. The client is asked again.
     Rest,
-    /// The epoch ends. The client isn't asked again in this epoch.
+    /// Ends the epoch. The client isn't asked again in this epoch.
     End,
 }
 
-/// A client posts jobs to an epoch while its workers run, and is given each answer as soon as it comes.
+/// A client posts jobs to an epoch while its workers run, and is given each answer as soon as it
+/// arrives.
 pub trait Client {
-    /// What a call makes of a client.
+    /// How a call changes a client.
     ghost Becomes: { Self → ClientCall → Self → Type 0 };
 
-    /// What it wants next, where the stage is so far by the reports of the workers. A call has to return, since no
-    /// answer is given meanwhile.
+    /// Returns what the client asks for next; `progress` is that of the stage, as its workers
+    /// reported it. A call has to return, since no answer is given meanwhile.
     fn next(&mut self, progress: StageProgress) -> Command
         ensures { Becomes self.old (Asked progress result) self.new };
 
-    /// Takes an answer: the receipt of a job, by the partition that wrote it.
+    /// Takes an answer: the receipt of a job, written by partition `part`.
     fn take(&mut self, part: PartId, receipt: Receipt)
         ensures { Becomes self.old (Told part receipt) self.new };
 
-    /// Takes a job back that isn't posted.
+    /// Takes back a job that was not posted, with the reason.
     fn take_back(&mut self, job: Job, fault: PostFault)
         ensures { Becomes self.old (Returned job fault) self.new };
 
-    /// Waits a while, after it wanted nothing `tries` times in a row while nothing moves and each job has its answer. It may wait
-    /// until it wants something, and has to return after some milliseconds in any case. By default other threads go first, and
-    /// after many tries in a row it sleeps, for two milliseconds at most.
+    /// Waits a while, after the client asked for nothing `tries` times in a row while nothing moves
+    /// and each job has its answer. It may wait until it has something to ask for, and has to
+    /// return after some milliseconds in any case. By default it yields to other threads, and after
+    /// 256 tries it sleeps, for at most two milliseconds.
     fn wait<R: Wait>(&self, rt: &R, tries: u64) {
         rest(rt, tries, LONGEST_REST);
     }

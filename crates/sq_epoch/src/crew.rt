@@ -1,4 +1,4 @@
-// The workers of an epoch that is served.
+// The workers of an epoch that serves a client.
 ghost use Rattle.std.specs.Prelude.{◌≡◌, length};
 ghost use Rattle.sq_epoch.specs.Crew.{IsCrewOf, IsDriven};
 ghost use Rattle.sq_epoch.specs.Exchanges.{InStage};
@@ -14,7 +14,8 @@ use sq_teller::RingTeller;
 use std::sync::Wait;
 use std::thread::{Threads, join_mut};
 
-/// The workers of an epoch that is served: its nodes, with tellers that send over rings, and its pumps.
+/// The workers of an epoch that serves a client: its nodes, with tellers that send over rings, and
+/// its pumps.
 #[derive(Drop)]
 pub(crate) struct Crew {
     pub(crate) pairs: Vec<TellingNode<RingTeller>>,
@@ -39,7 +40,8 @@ impl Crew {
     }
 }
 
-/// Drives the workers in threads of their own, and serves a client in this one. Returns how the workers ended.
+/// Drives the workers in threads of their own, and serves `client` in this one. Returns how the
+/// workers ended.
 pub(crate) fn run_and_serve<C: Client, R: Threads + Wait + Sync>(
     rt: &R,
     fabric: &Fabric,

@@ -1,4 +1,4 @@
-// When an epoch that is served ends.
+// When an epoch that serves a client ends.
 ghost use Rattle.std.specs.Prelude.{◌≡◌, IfOk};
 
 use crate::node_bell::NodeBell;
@@ -10,12 +10,13 @@ use std::alloc::{AllocError, Global};
 use std::sync::Wait;
 use std::sync::atomic::{AtomicBool, AtomicU64, Ordering};
 
-// How many microseconds a worker sleeps at most after a turn without work, while rows move.
+// The longest sleep of a worker after a turn without work while rows move, in microseconds.
 const SHORT_REST: u64 = 50;
 
-/// The gate of an epoch that is served: it lets each worker pass until the epoch ends. It ends where its client wants that,
-/// where each segment of its stage is complete, and where an answer is missing. While nothing moves, a node without work sleeps
-/// until a job comes for it.
+/// The gate of an epoch that serves a client: it lets each worker pass until the epoch ends. The
+/// epoch ends if its client asks for it, each segment of its stage is complete, an answer is
+/// missing, an answer shows a long log at rest, or a node gets no thread. While nothing moves, a
+/// node without work sleeps until a job arrives for it.
 #[derive(Drop)]
 pub(crate) struct EpochGate {
     is_over: AtomicBool,
@@ -32,7 +33,8 @@ pub(crate) struct EpochGate {
 }
 
 impl EpochGate {
-    /// For an epoch of `parts` partitions whose stage is so far, and whose workers haven't begun. If the stage is done it is over.
+    /// Returns the gate of an epoch of `parts` partitions whose stage has come as far as
+    /// `progress`, and whose workers haven't started. If the stage is done, the epoch is over.
     pub(crate) fn new(
         alloc: Global,
         parts: u8,
@@ -56,18 +58,18 @@ impl EpochGate {
         })
     }
 
-    /// Ends the epoch: no worker makes a step any more.
+    /// Ends the epoch: no worker performs another step.
     pub(crate) fn end(&self) {
         self.is_over.store(true, Ordering::SeqCst);
         self.wake_all();
     }
 
-    /// Whether the epoch ends.
+    /// Returns true if the epoch is over.
     pub(crate) fn is_over(&self) -> bool {
         self.is_over.load(Ordering::SeqCst)
     }
 
-    /// Takes note of how the workers have ended.
+    /// Records how the workers have ended.
     pub(crate) fn workers_end(&self, end: WorkersEnd) {
         match end {
             WorkersEnd::Done => {}
@@ -77,32 +79,33 @@ impl EpochGate {
         self.have_ended.store(true, Ordering::SeqCst);
     }
 
-    /// Whether the workers have ended.
+    /// Returns true if the workers have ended.
     pub(crate) fn have_ended(&self) -> bool {
         self.have_ended.load(Ordering::SeqCst)
     }
 
-    /// Whether the workers have ended since one of them had no thread.
+    /// Returns true if the workers have ended because one of them had no thread.
     pub(crate) fn workers_lack_threads(&self) -> bool {
         self.lack_threads.load(Ordering::SeqCst)
     }
 
-    /// Whether the workers have ended since one of them lacked memory for long.
+    /// Returns true if the workers have ended because one of them lacked memory for too long.
     pub(crate) fn workers_lack_memory(&self) -> bool {
         self.lack_memory.load(Ordering::SeqCst)
     }
 
-    /// Whether each node has asked whether it may pass, so that each of them has a thread.
+    /// Returns true if each node has called [`Gate::pass`], and so has a thread.
     pub(crate) fn have_all_come(&self) -> bool {
         self.nodes.are_all_here()
     }
 
-    /// Whether some node has asked whether it may pass, so that the workers run beside this thread.
+    /// Returns true if some node has called [`Gate::pass`], so that the workers run beside this
+    /// thread.
     pub(crate) fn has_one_come(&self) -> bool {
         self.nodes.is_one_here()
     }
 
-    /// Wakes the node of a partition, if it sleeps. To be called after a job was posted to it.
+    /// Wakes the node of partition `part`, if it sleeps. Call it after posting a job to `part`.
     pub(crate) fn wake(&self, part: PartId) {
         if let Some(bell) = self.bells.get(usize::from(part.number())) {
             bell.ring();
@@ -116,12 +119,12 @@ impl EpochGate {
         }
     }
 
-    /// Whether nothing moves in the stage.
+    /// Returns true if nothing moves in the stage.
     pub(crate) fn is_rest(&self) -> bool {
         self.segments == 0
     }
 
-    /// How far the stage is.
+    /// Returns the progress of the stage.
     pub(crate) fn progress(&self) -> StageProgress
         ensures { result.segments ≡ self.now.segments }
     {
@@ -133,7 +136,8 @@ impl EpochGate {
         }
     }
 
-    /// How many answers were written. The teller of each had heard of it before.
+    /// Returns how many answers were written. The teller of each was given it before it was
+    /// counted.
     pub(crate) fn answers(&self) -> u64 {
         self.answers.load(Ordering::SeqCst)
     }
@@ -180,7 +184,7 @@ impl Gate for EpochGate {
     }
 }
 
-// A bell for each of `parts` nodes.
+// Returns a bell for each of `parts` nodes.
 fn bells_of(alloc: Global, parts: u8) -> Result<Vec<NodeBell>, AllocError> {
     let mut bells = Vec::with_capacity(alloc, usize::from(parts))?;
     for _part in 0..parts {

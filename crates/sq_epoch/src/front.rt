@@ -14,18 +14,24 @@ use sq_driver::rest;
 use sq_node::{Fabric, Receipt};
 use std::sync::Wait;
 
-// How many turns the nodes have to come, with a sleep after most of them. After these 4 seconds, or some more, it is taken for
-// granted that a node has no thread. The workers by themselves give up later.
-const TURNS_ALONE: u64 = 20_000;
+// How many turns the nodes have to start, with a sleep after most of them. After these 4 seconds
+// the epoch assumes that a node has no thread.
+const TURNS_ALONE: u64 = 600;
 
-// How many microseconds it sleeps after such a turn.
+// By how many microseconds the sleep grows with each such turn, and the longest sleep, in
+// microseconds.
+const REST_GROWS: u64 = 25;
+
+const LONGEST_REST: u64 = 10_000;
+
+// The longest sleep between two looks at the rings of an epoch that is over, in microseconds.
 const REST_ALONE: u64 = 200;
 
-// How many microseconds it sleeps at most after a turn without work, while jobs are open or rows move.
+// The longest sleep after a turn without work, while jobs are open or rows move, in microseconds.
 const SHORT_REST: u64 = 50;
 
-/// Where an epoch and its client meet: the jobs that were posted and not folded, and for each partition the end of the ring
-/// over which its answers come.
+/// Where an epoch and its client meet: the jobs that were posted and are on no page, and for each
+/// partition the receiving end of the ring that carries its answers.
 #[derive(Drop)]
 pub(crate) struct Front {
     pub(crate) jobs: PostedJobs,
@@ -38,7 +44,8 @@ pub(crate) struct Front {
 }
 
 impl Front {
-    /// With these jobs, of which `answered` have their answer, and these rings, over which nothing has come.
+    /// Returns a front with `jobs`, `answered` of which have their answer, and `rings`, over which
+    /// nothing has been sent.
     pub(crate) fn new(jobs: PostedJobs, rings: Vec<Consumer<Receipt>>, answered: u64) -> Front
         ensures { (result.jobs ≡ jobs) × (result.rings ≡ rings) }
     {
@@ -51,8 +58,9 @@ impl Front {
         }
     }
 
-    /// Serves a client until the workers have ended, once each node has come. If one doesn't come, for want of a thread, the
-    /// epoch is over: who comes then makes no step, and the client isn't asked. It is given answers in any case.
+    /// Serves `client` until the workers have ended, once each node has started. If one doesn't
+    /// start, for lack of a thread, the epoch is over: a node that starts later performs no step,
+    /// and `client` isn't asked for commands. It is given answers in any case.
     pub(crate) fn serve<C: Client, R: Wait>(
         &mut self,
         rt: &R,
@@ -74,8 +82,8 @@ impl Front {
         }
     }
 
-    // Waits until each node has come, or the workers have ended, and gives a client each answer that comes. Whether no node lacked
-    // a thread within some seconds.
+    // Waits until each node has started or the workers have ended, and gives `client` each answer
+    // that arrives. Returns true unless a node had no thread for some seconds.
     fn meets_nodes<C: Client, R: Wait>(
         &mut self,
         rt: &R,
@@ -95,13 +103,14 @@ impl Front {
                 return !gate.workers_lack_threads();
             }
             self.give_come(fabric, gate, client);
-            rest(rt, turn, REST_ALONE);
+            rest(rt, turn.saturating_mul(REST_GROWS), LONGEST_REST);
         }
         false
     }
 
-    // Gives a client each answer that comes, until the workers have ended, so that no teller waits for room in its ring. If no
-    // node has come, the workers may begin only after this thread is done here, and make no step then.
+    // Gives `client` each answer that arrives, until the workers have ended, so that no teller
+    // waits for room in its ring. If no node has started, the workers may start only after this
+    // thread is done here, and then perform no step.
     fn empty_rings<C: Client, R: Wait>(
         &mut self,
         rt: &R,
@@ -125,7 +134,8 @@ impl Front {
         unreachable!()
     }
 
-    // Gives a client each answer that comes, and does what it wants, until the workers have ended.
+    // Gives `client` each answer that arrives, and executes its commands, until the workers have
+    // ended.
     fn take_turns<C: Client, R: Wait>(
         &mut self,
         rt: &R,
@@ -152,7 +162,8 @@ impl Front {
         unreachable!()
     }
 
-    // Waits a while, after so many turns without work in a row: as its client likes, if only that can give work.
+    // Waits a while, after `tries` turns without work in a row: as `client` chooses, if only
+    // `client` can bring work.
     fn wait<C: Client, R: Wait>(&self, rt: &R, gate: &EpochGate, client: &C, tries: u64) {
         if gate.is_rest() && !gate.is_over() && self.are_answered() {
             client.wait(rt, tries);
@@ -161,13 +172,13 @@ impl Front {
         }
     }
 
-    // Whether each job has its answer, by their numbers.
+    // Returns true if each job has its answer, by their numbers.
     fn are_answered(&self) -> bool {
         let answered = self.answered.saturating_add(self.given);
         self.jobs.as_slice().len() as u64 <= answered
     }
 
-    // Gives a client each answer that has come, and says what came.
+    // Gives `client` each answer that has arrived, and returns what arrived.
     fn give_come<C: Client>(
         &mut self,
         fabric: &Fabric,
@@ -183,9 +194,9 @@ impl Front {
         came
     }
 
-    // Gives a client what has come, and does what it wants next, unless the epoch is over. It is over where an answer
-    // that was written hasn't come, since its teller broke off then, and at rest where what came shows a long log.
-    // Whether there was something to do.
+    // Gives `client` what has arrived, and executes its next commands, unless the epoch is over.
+    // The epoch ends if an answer that was written hasn't arrived, since its teller broke off, and
+    // at rest if what arrived shows a long log. Returns true if there was something to do.
     fn take_turn<C: Client, R: Wait>(
         &mut self,
         rt: &R,
@@ -209,7 +220,7 @@ impl Front {
     }
 }
 
-// Does what a client wants next. Whether it wants something.
+// Does what `client` wants next. Returns true if it wants something.
 fn ask<C: Client, R: Wait>(
     rt: &R,
     fabric: &Fabric,
@@ -233,7 +244,7 @@ fn ask<C: Client, R: Wait>(
     }
 }
 
-// Posts a job, and wakes its node, or gives the job back to its client.
+// Posts `job` and wakes its node, or returns the job to `client`.
 fn offer<C: Client, R: Wait>(
     rt: &R,
     fabric: &Fabric,

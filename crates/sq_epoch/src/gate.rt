@@ -1,11 +1,12 @@
-// The gate of an epoch.
+// A gate that counts progress.
 use crate::stage_progress::StageProgress;
 use sq_driver::{Gate, NodeStep, WorkerEvent};
 use std::sync::Wait;
 use std::sync::atomic::{AtomicU64, Ordering};
 
-/// A gate before another gate, which counts the segments of a stage that are complete, and the families and bytes that were moved.
-/// Once all segments are, it ends workers that don't end where they are idle, so that the next stage can begin.
+/// A gate in front of another gate. It counts the complete segments of a stage, and the families
+/// and bytes that were moved. Once all segments are complete, it ends workers that don't end when
+/// idle, so that the next stage can begin.
 #[derive(Drop)]
 pub struct CountingGate<'a, G> {
     gate: &'a G,
@@ -16,7 +17,7 @@ pub struct CountingGate<'a, G> {
 }
 
 impl<'a, G> CountingGate<'a, G> {
-    /// Before `gate`, in a stage that is as far as `progress` says.
+    /// Returns a gate in front of `gate`, in a stage that has come as far as `progress`.
     pub fn new(gate: &'a G, progress: StageProgress) -> CountingGate<'a, G> {
         CountingGate {
             gate,
@@ -27,7 +28,7 @@ impl<'a, G> CountingGate<'a, G> {
         }
     }
 
-    /// Returns how far the stage is.
+    /// Returns the progress of the stage.
     pub fn progress(&self) -> StageProgress {
         StageProgress {
             segments: self.segments,

@@ -1,5 +1,5 @@
-//! An epoch of an engine, but for the history that led to it: the jobs that were posted, how far its stage is, and a client that
-//! posts jobs and is given their answers while the workers run.
+//! An epoch of an engine, without the history that led to it: the posted jobs, the progress of its
+//! stage, and a client that posts jobs and is given their answers while the workers run.
 #![tactic(auto)]
 
 mod answered;

@@ -1,24 +1,26 @@
-// How a node sleeps while nothing moves, and who wakes it.
+// How a node sleeps while nothing moves, and what wakes it.
 use sq_driver::rest;
 use std::sync::Wait;
 use std::sync::atomic::{AtomicU64, Ordering};
 use std::time::Duration;
 
-// How many turns in a row without work a node takes before it sleeps. They take about a millisecond.
+// How many turns in a row without work a node takes before it sleeps. They take about a
+// millisecond.
 const TURNS_AWAKE: u64 = 272;
 
-// How many microseconds a turn among these is followed by at most.
+// The longest sleep after one of these turns, in microseconds.
 const SHORT_REST: u64 = 50;
 
-// How many milliseconds a node sleeps at most, before it looks for work by itself.
+// The longest sleep of a node before it looks for work by itself, in milliseconds.
 const LONGEST_SLEEP: u64 = 50;
 
 const AWAKE: u64 = 0;
 
 const ASLEEP: u64 = 1;
 
-/// The bell of one node, which wakes it. A node that finds no work marks itself as asleep, and takes one more turn before it
-/// sleeps. Who gives it work looks at the mark after that: either the turn finds the work, or the mark is seen.
+/// The bell that wakes one node. A node that finds no work marks itself as asleep, and takes one
+/// more turn before it sleeps. A thread that gives it work looks at the mark afterwards: either the
+/// turn finds the work, or the thread sees the mark.
 #[derive(Drop)]
 pub(crate) struct NodeBell {
     state: AtomicU64,
@@ -31,7 +33,7 @@ impl NodeBell {
         }
     }
 
-    /// Keeps the node for a while, after `turns` turns in a row without work.
+    /// Delays the node, after `turns` turns in a row without work.
     pub(crate) fn wait<R: Wait>(&self, rt: &R, turns: u64) {
         if turns <= TURNS_AWAKE {
             rest(rt, turns, SHORT_REST);
@@ -43,7 +45,7 @@ impl NodeBell {
         }
     }
 
-    /// Wakes the node, if it sleeps or is about to.
+    /// Wakes the node if it sleeps or is about to.
     pub(crate) fn ring(&self) {
         if self.state.load(Ordering::SeqCst) == ASLEEP {
             self.state.store(AWAKE, Ordering::SeqCst);

@@ -1,16 +1,16 @@
 // Which nodes have a thread.
 use std::sync::atomic::{AtomicU64, Ordering};
 
-/// Which nodes of an epoch have come: each of them has a thread.
+/// The nodes of an epoch that have started, and so have a thread.
 #[derive(Drop)]
 pub(crate) struct NodesHere {
     parts: u8,
-    // A bit for each partition whose node has come.
+    // A bit for each partition whose node has started.
     come: AtomicU64,
 }
 
 impl NodesHere {
-    /// The nodes of `parts` partitions, at most 64; none has come yet.
+    /// Returns the nodes of `parts` partitions, at most 64; none has started yet.
     pub(crate) fn new(parts: u8) -> NodesHere {
         NodesHere {
             parts,
@@ -18,7 +18,8 @@ impl NodesHere {
         }
     }
 
-    /// Takes note that the worker `who` has come, if it is a node. Only the thread of a node notes it.
+    /// Records that worker `who` has started, if it is a node. Only the node's own thread records
+    /// it.
     pub(crate) fn note(&self, who: u64) {
         if who < u64::from(self.parts) {
             let bit = 1u64 << (who % 64);
@@ -28,12 +29,12 @@ impl NodesHere {
         }
     }
 
-    /// Whether each node has come.
+    /// Returns true if each node has started.
     pub(crate) fn are_all_here(&self) -> bool {
         self.come.load(Ordering::SeqCst).count_ones() >= u32::from(self.parts)
     }
 
-    /// Whether some node has come.
+    /// Returns true if some node has started.
     pub(crate) fn is_one_here(&self) -> bool {
         self.come.load(Ordering::SeqCst) != 0
     }

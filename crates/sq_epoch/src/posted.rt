@@ -1,4 +1,4 @@
-// The jobs that were posted.
+// The posted jobs.
 ghost use Rattle.std.specs.Prelude.{◌≡◌, ◌-◌, [], ◌∷◌, ◌++◌, length, take, filter, not, OnOk};
 ghost use Rattle.std.specs.Prelude.{OnErr, IsErrOf, IsTrue};
 ghost use Rattle.sq_audit.specs.Answers.{IdsDiffer};
@@ -14,7 +14,7 @@ use std::collections::BTreeSet;
 use std::marker::Model;
 use thiserror::Error;
 
-/// Why a job isn't posted.
+/// Why a job is not posted.
 #[derive(Clone, Copy, Debug, PartialEq, Eq, Error)]
 pub enum PostFault {
     #[error("there is no such partition")]
@@ -27,7 +27,8 @@ pub enum PostFault {
     Memory,
 }
 
-/// The jobs that were posted and are on no page, whose ids differ. To a contract they are a list.
+/// The jobs that were posted and are on no page, whose ids differ. To a contract it is the list of
+/// the jobs.
 #[derive(Drop)]
 pub struct PostedJobs {
     jobs: Vec<Job>,
@@ -47,7 +48,7 @@ impl Model for PostedJobs {
 }
 
 impl PostedJobs {
-    /// No jobs.
+    /// Returns an empty list.
     pub fn new(alloc: Global) -> PostedJobs
         ensures { result ≡ [] }
     {
@@ -57,8 +58,9 @@ impl PostedJobs {
         }
     }
 
-    /// These jobs without those that have a receipt, by the ids of receipts that [`list_ids`](sq_audit::list_ids) lists. Handed in
-    /// are copies of the jobs that have one, whose ids may come again.
+    /// Returns the jobs without those that have a receipt, by the ids of receipts that
+    /// [`list_ids`](sq_audit::list_ids) lists. `answered` are copies of the jobs that have one,
+    /// whose ids may be used again.
     pub fn without_answered(self, receipts: &[(u64, u64)], answered: &[Job]) -> PostedJobs
         requires by_id { AreById receipts.now }
         requires answered { answered.now ≡ filter (is_listed receipts.now) self }
@@ -70,7 +72,7 @@ impl PostedJobs {
         PostedJobs { jobs, ids }
     }
 
-    /// These jobs, whose ids are these.
+    /// Returns `jobs`, whose ids are `ids`.
     pub fn from_parts(jobs: Vec<Job>, ids: BTreeSet<u64>) -> PostedJobs
         requires { HaveJustIds jobs.items ids }
         ensures { result ≡ jobs.items }
@@ -78,7 +80,7 @@ impl PostedJobs {
         PostedJobs { jobs, ids }
     }
 
-    /// The jobs, in the order in which they were posted, and their ids.
+    /// Returns the jobs, in the order in which they were posted, and their ids.
     pub fn into_parts(self) -> (Vec<Job>, BTreeSet<u64>)
         ensures jobs { result.0.items ≡ self }
         ensures ids { HaveJustIds result.0.items result.1 }
@@ -86,7 +88,7 @@ impl PostedJobs {
         (self.jobs, self.ids)
     }
 
-    /// The jobs, in the order in which they were posted.
+    /// Returns the jobs, in the order in which they were posted.
     pub fn as_slice(&self) -> &[Job]
         ensures jobs { result.now ≡ self.now }
         ensures differ { IdsDiffer result.now }
@@ -94,7 +96,7 @@ impl PostedJobs {
         &self.jobs
     }
 
-    /// Adds a job whose id none of them has.
+    /// Appends a job, unless an earlier one has its id.
     pub(crate) fn add(&mut self, part: PartId, txn: Txn) -> Result<(), PostFault>
         ensures ok { OnOk result (self.new ≡ self.old ++ record { part = part; txn = txn } ∷ []) }
         ensures err { OnErr result (self.new ≡ self.old) }
@@ -113,7 +115,7 @@ impl PostedJobs {
         }
     }
 
-    /// Takes the last job out, if there is one.
+    /// Removes the last job, if there is one.
     pub(crate) fn remove_last(&mut self)
         ensures { self.new ≡ take (length self.old - 1) self.old }
     {
@@ -124,7 +126,7 @@ impl PostedJobs {
     }
 }
 
-// The id of a job, which is given up.
+// Returns the id of `job`, which is dropped.
 fn id_of(job: Job) -> u64
     ensures { result ≡ job.txn.id }
 {

@@ -1,16 +1,16 @@
-// How a job is posted.
-ghost use Rattle.std.specs.Prelude.{◌≡◌, ◌∷◌, [], ◌++◌, IfOk, OnOk, OnErr, IsErrOf, IsTrue};
+// Posting a job.
+ghost use Rattle.std.specs.Prelude.{◌≡◌, ◌∷◌, [], ◌++◌, if◌then◌else◌, IfOk, OnOk, OnErr, IsErrOf, IsTrue};
 ghost use Rattle.sq_epoch.specs.Posted.{is_id_in};
 
 use crate::posted::{PostFault, PostedJobs};
-use sq_node::Fabric;
+use sq_node::{Fabric, Unposted};
 use sq_plan::PartId;
 use sq_schema::Txn;
 use std::alloc::AllocError;
 use std::sync::Wait;
 
-/// Posts a job to a partition: a copy of this transaction. It is among the posted jobs then. Where it is refused, nothing
-/// changes.
+/// Posts a copy of `txn` to partition `part`, and adds the job to `jobs`. If it is refused, nothing
+/// changes. A run that takes no more jobs refuses it with `QueueFull`.
 pub fn post_job<R: Wait>(
     rt: &R,
     fabric: &Fabric,
@@ -29,14 +29,25 @@ pub fn post_job<R: Wait>(
         return Err(PostFault::Memory);
     };
     jobs.add(part, kept)?;
-    if fabric.post(rt, part, sent).is_err() {
+    if let Err(back) = fabric.post(rt, part, sent) {
         jobs.remove_last();
-        return Err(PostFault::QueueFull);
+        return Err(post_fault(&back));
     }
     Ok(())
 }
 
-// Two copies of a transaction.
+// Returns why an existing partition returned a job.
+fn post_fault(back: &Unposted) -> PostFault
+    ensures { result ≡ if back.now.is_memory then PostFault.Memory else PostFault.QueueFull }
+{
+    if back.is_memory {
+        PostFault::Memory
+    } else {
+        PostFault::QueueFull
+    }
+}
+
+// Returns two copies of `txn`.
 fn copy_twice(txn: &Txn) -> Result<(Txn, Txn), AllocError>
     ensures { IfOk result (λ copies. (copies.0 ≡ txn.now) × (copies.1 ≡ txn.now)) }
 {

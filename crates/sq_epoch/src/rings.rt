@@ -1,4 +1,4 @@
-// The rings over which the answers of an epoch come.
+// The rings that carry the answers of an epoch.
 ghost use Rattle.std.specs.Prelude.{◌≡◌, ◌++◌, length};
 ghost use Rattle.rtrb.specs.Ring.{received, known_items, SameConsumer};
 ghost use Rattle.sq_epoch.specs.Rings.{GivesGrown, GivesCome};
@@ -13,7 +13,7 @@ use sq_node::Receipt;
 use sq_plan::PartId;
 use sq_teller::RingTeller;
 
-/// What has come over rings: how many receipts, and whether one of them shows a long log.
+/// What has arrived over rings: how many receipts, and whether one of them shows a long log.
 #[derive(Clone, Copy, Debug)]
 pub(crate) struct Arrivals {
     pub(crate) count: u64,
@@ -34,7 +34,8 @@ impl Arrivals {
     }
 }
 
-// Gives a client each receipt that is known to be in the ring of a partition. What came so far grows by these.
+// Gives `client` each receipt that is known to be in the ring of partition `part`, and returns
+// `came` with these added.
 fn give_known<C: Client>(
     part: PartId,
     ring: &mut Consumer<Receipt>,
@@ -56,7 +57,7 @@ fn give_known<C: Client>(
     came
 }
 
-/// Gives a client each receipt that has come, and says what came.
+/// Gives `client` each receipt that has arrived, and returns what arrived.
 pub(crate) fn give_come<C: Client>(
     parts: u8,
     rings: &mut [Consumer<Receipt>],
@@ -74,8 +75,8 @@ pub(crate) fn give_come<C: Client>(
     came
 }
 
-/// Gives a client each receipt that is still on its way, once the tellers send no more: it has been given all that they
-/// sent.
+/// Gives `client` each receipt that is still on its way, once the tellers send no more: then it has
+/// been given all that they sent.
 pub(crate) fn give_rest<C: Client>(
     parts: u8,
     pairs: &mut [TellingNode<RingTeller>],

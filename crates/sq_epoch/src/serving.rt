@@ -23,7 +23,8 @@ use std::alloc::Global;
 use std::sync::Wait;
 use std::thread::Threads;
 
-/// What it takes to serve an epoch: its nodes with tellers, the rings over which these send, room for the nodes, and its gate.
+/// What an epoch needs to serve a client: its nodes with tellers, the rings over which these send,
+/// room for the nodes, and its gate.
 #[derive(Drop)]
 pub struct ReadyToServe {
     pub(crate) pairs: Vec<TellingNode<RingTeller>>,
@@ -32,26 +33,27 @@ pub struct ReadyToServe {
     pub(crate) gate: EpochGate,
 }
 
-/// What there is once an epoch was served.
+/// What is left after an epoch served a client.
 #[derive(Drop)]
 pub struct ServedParts {
-    /// The jobs, with those that its client posted.
+    /// The jobs, with those that the client posted.
     pub jobs: PostedJobs,
-    /// Its nodes, which were driven.
+    /// The nodes, which were driven.
     pub nodes: Vec<Node>,
-    /// Its pumps, which were driven.
+    /// The pumps, which were driven.
     pub pumps: Vec<Pump>,
-    /// How far its stage is, by the reports of the workers.
+    /// The progress of the stage, as the workers reported it.
     pub progress: StageProgress,
-    /// Whether each answer that was written was given.
+    /// Whether the client was given each answer that was written.
     pub is_whole: bool,
-    /// Whether it ended since no thread could be had for a node.
+    /// Whether the epoch ended because a node got no thread.
     pub lacks_threads: bool,
-    /// How its workers ended.
+    /// How the workers ended.
     pub end: WorkersEnd,
 }
 
-/// Gives the nodes of so many partitions, whose stage is so far, tellers. Where there is no memory they come back.
+/// Gives tellers to the nodes of `parts` partitions, whose stage has come as far as `progress`. If
+/// memory runs out, `nodes` is returned.
 pub fn make_ready(
     alloc: Global,
     parts: u8,
@@ -82,7 +84,8 @@ pub fn make_ready(
     })
 }
 
-/// Runs the workers and serves a client until the epoch ends, and gives it the answers that are still on their way.
+/// Runs the workers and serves `client` until the epoch ends, and gives it the answers that are
+/// still on their way.
 pub fn serve_with<C: Client, R: Threads + Wait + Sync>(
     rt: &R,
     fabric: &Fabric,
@@ -129,7 +132,7 @@ pub fn serve_with<C: Client, R: Threads + Wait + Sync>(
     }
 }
 
-// How many receipts there are since the last page.
+// Returns how many receipts there are since the last page.
 fn count_receipts(fabric: &Fabric, pairs: &[TellingNode<RingTeller>]) -> u64 {
     let mut count = fabric.receipts().len() as u64;
     for pair in pairs {

@@ -13,7 +13,7 @@ use std::collections::VecDeque;
 // How many answers a ring holds.
 const RING_PLACES: usize = 1024;
 
-/// For each partition a ring: a teller that sends over it, and its other end.
+/// Returns a ring for each partition: a teller that sends over it, and its receiving end.
 pub(crate) fn open_rings(
     alloc: Global,
     parts: u8,
@@ -34,7 +34,7 @@ pub(crate) fn open_rings(
     Ok((tellers, rings))
 }
 
-/// Gives each node its teller. Where there is no memory the nodes come back.
+/// Gives each node its teller. If memory runs out, `nodes` is returned.
 pub(crate) fn with_tellers(
     alloc: Global,
     nodes: Vec<Node>,
@@ -57,7 +57,7 @@ pub(crate) fn with_tellers(
     Ok(pairs)
 }
 
-/// Takes the nodes from their tellers, and puts them here.
+/// Returns the nodes without their tellers, in `nodes`, which has room for them.
 pub(crate) fn without_tellers(
     pairs: Vec<TellingNode<RingTeller>>,
     mut nodes: Vec<Node>,
@@ -72,7 +72,7 @@ pub(crate) fn without_tellers(
     nodes
 }
 
-/// Whether no teller broke off.
+/// Returns true if no teller broke off.
 pub(crate) fn are_whole(pairs: &[TellingNode<RingTeller>]) -> bool
     ensures { result ≡ are_whole pairs.now }
 {

@@ -22,11 +22,11 @@ job_id_in (first ∷ words) = if bytes_eq first (codes "txn") then id_in words e
 abbrev pub job_id_of : List ℕ → Option ℕ
 job_id_of line = job_id_in (words_of line)
 
--- the text is the line, which is no longer than a line may be, or there is none
+-- the text is the line, if that is no longer than a line may be; or it is empty
 abbrev pub IsTextOf : List ℕ → List ℕ → Type 0
 IsTextOf line text = ((text ≡ line) × (length line ≤ MAX_LINE)) ⊎ (text ≡ [])
 
--- a line of a header that is there, unless it is too long or memory ran out
+-- the line of a header, unless it is too long or memory ran out
 abbrev pub IsLineOf : List ℕ → HeaderLine → Type 0
 IsLineOf line (Line text) = (text.items ≡ line) × (length line ≤ MAX_LINE)
 IsLineOf line Missing = ⊥

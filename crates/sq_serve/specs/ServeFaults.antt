@@ -1,4 +1,4 @@
--- The numbers of the faults of lines behind the header, as a user sees them.
+-- The numbers of the faults of lines after the header, as a user sees them.
 use Rattle.std.specs.Prelude.{ℕ}
 use Rattle.sq_schema.specs.Fault.{memory_number, txn_fault_number}
 use Rattle.sq_plan.specs.Fault.{plan_fault_number}

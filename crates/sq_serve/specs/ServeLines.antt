@@ -1,4 +1,4 @@
--- What a line behind the header asks of an engine.
+-- What a line after the header asks of an engine.
 use Rattle.std.specs.Prelude.{◌≡◌, ◌⊎◌, ℕ, true, nat_eq, nat_lt, if◌then◌else◌, List, [], ◌∷◌, find, drop, length, Option, Some, None, Result, Ok, Err, bytes_eq, codes}
 use Rattle.std.specs.List.{starts_with}
 use Rattle.std.specs.Str.{is_utf8}
@@ -17,7 +17,7 @@ use Rattle.sq_serve.specs.declared.serve_line.ServeLine.TheVariants as asks
 use Rattle.sq_serve.specs.declared.serve_fault.ServeFault.{ServeFault}
 use Rattle.sq_serve.specs.declared.serve_fault.ServeFault.TheVariants.{NotAServeLine, TooLong, Txn, Plan, Memory}
 
--- the first word of a line that asks this
+-- the first word of a line with this request
 abbrev pub first_word : ServeLine → List ℕ
 first_word (asks.Job part txn) = codes "txn"
 first_word (asks.Move plan) = codes "move"
@@ -27,7 +27,7 @@ first_word asks.Rows = codes "rows"
 first_word (asks.RowsTo name) = codes "rows"
 first_word asks.Plan = codes "plan"
 
--- what a line asks that is one word
+-- what a line asks that is a single word
 unfoldable pub word_alone : List ℕ → Option ServeLine
 word_alone line = find (λ asks. bytes_eq line (first_word asks)) (asks.Fold ∷ asks.Status ∷ asks.Rows ∷ asks.Plan ∷ [])
 
@@ -36,7 +36,7 @@ abbrev pub move_to : Result PlanValue PlanFault → Result ServeLine ServeFault
 move_to (Ok plan) = Ok (asks.Move plan)
 move_to (Err fault) = Err (Plan fault)
 
--- the rows go into the file that a text names, which is UTF-8
+-- the rows go into the file that a text names, if it is UTF-8
 abbrev pub rows_to : List ℕ → Result ServeLine ServeFault
 rows_to name = if is_utf8 name then Ok (asks.RowsTo name) else Err NotAServeLine
 
@@ -49,12 +49,12 @@ job_of_step (Err line.TooLong) = Err TooLong
 job_of_step (Err (line.Txn fault)) = Err (Txn fault)
 job_of_step (Err line.Memory) = Err Memory
 
--- what a word asks, or else the job
+-- what the word asks if it asks anything, else the job
 abbrev pub word_or_job : Option ServeLine → Result Step LineFault → Result ServeLine ServeFault
 word_or_job (Some asks) step = Ok asks
 word_or_job None step = job_of_step step
 
--- what a line asks, where the schema has this many tables
+-- what a line asks, for a schema with this many tables
 abbrev pub serve_line_of : ℕ → List ℕ → Result ServeLine ServeFault
 serve_line_of tables line =
     if nat_lt MAX_LINE (length line) then Err TooLong
@@ -67,7 +67,7 @@ abbrev pub IsServeLine : Result ServeLine ServeFault → Result ServeLine ServeF
 IsServeLine (Err Memory) wanted = Unit {0}
 IsServeLine read wanted = read ≡ wanted
 
--- the line is read into memory: it begins with the word txn, move or rows
+-- reading the line takes memory: it begins with the word txn, move or rows
 abbrev pub TakesMemory : List ℕ → Type 0
 TakesMemory line =
     (begins_txn (words_of line) ≡ true)

@@ -8,11 +8,11 @@ is_serve_word word =
     bytes_eq word (codes "txn") || bytes_eq word (codes "move") || bytes_eq word (codes "fold")
     || bytes_eq word (codes "status") || bytes_eq word (codes "rows") || bytes_eq word (codes "plan")
 
--- whether the first of these words is one
+-- whether the first of these words is one of them
 abbrev pub begins_with_one : List Word → Bool
 begins_with_one [] = false
 begins_with_one (first ∷ words) = is_serve_word first
 
--- whether a line begins with one
+-- whether a line begins with one of them
 abbrev pub begins_serve_line : List ℕ → Bool
 begins_serve_line line = begins_with_one (words_of line)

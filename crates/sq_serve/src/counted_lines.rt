@@ -1,4 +1,4 @@
-// A reader whose lines are counted.
+// A reader that counts lines.
 ghost use Rattle.std.specs.Prelude.{◌≡◌};
 ghost use Rattle.sq_serve.specs.CountedLines.{counted_remaining};
 
@@ -12,7 +12,7 @@ use std::sync::atomic::{AtomicU64, Ordering};
 // The byte that ends a line.
 const LINE_END: u8 = 10;
 
-// No file has as many lines.
+// Stands for an unknown count; no file has as many lines.
 const UNKNOWN: u64 = u64::MAX;
 
 /// How many lines a file has, which is known once it was read to its end.
@@ -22,19 +22,19 @@ pub struct FileLines {
 }
 
 impl FileLines {
-    /// Those of a file that was not read to its end.
+    /// The count of a file that hasn't been read to its end.
     pub fn unknown() -> FileLines {
         FileLines {
             count: AtomicU64::new(UNKNOWN),
         }
     }
 
-    // Takes note that there are so many.
+    // Records the count.
     fn note(&self, count: u64) {
         self.count.store(count, Ordering::SeqCst);
     }
 
-    /// How many there are, once that is known.
+    /// The count, once it is known.
     pub fn count(&self) -> Option<u64> {
         match self.count.load(Ordering::SeqCst) {
             UNKNOWN => None,
@@ -43,19 +43,20 @@ impl FileLines {
     }
 }
 
-/// A reader that gives what another one gives, and notes how many lines that has. A last line needs no end.
+/// A reader that passes on what another one reads, and records how many lines that has. A last line
+/// needs no end.
 #[derive(Drop)]
 pub struct CountedLines<R: Read> {
     reader: R,
-    // How many lines were given, the one that has begun among them.
+    // How many lines were read so far, including one that has only begun.
     count: u64,
-    // Whether a line has begun.
+    // Whether the last byte is within a line.
     is_within: bool,
     lines: Arc<FileLines, Global>,
 }
 
 impl<R: Read> CountedLines<R> {
-    /// A reader of which it is noted there how many lines it has.
+    /// A reader of `reader` that records in `lines` how many lines it has.
     pub fn new(reader: R, lines: Arc<FileLines, Global>) -> CountedLines<R>
         ensures { counted_remaining R.remaining result ≡ R.remaining reader }
     {
@@ -67,7 +68,7 @@ impl<R: Read> CountedLines<R> {
         }
     }
 
-    // Counts the lines of these bytes, which are given next.
+    // Counts the lines of `bytes`, which are read next.
     fn add(&mut self, bytes: &[u8])
         ensures { self.new.reader ≡ self.old.reader }
     {

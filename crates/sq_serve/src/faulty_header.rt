@@ -5,18 +5,18 @@ use crate::line_place::HeaderFault;
 use sq_text::MAX_LINE;
 use std::alloc::Global;
 
-/// The line of a header that has a fault.
+/// The faulty line of a header.
 #[derive(Debug, Drop)]
 pub enum HeaderLine {
     /// Its bytes, without its end.
     Line(Vec<u8>),
     /// The input ends before it.
     Missing,
-    /// It has more bytes than a line may have, a read of it failed, or memory ran out.
+    /// It is longer than a line may be, a read of it failed, or memory ran out.
     Lost,
 }
 
-/// A header with a fault: nothing is served.
+/// A header with a fault, which leaves nothing to serve.
 #[derive(Debug, Drop)]
 pub struct FaultyHeader {
     pub fault: HeaderFault,
@@ -24,7 +24,7 @@ pub struct FaultyHeader {
 }
 
 impl HeaderLine {
-    /// The line with these bytes.
+    /// The line with these bytes, or `Lost` if it is too long or memory runs out.
     pub fn of(alloc: Global, line: &[u8]) -> HeaderLine
         ensures { IsLineOf line.now result }
     {

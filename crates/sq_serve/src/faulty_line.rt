@@ -11,14 +11,14 @@ use std::alloc::Global;
 #[derive(Debug, Drop)]
 pub struct FaultyLine {
     pub fault: ServeFault,
-    /// The id of its job, if it is a job's and has one.
+    /// The id of its job, if it is a job's line and has one.
     pub id: Option<u64>,
-    /// The line without its end. It is empty if it has more bytes than a line may have, or if memory ran out.
+    /// The line without its end; empty if it is longer than a line may be, or if memory ran out.
     pub text: Vec<u8>,
 }
 
 impl FaultyLine {
-    /// This line, with this fault.
+    /// The line `line`, with `fault`.
     pub fn new(alloc: Global, fault: ServeFault, line: &[u8]) -> FaultyLine
         ensures fault { result.fault ≡ fault }
         ensures id { result.id ≡ job_id_of line.now }
@@ -38,13 +38,13 @@ pub struct LineRefusal<'a> {
     /// The number of the fault or of the refusal.
     pub number: u16,
     pub place: LinePlace,
-    /// The id of its job, if it is a job's and has one.
+    /// The id of its job, if it is a job's line and has one.
     pub id: Option<u64>,
-    /// The line without its end, if it is there.
+    /// The line without its end; empty if it isn't kept.
     pub text: &'a [u8],
 }
 
-// The bytes of a line that has no more than a line may have; none if memory runs out.
+// A copy of a line that is no longer than a line may be; else, or if memory runs out, no bytes.
 fn kept(alloc: Global, line: &[u8]) -> Vec<u8>
     ensures { IsTextOf line.now result.items }
 {
@@ -57,7 +57,7 @@ fn kept(alloc: Global, line: &[u8]) -> Vec<u8>
     }
 }
 
-// The id of the job that a line is of, if its partition and its id are numbers.
+// The id of the job in a line, if its partition and its id are numbers.
 fn job_id(line: &[u8]) -> Option<u64>
     ensures { result ≡ job_id_of line.now }
 {

@@ -1,4 +1,4 @@
-// One reader behind another.
+// A reader that continues with another one.
 ghost use Rattle.std.specs.Prelude.{◌≡◌, ◌<◌, true, length};
 ghost use Rattle.std.specs.Io.KnownBytes.{ReadConsumes};
 ghost use Rattle.std.specs.Io.{ReadsAtMost};
@@ -11,8 +11,8 @@ use std::io::Read;
 // The byte that ends a line.
 const LINE_END: u8 = 10;
 
-/// One reader behind another: it gives all of the first one, a line end where the last line of that has none, and then all of
-/// the second one.
+/// A reader that reads all of the first reader, a line end if the last line of that has none, and
+/// then all of the second.
 #[derive(Drop)]
 pub struct Following<A: Read, B: Read> {
     first: A,
@@ -30,7 +30,7 @@ pub(crate) enum FollowingPlace {
 }
 
 impl<A: Read, B: Read> Following<A, B> {
-    /// The second of these readers behind the first.
+    /// A reader of `first`, and then of `second`.
     pub fn new(first: A, second: B) -> Following<A, B>
         ensures { following_remaining A.remaining B.remaining result
             ≡ ended_text true (B.remaining second) (A.remaining first) }
@@ -42,7 +42,8 @@ impl<A: Read, B: Read> Following<A, B> {
         }
     }
 
-    // Reads on in the first reader, at the start of a line of it or within one, and behind it.
+    // Reads on in the first reader, at the start of a line or within one, and after its end in the
+    // second.
     fn read_first(&mut self, at_start: bool, buf: &mut [u8]) -> io::Result<usize>
         requires some { 0 < length buf.old }
         requires place { self.old.place ≡ FollowingPlace.First at_start }

@@ -1,4 +1,5 @@
-//! The lines of an engine behind a pipe: what they ask, and what it answers. And readers of its input.
+//! The lines of an engine behind a pipe: what they ask, and what it answers; and readers of its
+//! input.
 #![tactic(auto)]
 
 mod counted_lines;

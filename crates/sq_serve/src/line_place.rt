@@ -1,30 +1,30 @@
-// Where the lines of an engine's input stand.
+// Where the lines of an engine's input are.
 use sq_text::LocatedFault;
 
-/// What a line of an engine's input stands in.
+/// What a line of an engine's input is in.
 #[derive(Clone, Copy, Debug, PartialEq, Eq)]
 pub enum LineSource {
     /// The file of the plan.
     Plan,
     /// The file of the rows.
     Rows,
-    /// The file that is read before the input.
+    /// The file that is read before standard input.
     File,
-    /// The input.
+    /// Standard input.
     Input,
 }
 
-/// Where a line of an engine's input stands.
+/// Where a line of an engine's input is.
 #[derive(Clone, Copy, Debug, PartialEq, Eq)]
 pub struct LinePlace {
     pub source: LineSource,
-    /// Its number there; the first line has number 1.
+    /// Its number there, from 1.
     pub line: u64,
 }
 
-/// Tells where the lines of an engine's input stand, once they were read.
+/// Maps the lines of an engine's input to their places, once they were read.
 pub trait LinePlaces {
-    /// The place of the line with this number among all lines; the first line has number 1.
+    /// The place of line `number` of the whole input, counted from 1.
     fn place(&self, number: u64) -> LinePlace;
 }
 

@@ -1,4 +1,4 @@
-// A reader in portions of so many lines.
+// A reader that reads another one in portions of whole lines.
 ghost use Rattle.std.specs.Prelude.{◌≡◌, ◌<◌, ◌≤◌, ◌==◌, length, count_by};
 ghost use Rattle.std.specs.Io.KnownBytes.{ReadConsumes};
 ghost use Rattle.std.specs.Io.{ReadsAtMost};
@@ -10,7 +10,8 @@ use std::io::Read;
 // The byte that ends a line.
 const LINE_END: u8 = 10;
 
-/// A reader in portions: each of them ends behind so many line ends, or where the reader ends.
+/// A reader that reads another one in portions: each ends after a given number of line ends, or
+/// where the other reader ends.
 #[derive(Drop)]
 pub struct Portions<R: Read> {
     reader: R,
@@ -19,7 +20,7 @@ pub struct Portions<R: Read> {
 }
 
 impl<R: Read> Portions<R> {
-    /// The first portion of a reader, with so many lines at most.
+    /// The first portion of `reader`, with at most `lines` lines.
     pub fn new(reader: R, lines: usize) -> Portions<R>
         ensures portion { portion_remaining R.remaining result
             ≡ portion_of lines (R.remaining reader) }
@@ -32,7 +33,8 @@ impl<R: Read> Portions<R> {
         }
     }
 
-    /// Begins the next portion, of what is unread, with so many lines at most. Not where the reader was seen to end.
+    /// Begins the next portion of what is unread, with at most `lines` lines. Returns false if the
+    /// reader was seen to end.
     pub fn next_portion(&mut self, lines: usize) -> bool
         ensures portion { portion_remaining R.remaining self.new
             ≡ portion_of lines (unread R.remaining self.old) }
@@ -42,7 +44,8 @@ impl<R: Read> Portions<R> {
         !self.has_ended
     }
 
-    // Reads into a buffer of at most as many bytes as lines are left, which can't hold more line ends than these.
+    // Reads into a buffer no longer than the number of lines left, so it can't hold more line ends
+    // than these.
     fn read_some(&mut self, buf: &mut [u8]) -> io::Result<usize>
         requires some { 0 < length buf.old }
         requires few { length buf.old ≤ self.old.lines_left }
@@ -70,7 +73,7 @@ impl<R: Read> Read for Portions<R> {
     }
 }
 
-/// How many line ends there are among bytes.
+/// How many line ends `bytes` have.
 pub fn line_ends(bytes: &[u8]) -> usize
     ensures { result ≡ count_by (λ byte. byte == 10) bytes.now }
 {

@@ -6,7 +6,7 @@ use crate::line_place::LinePlace;
 pub struct RefusedMove<'a> {
     /// The number of the refusal.
     pub number: u16,
-    /// Where the line stands that asks for it.
+    /// The place of the line that asks for it.
     pub place: LinePlace,
     /// The text of the plan in force.
     pub old: &'a str,

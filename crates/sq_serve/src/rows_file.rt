@@ -4,7 +4,7 @@ ghost use Rattle.std.specs.Prelude.{◌≡◌, IfOk};
 use std::alloc::{AllocError, Global};
 use std::marker::Model;
 
-/// The name of a file into which rows are to be written. To a contract it is the bytes of the name.
+/// The name of a file that rows are to be written into. Contracts see the bytes of the name.
 #[derive(Debug, Drop)]
 pub struct RowsFile {
     name: String,
@@ -19,7 +19,7 @@ impl Model for RowsFile {
 }
 
 impl RowsFile {
-    /// The file of this name.
+    /// The file with this name. Fails if memory runs out.
     pub fn new(alloc: Global, name: &str) -> Result<RowsFile, AllocError>
         ensures { IfOk result (λ file. file ≡ name.now) }
     {
@@ -27,7 +27,6 @@ impl RowsFile {
         Ok(RowsFile { name })
     }
 
-    /// Its name.
     pub fn name(&self) -> &str
         ensures { result.now ≡ self.now }
     {

@@ -8,37 +8,37 @@ use sq_text::WriteFault;
 use std::io;
 use std::io::Write;
 
-/// What an engine answers to a line that isn't a job, or that asks nothing.
+/// What an engine answers to a line other than a job, or to a line that asks nothing.
 #[derive(Clone, Copy, Debug)]
 pub enum ServeAnswer {
-    /// The line with this number has this fault. It has the job with this id, if it has one.
+    /// Line number `line` has this fault. `id` is that of its job, if it has one.
     Fault {
         fault: u16,
         line: u64,
         id: Option<u64>,
     },
-    /// A move of so many segments begins.
+    /// A move of this many segments begins.
     Moving {
         segments: u64,
     },
-    /// A move of so many segments is done.
+    /// A move of this many segments is done.
     Moved {
         segments: u64,
     },
-    /// What was answered is sound: a page with so many families and commits.
+    /// What was answered is sound: a page with this many families and commits.
     Folded {
         families: u64,
         committed: u64,
     },
-    /// So many rows were written, as lines or into a file.
+    /// This many rows were written, as lines or into a file.
     Rows {
         count: u64,
     },
-    /// Nothing moves, and so many jobs have no answer.
+    /// Nothing moves, and this many jobs have no answer.
     AtRest {
         unanswered: u64,
     },
-    /// So many of the segments that move are complete, and so many jobs have no answer.
+    /// `complete` of the stage's segments are complete, and `unanswered` jobs have no answer.
     Progress {
         complete: u64,
         segments: u64,
@@ -46,7 +46,7 @@ pub enum ServeAnswer {
     },
 }
 
-/// Writes the line of an answer. An error is a write that failed.
+/// Writes the line of an answer. Fails if a write does.
 pub fn write_serve_answer<W: Write>(writer: &mut W, answer: ServeAnswer) -> Result<(), WriteFault>
     ensures { OnOk result (Appends (W.contents writer.old) (W.contents writer.new)
         (serve_answer_line answer)) }
@@ -89,7 +89,7 @@ fn write_fault<W: Write>(writer: &mut W, fault: u16, line: u64, id: Option<u64>)
     }
 }
 
-// Writes how many jobs have no answer where nothing moves.
+// Writes that nothing moves, and how many jobs have no answer.
 fn write_rest<W: Write>(writer: &mut W, unanswered: u64) -> io::Result<()>
     ensures { OnOk result (Appends (W.contents writer.old) (W.contents writer.new)
         (serve_answer_line (AtRest unanswered))) }
@@ -97,7 +97,7 @@ fn write_rest<W: Write>(writer: &mut W, unanswered: u64) -> io::Result<()>
     writeln!(writer, "at rest, {unanswered} jobs open")
 }
 
-// Writes how far a move is.
+// Writes the progress of a move.
 fn write_progress<W: Write>(
     writer: &mut W,
     complete: u64,
@@ -113,7 +113,7 @@ fn write_progress<W: Write>(
     )
 }
 
-/// Writes the line of a plan with this text. An error is a write that failed.
+/// Writes the line of the plan with this text. Fails if a write does.
 pub fn write_plan<W: Write>(writer: &mut W, text: &str) -> Result<(), WriteFault>
     ensures { OnOk result (Appends (W.contents writer.old) (W.contents writer.new)
         (plan_line text.now)) }

@@ -7,13 +7,13 @@ use sq_plan::PlanFault;
 use sq_schema::{OUT_OF_MEMORY, TxnFault};
 use thiserror::Error;
 
-/// Why a line behind the header asks nothing of an engine.
+/// Why a line after the header asks nothing of an engine.
 #[derive(Clone, Copy, Debug, Error)]
 #[error("{}", meaning(self.number()))]
 pub enum ServeFault {
-    /// 126.
+    /// It isn't a request. 126.
     NotAServeLine,
-    /// 231.
+    /// It is too long. 231.
     TooLong,
     /// The schema doesn't have the transaction.
     Txn(TxnFault),

@@ -1,4 +1,4 @@
-// What the lines behind a header ask of an engine.
+// What the lines after a header ask of an engine.
 ghost use Rattle.std.specs.Prelude.{◌≡◌, ◌≢◌, true, Ok, Err};
 ghost use Rattle.sq_plan.specs.Reading.{plan_in};
 ghost use Rattle.sq_text.specs.Steps.{step_of, begins_txn};
@@ -14,37 +14,39 @@ use sq_schema::{Schema, Txn};
 use sq_text::{LineFault, MAX_LINE, read_step};
 use std::alloc::{AllocError, Global};
 
-/// What a line behind the header asks of an engine.
+/// What a line after the header asks of an engine.
 #[derive(Debug, Drop)]
 pub enum ServeLine {
-    /// A job is posted: a transaction, to the partition with this number.
+    /// To post a job: a transaction, to the partition with this number.
     Job { part: u64, txn: Txn },
-    /// Rows move to the places of this plan.
+    /// To move rows to the places of this plan.
     Move(Plan),
-    /// What was answered is audited, and the logs folded.
+    /// To audit what was answered, and to fold the logs.
     Fold,
-    /// How far a move is.
+    /// For the progress of a move.
     Status,
     Rows,
-    /// The rows are written into this file.
+    /// To write the rows into this file.
     RowsTo(RowsFile),
-    /// Which plan is in force.
+    /// For the plan in force.
     Plan,
 }
 
-// The first word of a line that goes to another plan, with its space.
+// How a line begins that asks for a move.
 const MOVE: &[u8] = b"move ";
 
-// The same of a line that has rows written into a file.
+// How a line begins that asks for the rows in a file.
 const ROWS: &[u8] = b"rows ";
 
-/// What a line behind the header asks of an engine: `txn P ID ROOT OP..`, as [`read_step`] has it, `move JSON`, `rows FILE`, or
-/// one of the words `fold`, `status`, `rows` and `plan` alone.
+/// Returns what a line after the header asks of an engine: `txn P ID ROOT OP..`, in the form of
+/// [`read_step`], `move JSON`, `rows FILE`, or one of the words `fold`, `status`, `rows` and `plan`
+/// alone.
 ///
-/// Refused with [`ServeFault::TooLong`] where the line has over [`MAX_LINE`] bytes, with [`ServeFault::NotAServeLine`] where it
-/// is none of these or the name of the file isn't UTF-8, with [`ServeFault::Txn`] where the schema doesn't have its transaction,
-/// and with [`ServeFault::Plan`] where its text is no plan. [`ServeFault::Memory`] may come in place of any answer to a line that
-/// begins with `txn`, `move` or `rows`.
+/// Fails with [`ServeFault::TooLong`] if the line has over [`MAX_LINE`] bytes, with
+/// [`ServeFault::NotAServeLine`] if it is none of these or the name of the file isn't UTF-8, with
+/// [`ServeFault::Txn`] if the schema doesn't have its transaction, and with [`ServeFault::Plan`] if
+/// its text isn't a plan. [`ServeFault::Memory`] may replace any result for a line that begins with
+/// `txn`, `move` or `rows`.
 pub fn read_serve_line(alloc: Global, schema: &Schema, line: &[u8]) -> Result<ServeLine, ServeFault>
     ensures asks { IsServeLine result (serve_line_of schema.now line.now) }
     ensures memory { result ≡ Err ServeFault.Memory → TakesMemory line.now }
@@ -64,7 +66,7 @@ pub fn read_serve_line(alloc: Global, schema: &Schema, line: &[u8]) -> Result<Se
     }
 }
 
-// What a line asks that is one word.
+// What a line asks that is a single word.
 #[tactic(auto, unfolding(crate::specs::ServeLines::word_alone))]
 fn word_alone(line: &[u8]) -> Option<ServeLine>
     ensures { result ≡ word_alone line.now }
@@ -82,7 +84,7 @@ fn word_alone(line: &[u8]) -> Option<ServeLine>
     }
 }
 
-// The move to the plan that a text spells.
+// A request to move to the plan that `text` spells.
 fn move_to(alloc: Global, text: &[u8]) -> Result<ServeLine, ServeFault>
     ensures { IsServeLine result (move_to (plan_in text.now)) }
 {
@@ -93,7 +95,7 @@ fn move_to(alloc: Global, text: &[u8]) -> Result<ServeLine, ServeFault>
     }
 }
 
-// The file for the rows that a text names.
+// A request for the rows in the file that `name` spells.
 fn rows_to(alloc: Global, name: &[u8]) -> Result<ServeLine, ServeFault>
     ensures { IsServeLine result (rows_to name.now) }
 {
@@ -103,7 +105,7 @@ fn rows_to(alloc: Global, name: &[u8]) -> Result<ServeLine, ServeFault>
     }
 }
 
-// The file of this name for the rows.
+// A request for the rows in the file `name`.
 fn rows_to_file(alloc: Global, name: &str) -> Result<ServeLine, ServeFault>
     ensures { IsServeLine result (Ok (kind.RowsTo name.now)) }
 {
@@ -124,7 +126,7 @@ fn job_of(alloc: Global, schema: &Schema, line: &[u8]) -> Result<ServeLine, Serv
     }
 }
 
-// The job that a step submits, if it submits one.
+// The job that a step submits; any other step isn't a request.
 fn job_in(step: Step) -> Result<ServeLine, ServeFault>
     ensures job { result ≡ job_of_step (Ok step) }
     ensures no_memory { result ≢ Err ServeFault.Memory }

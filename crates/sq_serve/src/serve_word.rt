@@ -4,8 +4,8 @@ ghost use Rattle.sq_serve.specs.ServeWords.{is_serve_word, begins_serve_line};
 
 use sq_text::Words;
 
-/// Whether a line begins with one of the words that lines after the header begin with: `txn`, `move`, `fold`, `status`, `rows`
-/// and `plan`.
+/// Returns whether a line begins with one of the words `txn`, `move`, `fold`, `status`, `rows` and
+/// `plan`, with which the lines after the header begin.
 pub fn begins_serve_line(line: &[u8]) -> bool
     ensures { result ≡ begins_serve_line line.now }
 {
@@ -15,7 +15,7 @@ pub fn begins_serve_line(line: &[u8]) -> bool
     }
 }
 
-// Whether a word is one of these.
+// Returns whether `word` is one of these words.
 #[tactic(auto, unfolding(crate::specs::ServeWords::is_serve_word))]
 fn is_serve_word(word: &[u8]) -> bool
     ensures { result ≡ is_serve_word word.now }

@@ -1,4 +1,4 @@
-// Who watches an engine that is served.
+// The watch of an engine that is served.
 ghost use Rattle.std.specs.Prelude.{ℕ, Bool, List, is_ok};
 
 use crate::faulty_header::FaultyHeader;
@@ -7,32 +7,31 @@ use crate::refused_move::RefusedMove;
 use sq_plan::PartId;
 use std::io;
 
-/// What is done by an engine that is served.
+/// What an engine that is served does.
 #[derive(Clone, Copy, Debug)]
 pub enum ServeMark {
-    /// A move of so many segments begins.
+    /// A move of this many segments begins.
     MoveBegins {
         segments: u64,
     },
-    /// It is done.
+    /// The move is done.
     MoveEnds,
-    /// An epoch begins.
     EpochBegins,
-    /// So many segments of its stage are complete.
+    /// This many segments of the epoch's stage are complete.
     SegmentsComplete {
         complete: u64,
     },
-    /// So many families more were moved in it, of so many bytes.
+    /// This many more families, of this many bytes, were moved in the epoch.
     FamiliesMoved {
         families: u64,
         bytes: u64,
     },
     EpochEnds,
-    /// The job with this id is offered to the engine, for the first time or once more.
+    /// The job `id` is offered to the engine, for the first time or again.
     JobOffered {
         id: u64,
     },
-    /// It is answered by a partition, which committed or aborted it.
+    /// The job `id` is answered by partition `part`, which committed or aborted it.
     JobAnswered {
         part: PartId,
         id: u64,
@@ -40,25 +39,25 @@ pub enum ServeMark {
     },
 }
 
-/// Who watches an engine that is served, and saves its rows. It changes nothing of what lines are answered, but for whether rows
-/// were saved.
+/// Watches an engine that is served, and saves its rows. The only answers that depend on it are
+/// those about saved rows.
 pub trait ServeWatch {
     // A text was to be saved under a name, and was or wasn't.
     ghost Saves: { Self → List ℕ → List ℕ → Bool → Type 0 };
 
-    /// Takes note of what is done.
+    /// Records what the engine does.
     fn mark(&self, mark: ServeMark);
 
-    /// Takes note of a line that is answered with a fault or a refusal.
+    /// Records a line that is answered with a fault or a refusal.
     fn refuses(&self, refusal: LineRefusal<'_>);
 
-    /// Takes note of why a move is refused; `refuses` has noted its line before.
+    /// Records why a move is refused, after `refuses` has recorded its line.
     fn refuses_move(&self, _refused: RefusedMove<'_>) {}
 
-    /// Takes note of a header with a fault.
+    /// Records a header with a fault.
     fn refuses_header(&self, _header: FaultyHeader) {}
 
-    /// Saves a text under a name.
+    /// Saves `text` under `name`.
     fn save(&self, name: &str, text: &[u8]) -> io::Result<()>
         ensures { Saves self.now name.now text.now (is_ok result) };
 }

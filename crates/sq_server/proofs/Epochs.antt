@@ -12,7 +12,7 @@ use Rattle.sq_epoch.specs.declared.posted.PostFault.{PostFault}
 use Rattle.sq_epoch.specs.declared.posted.PostFault.TheVariants as fault
 use Rattle.sq_epoch.specs.Exchanges.{ClientCall, Exchange, Answers, Posts, Refuses, Rests, Ends, ExchangesEach, InStage, answer_at, given_from}
 use Rattle.sq_text.proofs.Appending.{both, appends_none}
-use Rattle.sq_told.specs.Lines.{receipt_line}
+use Rattle.sq_server.specs.Receipts.{receipt_line}
 use Rattle.sq_serve.specs.declared.line_place.LinePlace.{LinePlace}
 use Rattle.sq_server.specs.declared.feed.Fed.{Fed}
 use Rattle.sq_server.specs.declared.desk.AskedTxn.{AskedTxn}

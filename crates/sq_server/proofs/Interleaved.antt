@@ -8,7 +8,7 @@ use Rattle.sq_node_model.specs.NodeValue.{ReceiptValue}
 use Rattle.sq_node.specs.NodeState.{NodeState}
 use Rattle.sq_epoch.specs.Exchanges.{Exchange, given_from}
 use Rattle.sq_epoch.specs.Serving.{AllAreGiven}
-use Rattle.sq_told.specs.Interleaving.{Interleaves}
+use Rattle.sq_server.specs.Receipts.{Interleaves}
 use Rattle.sq_server.specs.Becoming.{ServeDeskValue}
 use Rattle.sq_server.specs.Written.{SaidLine, OfReceipt, Other, told_from, receipts_said, given_by_parts, WritesEach}
 

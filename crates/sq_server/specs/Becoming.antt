@@ -17,7 +17,7 @@ use Rattle.sq_serve.specs.declared.serve_line.ServeLine.{ServeLine}
 use Rattle.sq_serve.specs.declared.serve_line.ServeLine.TheVariants as asks
 use Rattle.sq_serve.specs.declared.serve_answer.ServeAnswer.{ServeAnswer}
 use Rattle.sq_serve.specs.ServeAnswers.{serve_answer_line}
-use Rattle.sq_told.specs.Lines.{receipt_line}
+use Rattle.sq_server.specs.Receipts.{receipt_line}
 use Rattle.sq_server.specs.declared.feed.Fed.{Fed}
 use Rattle.sq_server.specs.declared.feed.Fed.TheVariants as fed
 use Rattle.sq_server.specs.declared.desk.AskedTxn.{AskedTxn}
@@ -29,9 +29,10 @@ use Rattle.sq_server.specs.Saying.{OtherLine, other_line}
 use Rattle.sq_server.specs.Settling.{line_wish, refusal_of, IsStatus, SettlesEach}
 use Rattle.sq_server.specs.Sides.{waiting_at}
 
--- a desk: what its writer holds, where that is known; whether nothing more can be done; what was handed on to it; for each
--- partition the jobs that wait, with the places of their lines; the place of the line of the job that was offered last; what lines
--- wish that is to be done between epochs; and how far a move is
+-- a desk: what its writer holds, if that is known; whether nothing more can be done; what was
+-- handed on to it; for each partition the jobs that wait, with the places of their lines; the place
+-- of the line of the job that was offered last; the wishes of lines that are to be fulfilled
+-- between epochs; and the progress of a move
 pub record ServeDeskValue : Type 0 where
   pub written : Option (List ℕ)
   pub has_stopped : Bool
@@ -53,7 +54,8 @@ desk_value contents desk =
       moving = desk.moving;
     }
 
--- a desk that has written what an outlet holds, to which this was handed on, and at which these jobs wait
+-- a desk before its first call: it has written what the outlet holds, and `heard` was handed on to
+-- it, and the jobs in `waiting` wait
 abbrev pub new_desk : {W : Type 0} → (W → Option (List ℕ)) → Outlet W → List Fed → List (List AskedTxn) → ServeDeskValue
 new_desk contents outlet heard waiting =
     record {
@@ -66,7 +68,7 @@ new_desk contents outlet heard waiting =
       moving = None;
     }
 
--- the job of a partition that a line at a place asks for, if it asks for one
+-- the job that a line at a place asks for, if it asks for one of this partition
 abbrev pub job_asked : ℕ → LinePlace → ServeLine → List AskedTxn
 job_asked part place (asks.Job to txn) = if to == part then record { place = place; txn = txn } ∷ [] else []
 job_asked part place (asks.Move plan) = []
@@ -81,7 +83,7 @@ asked_by part (fed.Line place (Ok asks)) = job_asked part place asks
 asked_by part (fed.Line place (Err faulty)) = []
 asked_by part (fed.End end) = []
 
--- those of these jobs that are of a partition
+-- the jobs of one partition, in their order
 abbrev pub jobs_for : ℕ → List Job → List Job
 jobs_for part jobs = filter (λ job. job.part == part) jobs
 
@@ -89,9 +91,10 @@ jobs_for part jobs = filter (λ job. job.part == part) jobs
 abbrev pub asked_at : LinePlace → ℕ → List Job → List AskedTxn
 asked_at place part jobs = map (λ (job : Job). record { place = place; txn = job.txn }) (jobs_for part jobs)
 
--- so much was handed on, and some jobs came back: unless nothing more can be done, each line that was handed on is settled, by a line
--- that was written or a wish that is kept, and no other line was written; and for each partition the jobs that came back, those that
--- waited, and those that were asked for are, in this order, those that were offered and those that wait
+-- `more` was handed on, and the jobs `back` were returned: unless nothing more can be done, each
+-- line that was handed on is settled, by a line that was written or a wish that is kept, and no
+-- other line was written; and for each partition the jobs that were returned, those that waited,
+-- and those that were asked for are, in this order, those that were offered and those that wait
 pub record Handles (more : List Fed) (back : List Job) (old : ServeDeskValue) (offered : List Job) (new : ServeDeskValue) : Type 0 where
   pub goes_on : new.has_stopped ≡ false → old.has_stopped ≡ false
   pub others : List OtherLine
@@ -129,7 +132,7 @@ pub record WritesBytes (bytes : List ℕ) (old new : ServeDeskValue) : Type 0 wh
   pub wishes : new.wishes ≡ old.wishes
   pub moving : new.moving ≡ old.moving
 
--- the line of a receipt was
+-- just the line of a receipt was written
 abbrev pub WritesReceipt : ReceiptValue → ServeDeskValue → ServeDeskValue → Type 0
 WritesReceipt receipt old new = WritesBytes (receipt_line receipt) old new
 
@@ -140,7 +143,7 @@ pub record Stops (old new : ServeDeskValue) : Type 0 where
   pub waiting : new.waiting ≡ old.waiting
   pub moving : new.moving ≡ old.moving
 
--- what a line wishes was kept, and nothing else changed
+-- the wish of a line was kept, and nothing else changed
 abbrev pub KeepsWish : Wish → ServeDeskValue → ServeDeskValue → Type 0
 KeepsWish wish old new = new ≡ record old { wishes = old.wishes ++ wish ∷ [] }
 
@@ -149,7 +152,7 @@ pub record TakesWish (taken : Option Wish) (old new : ServeDeskValue) : Type 0 w
   pub wishes : old.wishes ≡ line_wish taken ++ new.wishes
   pub rest : new ≡ record old { wishes = new.wishes }
 
--- the status was written, with so many jobs without an answer
+-- the status was written, with `unanswered` as the number of jobs without an answer
 abbrev pub WritesStatus : ℕ → ServeDeskValue → ServeDeskValue → Type 0
 WritesStatus unanswered old new =
     (answer : ServeAnswer) × IsStatus old.moving unanswered answer × WritesBytes (serve_answer_line answer) old new
@@ -168,20 +171,20 @@ offered_by End = []
 abbrev pub AnswersRefusal : ℕ → Job → ServeDeskValue → ServeDeskValue → Type 0
 AnswersRefusal number job old new = WritesBytes (serve_answer_line (refusal_of number old.offered_at job.txn)) old new
 
--- a job whose queue is full comes back to wait; one of no partition is refused
+-- a job whose queue is full waits again; one whose partition doesn't exist is refused
 pub record WaitsOrHasNoPartition (job : Job) (old new : ServeDeskValue) : Type 0 where
   pub waits : job.part < length old.waiting → Hears (job ∷ []) old [] new
   pub refused : length old.waiting ≤ job.part → AnswersRefusal 219 job old new
 
--- what is made of the job that was offered last and comes back for this: it waits before the others of its partition, or its line is
--- answered by just its refusal, or nothing more can be done
+-- what happens to the job that was offered last and isn't posted: it waits before the others of its
+-- partition, or its line is answered by just its refusal, or nothing more can be done
 abbrev pub TakesJobBack : Job → PostFault → ServeDeskValue → ServeDeskValue → Type 0
 TakesJobBack job fault.QueueFull old new = WaitsOrHasNoPartition job old new
 TakesJobBack job fault.NoSuchPartition old new = AnswersRefusal 219 job old new
 TakesJobBack job fault.RepeatedId old new = AnswersRefusal 127 job old new
 TakesJobBack job fault.Memory old new = Stops old new
 
--- a desk that is told how far the stage is in which rows move
+-- a desk that records the progress of the stage, if rows move
 abbrev pub with_stage : StageProgress → ServeDeskValue → ServeDeskValue
 with_stage progress desk =
     record desk { moving = option_map (λ (moving : MoveProgress). record moving { stage = progress }) desk.moving }

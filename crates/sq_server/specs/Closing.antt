@@ -1,15 +1,20 @@
 -- When all is done at a desk, and why an epoch is to end.
-use Rattle.std.specs.Prelude.{Bool, true, false, ◌==◌, ◌&&◌, ◌||◌, nat_le, length, sum_by, Option, Some, None, is_some, is_none}
+use Rattle.std.specs.Prelude.{◌≡◌, Bool, true, false, ◌==◌, ◌&&◌, ◌||◌, nat_le, length, sum_by, Option, Some, None, is_some, is_none}
 use Rattle.std.specs.Bool.{then_some}
 use Rattle.std.specs.Option.{option_or}
 use Rattle.sq_server.specs.declared.desk.ServeDesk.{ServeDesk}
 use Rattle.sq_server.specs.declared.desk.Wish.{Wish}
 use Rattle.sq_server.specs.declared.desk.Wish.TheVariants as wish
+use Rattle.sq_server.specs.declared.ending.InputOutcome.{InputOutcome}
+use Rattle.sq_server.specs.declared.ending.InputOutcome.TheVariants as outcome
+use Rattle.sq_server.specs.declared.feed.InputEnd.{InputEnd}
+use Rattle.sq_server.specs.declared.feed.InputEnd.TheVariants as end
 use Rattle.sq_server.specs.declared.desk.TheConstants.{LOST_CALLS}
 use Rattle.sq_server.specs.Settling.{unanswered_jobs}
 
 module _ {W : Type 0} where
-  -- each job has its answer; or none waits to be posted, and there was no work in so many calls that the open ones are lost
+  -- each job has its answer; or none waits to be posted, and there was no work in so many calls
+  -- that the open ones count as lost
   abbrev pub expects_nothing : ServeDesk W → Bool
   expects_nothing desk =
       (unanswered_jobs desk.counts (sum_by length desk.sides) == 0)
@@ -19,11 +24,11 @@ module _ {W : Type 0} where
   abbrev pub is_done : ServeDesk W → Bool
   is_done desk = is_some desk.end && is_none desk.moving && expects_nothing desk
 
-  -- why the epoch is to end: for what was asked for, or else to close once all is done
+  -- why the epoch should end: for what was asked for, or else to close once all is done
   abbrev pub wish_of : ServeDesk W → Option Wish
   wish_of desk = option_or desk.wish (then_some (is_done desk) wish.Close)
 
--- a page is to be taken, or the last one
+-- a page is to be taken: for itself, or as the last one
 abbrev pub is_page_wished : Option Wish → Bool
 is_page_wished (Some (wish.Move asked)) = false
 is_page_wished (Some wish.Fold) = true
@@ -31,3 +36,22 @@ is_page_wished (Some wish.Page) = true
 is_page_wished (Some (wish.Rows asked)) = false
 is_page_wished (Some wish.Close) = true
 is_page_wished None = false
+
+abbrev pub is_move : Option Wish → Bool
+is_move (Some (wish.Move asked)) = true
+is_move (Some wish.Fold) = false
+is_move (Some wish.Page) = false
+is_move (Some (wish.Rows asked)) = false
+is_move (Some wish.Close) = false
+is_move None = false
+
+module _ {W : Type 0} where
+  -- rows move, or will move
+  abbrev pub moves : ServeDesk W → Bool
+  moves desk = is_some desk.moving || is_move desk.wish
+
+-- if all of the input was read, `told` says so
+abbrev pub KnowsWhole : InputEnd → Option InputOutcome → Type 0
+KnowsWhole end.Whole told = told ≡ Some outcome.Whole
+KnowsWhole (end.Broken fault place) told = Unit {0}
+KnowsWhole end.Memory told = Unit {0}

@@ -11,7 +11,7 @@ input_status Whole = 0
 input_status Broken = 2
 input_status Refused = 3
 
--- the exit status after this
+-- the exit status of an ending
 abbrev pub serve_status : ServeEnding → ℕ
 serve_status (Sound families committed input) = input_status input
 serve_status (Unsound defect) = 4
@@ -20,14 +20,14 @@ serve_status Memory = 2
 serve_status Threads = 2
 serve_status Unwritten = 2
 
--- how far a strict input was taken once a line of it was refused
+-- how far a strict input was taken after a line of it was refused
 abbrev pub outcome_refused : Option InputOutcome → InputOutcome
 outcome_refused (Some Broken) = Broken
 outcome_refused (Some Whole) = Refused
 outcome_refused (Some Refused) = Refused
 outcome_refused None = Refused
 
--- nothing more could be done: there was no memory, or nothing could be written
+-- nothing more could be done: memory ran out, or nothing could be written
 abbrev pub EndsStopped : ServeEnding → Type 0
 EndsStopped Memory = Unit {0}
 EndsStopped Threads = ⊥

@@ -1,3 +1,4 @@
+pub mod Receipts
 pub mod Sides
 pub mod Ending
 pub mod Saying

@@ -1,4 +1,4 @@
--- What is written, unless a write failed.
+-- What is written, unless a write fails.
 use Rattle.std.specs.Prelude.{◌≡◌, ◌==◌, ◌+◌, ◌<◌, ◌^◌, false, ℕ, List, ◌++◌, Option, count_by}
 use Rattle.std.specs.List.{flat_map}
 use Rattle.std.specs.Io.KnownBytes.{Appends}
@@ -10,7 +10,8 @@ use Rattle.sq_serve.specs.declared.serve_answer.ServeAnswer.TheVariants.{Rows}
 use Rattle.sq_serve.specs.ServeAnswers.{serve_answer_line, plan_line}
 use Rattle.sq_server.specs.declared.outlet.Outlet.{Outlet}
 
--- these bytes were written: nothing failed before, and what the writer holds grew by them; or else a write failed
+-- these bytes were written: no write failed before, and what the writer holds grew by them; or else
+-- a write failed
 pub record Says {W : Type 0} (contents : W → Option (List ℕ)) (old : Outlet W) (bytes : List ℕ) (new : Outlet W) : Type 0 where
   pub goes_on : new.has_failed ≡ false → old.has_failed ≡ false
   pub written : new.has_failed ≡ false → Appends (contents old.writer) (contents new.writer) bytes
@@ -19,15 +20,15 @@ pub record Says {W : Type 0} (contents : W → Option (List ℕ)) (old : Outlet 
 abbrev pub lines_in : List ℕ → ℕ
 lines_in text = count_by (λ byte. byte == 10) text
 
--- the lines of rows, and how many these are
+-- the lines of rows, and then their number
 abbrev pub rows_told : List ℕ → List ℕ
 rows_told lines = lines ++ serve_answer_line (Rows (lines_in lines))
 
--- one line more was refused, unless 64 bits can't count them
+-- one more line was refused, unless 64 bits can't count them
 abbrev pub CountsOneMore : ℕ → ℕ → Type 0
 CountsOneMore old new = old + 1 < 2 ^ 64 → new ≡ old + 1
 
--- what a line is that isn't what a job was answered, or what lines are that go together: those of the rows of families
+-- a line other than the reply to a job, or the lines of the rows of families, which belong together
 pub data OtherLine : Type 0 where
   Answered : (answer : ServeAnswer) → OtherLine
   Refused : (number : ℕ) → OtherLine

@@ -1,4 +1,5 @@
--- What a desk makes of each line that is handed on to it: a line that it writes, a job, or a wish that it keeps.
+-- How a desk settles each line that is handed on to it: by a line that it writes, a job, or a wish
+-- that it keeps.
 use Rattle.std.specs.Prelude.{◌≡◌, ◌⊎◌, ℕ, ◌-◌, ◌+◌, ◌<◌, ◌≤◌, ◌^◌, ◌==◌, if◌then◌else◌, List, [], ◌∷◌, ◌++◌, Option, Some, None, Ok, Err}
 use Rattle.sq_schema.specs.TxnValue.{TxnValue}
 use Rattle.sq_plan.specs.Fault.{plan_fault_number}
@@ -21,7 +22,7 @@ use Rattle.sq_server.specs.declared.feed.InputEnd.{InputEnd}
 use Rattle.sq_server.specs.declared.feed.InputEnd.TheVariants as end
 use Rattle.sq_server.specs.Saying.{OtherLine, Answered, Refused, PlanTold}
 
--- a wish, if a line asks for it
+-- a wish, if it comes from a line
 abbrev pub line_wish : Option Wish → List Wish
 line_wish (Some (wish.Move asked)) = wish.Move asked ∷ []
 line_wish (Some wish.Fold) = wish.Fold ∷ []
@@ -30,18 +31,18 @@ line_wish (Some wish.Page) = []
 line_wish (Some wish.Close) = []
 line_wish None = []
 
--- how many jobs have no answer: those that were posted, and those that wait
+-- how many jobs have no answer: those that are posted and not answered, and those that wait
 abbrev pub unanswered_jobs : JobCounts → ℕ → ℕ
 unanswered_jobs counts waiting = (counts.posted - counts.answered) + waiting
 
--- what `status` is answered: how far the stage of a move is, if segments move in it
+-- the answer to `status`: the progress of the stage of a move, if it has segments
 abbrev pub told_status : Option MoveProgress → ℕ → ServeAnswer
 told_status None unanswered = AtRest unanswered
 told_status (Some moving) unanswered =
     if moving.stage.segments == 0 then AtRest unanswered
     else Progress moving.stage.complete moving.stage.segments unanswered
 
--- an answer is the status, with so many jobs without an answer, unless 64 bits can't count them
+-- the answer is the status; its number of jobs is `unanswered`, unless 64 bits can't count them
 abbrev pub IsStatus : Option MoveProgress → ℕ → ServeAnswer → Type 0
 IsStatus moving unanswered answer =
     (told : ℕ) × (unanswered < 2 ^ 64 → told ≡ unanswered) × (answer ≡ told_status moving told)
@@ -50,12 +51,12 @@ IsStatus moving unanswered answer =
 abbrev pub refusal_of : ℕ → LinePlace → TxnValue → ServeAnswer
 refusal_of number place txn = Fault number place.line (Some txn.id)
 
--- a wish is kept, or refused since rows move
+-- a wish is kept, or refused because rows move
 abbrev pub IsKeptOrRefused : Wish → List OtherLine → List Wish → Type 0
 IsKeptOrRefused wish lines kept =
     ((lines ≡ []) × (kept ≡ wish ∷ [])) ⊎ ((lines ≡ Refused 217 ∷ []) × (kept ≡ []))
 
--- the line that is written of a fault. Without memory for a line nothing more can be done
+-- the line that answers a fault; without memory for a line nothing more can be done
 abbrev pub AnswersFault : LinePlace → Option ℕ → ServeFault → List OtherLine → Type 0
 AnswersFault place id NotAServeLine lines = lines ≡ Answered (Fault 126 place.line id) ∷ []
 AnswersFault place id TooLong lines = lines ≡ Answered (Fault 231 place.line id) ∷ []
@@ -63,8 +64,8 @@ AnswersFault place id (Txn fault) lines = lines ≡ Answered (Fault (serve_fault
 AnswersFault place id (Plan fault) lines = (lines ≡ Refused 217 ∷ []) ⊎ (lines ≡ Refused (plan_fault_number fault) ∷ [])
 AnswersFault place id Memory lines = ⊥
 
--- the line that is written of what a line asks, or the wish that is kept, where a move is so far; none for a job of one of so many
--- partitions
+-- the line that answers what a line asks, or the wish that is kept, with a move's progress as it
+-- is; a job of an existing partition gets no line
 abbrev pub SettlesAsked : ℕ → Option MoveProgress → LinePlace → ServeLine → List OtherLine → List Wish → Type 0
 SettlesAsked parts moving place (asks.Job part txn) lines kept =
     (part < parts → lines ≡ []) × (parts ≤ part → lines ≡ Answered (refusal_of 219 place txn) ∷ []) × (kept ≡ [])
@@ -84,7 +85,7 @@ SettlesFed parts moving (fed.End end.Whole) lines kept = (lines ≡ []) × (kept
 SettlesFed parts moving (fed.End (end.Broken fault place)) lines kept = (lines ≡ Answered (Fault fault place.line None) ∷ []) × (kept ≡ [])
 SettlesFed parts moving (fed.End end.Memory) lines kept = ⊥
 
--- and of all that was, in its order
+-- the same of all that was handed on, in its order
 abbrev pub SettlesEach : ℕ → Option MoveProgress → List Fed → List OtherLine → List Wish → Type 0
 SettlesEach parts moving [] lines kept = (lines ≡ []) × (kept ≡ [])
 SettlesEach parts moving (fed ∷ more) lines kept =

@@ -6,7 +6,7 @@ module _ {J : Type 0} where
   abbrev pub waiting_at : List (List J) → ℕ → List J
   waiting_at sides part = slice_index_or sides part []
 
-  -- these jobs of a partition wait now, and of each other one those that did
+  -- the jobs of one partition that wait are now these, and those of the others are as before
   pub record ChangesAt (part : ℕ) (now : List J) (old new : List (List J)) : Type 0 where
     pub count : length new ≡ length old
     pub here : waiting_at new part ≡ now

@@ -15,8 +15,7 @@ use Rattle.sq_engine.specs.History.{OnlyDriven}
 use Rattle.sq_engine.specs.Engine.{KeepsHistory, KeepsHistoryAndJobs}
 use Rattle.sq_epoch.specs.Serving.{AllAreGiven}
 use Rattle.sq_epoch.specs.Exchanges.{Exchange, Answers, Posts, Refuses, Rests, Ends, given_from, posted_in}
-use Rattle.sq_told.specs.Lines.{receipt_line}
-use Rattle.sq_told.specs.Interleaving.{Interleaves}
+use Rattle.sq_server.specs.Receipts.{receipt_line, Interleaves}
 use Rattle.sq_server.specs.declared.feed.Fed.{Fed}
 use Rattle.sq_server.specs.declared.desk.AskedTxn.{AskedTxn}
 use Rattle.sq_server.specs.declared.desk.MoveProgress.{MoveProgress}
@@ -26,7 +25,7 @@ use Rattle.sq_server.specs.Sides.{waiting_at}
 use Rattle.sq_server.specs.Settling.{refusal_of, SettlesEach}
 use Rattle.sq_server.specs.Becoming.{ServeDeskValue, asked_by, jobs_for}
 
--- a line that was written: of a receipt of a partition, or another one
+-- a line that was written: of a receipt of a partition, or another line
 pub data SaidLine : Type 0 where
   OfReceipt : (part : ℕ) → (receipt : ReceiptValue) → SaidLine
   Other : (line : OtherLine) → SaidLine
@@ -51,7 +50,7 @@ receipt_said (Other line) = []
 abbrev pub receipts_said : List SaidLine → List ReceiptValue
 receipts_said said = flat_map receipt_said said
 
--- the answers that were given of each of so many partitions
+-- for each of the partitions, the answers that were given of it
 abbrev pub given_by_parts : ℕ → List Exchange → List (List ReceiptValue)
 given_by_parts parts exchanges = map (λ part. given_from part exchanges) (range_with_len 0 parts)
 
@@ -65,11 +64,11 @@ settled_job (Refuses job fault.Memory) = job ∷ []
 settled_job Rests = []
 settled_job Ends = []
 
--- the jobs that were posted, or refused otherwise than for a full queue, in their order
+-- the jobs that were posted, or refused for a reason other than a full queue, in their order
 abbrev pub settled_in : List Exchange → List Job
 settled_in exchanges = flat_map settled_job exchanges
 
--- jobs of a partition, by what asks for them
+-- the jobs of a partition that were asked for, without the places of their lines
 abbrev pub as_jobs : ℕ → List AskedTxn → List Job
 as_jobs part asked = map (λ (a : AskedTxn). record { part = part; txn = a.txn }) asked
 
@@ -77,13 +76,14 @@ as_jobs part asked = map (λ (a : AskedTxn). record { part = part; txn = a.txn }
 abbrev pub jobs_waiting : List (List AskedTxn) → ℕ → List Job
 jobs_waiting waiting part = as_jobs part (waiting_at waiting part)
 
--- those that were asked for by what was handed on
+-- the jobs of a partition that were asked for by what was handed on
 abbrev pub jobs_asked : ℕ → List Fed → List Job
 jobs_asked part more = as_jobs part (flat_map (asked_by part) more)
 
--- by these exchanges a desk wrote the line of each answer that it was given, once, those of each partition in their order, and
--- other lines; and for each partition the jobs that waited, and those that were asked for, are in this order those that were
--- posted or refused, and those that wait. Or else nothing more can be done
+-- over these exchanges a desk wrote the line of each answer that it was given, once, those of each
+-- partition in their order, and other lines; and for each partition the jobs that waited, and those
+-- that were asked for, are in this order those that were posted or refused, and those that wait; or
+-- else nothing more can be done
 pub record WritesEach (exchanges : List Exchange) (old new : ServeDeskValue) : Type 0 where
   pub goes_on : new.has_stopped ≡ false → old.has_stopped ≡ false
   pub said : List SaidLine
@@ -113,12 +113,12 @@ pub record Settlement : Type 0 where
 abbrev pub settles_nothing : Settlement
 settles_nothing = record { heard = []; lines = []; kept = [] }
 
--- one after another
+-- two settlements, one after the other
 abbrev pub settled_both : Settlement → Settlement → Settlement
 settled_both first more =
     record { heard = first.heard ++ more.heard; lines = first.lines ++ more.lines; kept = first.kept ++ more.kept }
 
--- the line that is written of a job that isn't posted: its refusal, if its queue isn't full
+-- the line that is written of a job that isn't posted: its refusal, unless its queue is full
 abbrev pub AnswersReturned : ℕ → Job → PostFault → List OtherLine → Type 0
 AnswersReturned parts job fault.QueueFull lines =
     (job.part < parts → lines ≡ []) × (parts ≤ job.part → (place : LinePlace) × (lines ≡ Answered (refusal_of 219 place job.txn) ∷ []))
@@ -126,7 +126,7 @@ AnswersReturned parts job fault.NoSuchPartition lines = (place : LinePlace) × (
 AnswersReturned parts job fault.RepeatedId lines = (place : LinePlace) × (lines ≡ Answered (refusal_of 127 place job.txn) ∷ [])
 AnswersReturned parts job fault.Memory lines = ⊥
 
--- what was heard is settled, with some move that is so far
+-- what was heard is settled, for some progress of a move
 abbrev pub SettlesHeard : ℕ → Settlement → Type 0
 SettlesHeard parts all = (moving : Option MoveProgress) × SettlesEach parts moving all.heard all.lines all.kept
 
@@ -153,8 +153,9 @@ SettlesAll parts (exchange ∷ exchanges) all =
     (now : Settlement) × (later : Settlement)
     × SettlesExchange parts exchange now × SettlesAll parts exchanges later × (all ≡ settled_both now later)
 
--- by these exchanges a desk wrote what it was given, and each line that it heard is settled: by just one line that was written of it, by
--- a job, or by a wish that is kept; each job that was refused is settled by just one line; and no other line was written
+-- over these exchanges a desk wrote what it was given, and each line that it heard is settled: by
+-- exactly one line that was written, by a job, or by a wish that is kept; each job that was refused
+-- is settled by exactly one line; and no other line was written
 pub record AnswersEach (exchanges : List Exchange) (old new : ServeDeskValue) : Type 0 where
   pub writes : WritesEach exchanges old new
   pub kept : List Wish
@@ -162,19 +163,20 @@ pub record AnswersEach (exchanges : List Exchange) (old new : ServeDeskValue) : 
   pub settled : new.has_stopped ≡ false
       → SettlesAll (length old.waiting) exchanges (record { heard = writes.more; lines = others_in writes.said; kept = kept })
 
--- over an epoch that began with these nodes a desk wrote what it was given of them
+-- over an epoch that began with these nodes a desk wrote the answers that it was given of them
 pub record ServesEpoch (exchanges : List Exchange) (nodes : List NodeState) (before after : ServeDeskValue) : Type 0 where
   pub writes : WritesEach exchanges before after
   pub is_whole : Bool
   pub driven : List NodeState
   pub given : AllAreGiven is_whole exchanges nodes driven
 
--- the receipts whose lines were written are an interleaving of those that were given of each of so many partitions
+-- the receipts whose lines were written are an interleaving of those that were given of each of the
+-- partitions
 abbrev pub WritesInterleaved : ℕ → List Exchange → List SaidLine → Type 0
 WritesInterleaved parts exchanges said = Interleaves (given_by_parts parts exchanges) (receipts_said said)
 
--- an engine reached an epoch, and continued from it: in the epoch a desk was given the answers that the nodes wrote,
--- wrote each of them, and settled each line
+-- an engine reached an epoch, and continued after it: in the epoch a desk was given the answers
+-- that the nodes wrote, wrote each of them, and settled each line
 pub record EpochIsWritten (old : Standing) (before : ServeDeskValue) (new : Standing) (after : ServeDeskValue) (is_whole : Bool) : Type 0 where
   pub epoch : EpochValue
   pub comes : KeepsHistoryAndJobs old (Running epoch)

@@ -1,7 +1,7 @@
-// How far the audit of a page is.
+// The progress of the audit of a page.
 use std::sync::atomic::{AtomicBool, Ordering};
 
-/// How far the audit of a page is that runs beside an epoch.
+/// The progress of the audit of a page that runs beside an epoch.
 #[derive(Drop)]
 pub struct AuditProgress {
     has_begun: AtomicBool,
@@ -9,7 +9,7 @@ pub struct AuditProgress {
 }
 
 impl AuditProgress {
-    /// No audit.
+    /// The progress before an audit begins.
     pub fn none() -> AuditProgress {
         AuditProgress {
             has_begun: AtomicBool::new(false),
@@ -31,12 +31,12 @@ impl AuditProgress {
         self.has_ended.store(false, Ordering::SeqCst);
     }
 
-    /// Whether an audit runs.
+    /// Returns whether an audit runs.
     pub fn goes_on(&self) -> bool {
         self.has_begun.load(Ordering::SeqCst) && !self.has_ended()
     }
 
-    /// Whether an audit has ended.
+    /// Returns whether an audit has ended.
     pub fn has_ended(&self) -> bool {
         self.has_ended.load(Ordering::SeqCst)
     }

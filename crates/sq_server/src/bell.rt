@@ -10,7 +10,7 @@ pub struct Bell {
 }
 
 impl Bell {
-    /// A bell that was not rung.
+    /// A bell that hasn't been rung.
     pub fn new() -> Bell {
         Bell {
             parker: Parker::new(),
@@ -22,7 +22,8 @@ impl Bell {
         self.parker.unpark();
     }
 
-    /// Sleeps until the bell rings, at most `longest` microseconds; not at all if it rang since the last wait.
+    /// Sleeps until the bell rings, at most `longest` microseconds; not at all if it rang since the
+    /// last wait.
     pub fn wait<R: Wait>(&self, rt: &R, longest: u64) {
         self.parker.park_timeout(rt, Duration::from_micros(longest));
     }

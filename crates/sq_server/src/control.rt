@@ -11,16 +11,17 @@ use sq_serve::ServeWatch;
 use std::io::Write;
 use std::sync::Wait;
 
-// How often others go first before it waits for the bell.
+// How many tries in a row yield to other threads before the client waits for the bell.
 const TRIES_AWAKE: u64 = 256;
 
 // The longest wait for the bell, in microseconds.
 const LONGEST_WAIT: u64 = 20_000;
 
-// The longest sleep beside an audit, in microseconds.
+// The longest sleep while an audit runs, in microseconds.
 const LONGEST_SLEEP: u64 = 2_000;
 
-/// The client of an engine's epoch: a desk, how far the audit beside the epoch is, and who marks what is done in it.
+/// The client of an engine's epoch: its desk, the progress of the audit that runs beside the epoch,
+/// and the marks for the watch.
 #[derive(Drop)]
 pub struct Control<'a, W: Write + Drop, V: ServeWatch> {
     pub desk: ServeDesk<W>,
@@ -29,9 +30,10 @@ pub struct Control<'a, W: Write + Drop, V: ServeWatch> {
 }
 
 impl<W: Write + Drop, V: ServeWatch> Control<'_, W, V> {
-    // Whether the epoch is to end: at once if the desk has stopped, if an audit has ended, and if nothing moves in it while the desk
-    // isn't told that its move is done, since an engine that had no memory to come to rest after the last stage does so as its next
-    // epoch begins; for a wish unless an audit runs.
+    // Returns whether the epoch should end. It ends at once if the desk has stopped, if an audit
+    // has ended, or if nothing moves although the desk has a move recorded: an engine that had no
+    // memory to come to rest after the last stage does so as its next epoch begins. It ends for a
+    // wish unless an audit runs.
     fn ends(&self, progress: StageProgress) -> bool {
         self.desk.has_stopped()
             || self.audit.has_ended()
@@ -61,7 +63,8 @@ impl<W: Write + Drop, V: ServeWatch> Client for Control<'_, W, V> {
         command
     }
 
-    // Waits for a line, at rest with no open job. While an audit runs its end is looked for meanwhile.
+    // Waits for a line, at rest with no open job. While an audit runs, it sleeps only briefly, to
+    // see when that ends.
     fn wait<R: Wait>(&self, rt: &R, tries: u64) {
         if tries <= TRIES_AWAKE || self.audit.goes_on() {
             rest(rt, tries, LONGEST_SLEEP);

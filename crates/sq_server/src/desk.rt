@@ -1,4 +1,4 @@
-// Between the lines that come and the epochs of an engine.
+// The desk of an engine: it connects input lines with epochs.
 ghost use Rattle.std.specs.Prelude.{◌≡◌, ◌⊎◌, ◌||◌, ℕ, true, false, [], ◌∷◌, ◌++◌, ◌<◌, ◌≤◌, ◌^◌};
 ghost use Rattle.std.specs.Prelude.{length, IsTrue, Ok, Err, Some, None, IfSome, IfNone, MatchOption};
 ghost use Rattle.std.specs.Prelude.{string_bytes, sum_by, is_some, if◌then◌else◌, ◌==◌};
@@ -15,7 +15,7 @@ ghost use Rattle.sq_server.specs.Becoming.{AnswersRefusal, WaitsOrHasNoPartition
 ghost use Rattle.sq_server.specs.Becoming.{Stops, with_stage, job_list, offered_by};
 ghost use Rattle.sq_server.specs.Settling.{line_wish, refusal_of, IsStatus, unanswered_jobs};
 ghost use Rattle.sq_server.specs.Saying.{rows_told, CountsOneMore};
-ghost use Rattle.sq_server.specs.Closing.{expects_nothing, is_done, wish_of, is_page_wished};
+ghost use Rattle.sq_server.specs.Closing.{expects_nothing, is_done, wish_of, is_page_wished, moves, KnowsWhole};
 
 use crate::bell::Bell;
 use crate::ending::{InputOutcome, ServeEnding};
@@ -37,68 +37,69 @@ use std::alloc::Global;
 use std::io::Write;
 use std::sync::Arc;
 
-// How many lines are taken in a call at most, so that answers keep coming.
+// The most lines that one call takes, so that answers are written in between.
 const LINES_A_CALL: usize = 256;
 
-// After how many calls a full queue is tried again, while lines come.
+// While lines come, full queues are tried again once in this many calls.
 const CALLS_A_TRY: u64 = 64;
 
 // The number of the refusal while rows move.
 const MOVING: u16 = 217;
 
-// The number of the fault that there is no such partition.
+// The number of the fault that no such partition exists.
 const NO_PARTITION: u16 = 219;
 
-// The number of the fault that a job has the id of another one.
+// The number of the fault that a job has the id of another job.
 const REPEATED_ID: u16 = 127;
 
-// After how many calls in a row without work, once the input has ended, an open job is taken for lost: some eight seconds, since
-// an engine with open jobs sleeps 50 microseconds and more between two calls.
+// After this many calls in a row without work, once the input has ended, an open job counts as
+// lost. This takes some eight seconds, since an engine with open jobs sleeps at least 50
+// microseconds between two calls.
 const LOST_CALLS: u64 = 80_000;
 
-/// Why an epoch is to end.
+/// Why an epoch ends.
 #[derive(Debug, Drop)]
 pub enum Wish {
-    /// Rows are to move to the places of a plan.
+    /// To move rows to the places of a plan.
     Move(AskedMove),
-    /// A page is to be taken, and its audit is to be answered.
+    /// To take a page, and to answer with the outcome of its audit.
     Fold,
-    /// A page is to be taken.
+    /// To take a page.
     Page,
-    /// The rows are to be written as lines.
+    /// To write the rows as lines.
     Rows(AskedRows),
-    /// All is done.
+    /// To close the engine, since all is done.
     Close,
 }
 
-/// A move, and where the line stands that asks for it.
+/// A move, and the place of the line that asks for it.
 #[derive(Debug, Drop)]
 pub struct AskedMove {
     pub place: LinePlace,
     pub plan: Plan,
 }
 
-/// Where the rows go that a line asks for.
+/// Where the rows go that a line asks for, and the place of that line.
 #[derive(Debug, Drop)]
 pub struct AskedRows {
     pub place: LinePlace,
-    /// The file that they go into; `None` where they go to the output, behind what was written before.
+    /// The file that gets the rows; `None` for the output, after all that was written before.
     pub file: Option<RowsFile>,
 }
 
-/// A transaction, and where the line stands that asks for it.
+/// A transaction, and the place of the line that asks for it.
 #[derive(Debug, Drop)]
 pub struct AskedTxn {
     pub place: LinePlace,
     pub txn: Txn,
 }
 
-/// How many jobs there were.
+/// How many jobs were posted and answered.
 #[derive(Clone, Copy, Debug)]
 pub struct JobCounts {
     pub posted: u64,
     pub answered: u64,
-    /// How many of them since the last page.
+    /// How many were answered since the last page.
     pub since_page: u64,
 }
 
@@ -110,63 +111,65 @@ impl JobCounts {
     };
 }
 
-/// How a desk takes lines.
+/// The options of a desk.
 #[derive(Clone, Copy, Debug)]
 pub struct DeskConfig {
     /// After how many answers a page is taken.
     pub fold_after: u64,
-    /// Whether the first line that is refused or has a fault ends the input.
+    /// Whether the input ends after its first line that is refused or has a fault.
     pub is_strict: bool,
 }
 
-/// How far a move is.
+/// The progress of a move.
 #[derive(Clone, Copy, Debug)]
 pub struct MoveProgress {
-    /// How many segments move.
+    /// How many segments the move has, over all its stages.
     pub segments: u64,
-    /// How far the running stage is, by the last report.
+    /// The progress of the running stage, by the last report.
     pub stage: StageProgress,
 }
 
-/// Between the lines that come and the epochs of an engine: jobs go to the engine, or wait beside the queue of their partition,
-/// and each answer is written.
+/// Connects input lines with the epochs of an engine: jobs go to the engine, or wait beside the
+/// queue of their partition, and each answer is written.
 #[derive(Drop)]
 pub struct ServeDesk<W: Write + Drop> {
     pub feed: Consumer<Fed>,
-    /// It rings when something is handed on.
+    /// The reader rings it when it hands something on.
     pub bell: Arc<Bell, Global>,
     pub outlet: Outlet<W>,
     pub sides: SideQueues<AskedTxn>,
-    /// Whether there was no memory for a job that waits, or for a line.
+    /// Whether memory ran out for a job that waits, or for a line.
     pub lacks_memory: bool,
     pub counts: JobCounts,
     /// How many lines were answered with a fault or a refusal.
     pub refused_lines: u64,
     pub config: DeskConfig,
-    /// How far the move is; `None` at rest.
+    /// The progress of the move; `None` at rest.
     pub moving: Option<MoveProgress>,
     /// The text of the plan in force.
     pub plan: String,
-    /// Why the epoch is to end, if it was asked for, and the next one. Nobody asks for the end once all is done.
+    /// Why the running epoch should end, if a line or the desk asked for that, and why the next one
+    /// should. Closing isn't stored here: [`ServeDesk::take_wish`] returns it once all is done.
     pub wish: Option<Wish>,
     pub next_wish: Option<Wish>,
-    /// How far the input was taken, once no more lines are.
+    /// How the input ended, once no more lines are taken.
     pub end: Option<InputOutcome>,
-    /// How often it was called, and how often of late without work.
+    /// How many calls there were, and how many of the last ones in a row had no work.
     pub calls: u64,
     pub idle_calls: u64,
-    /// Where the line of the job stands that was offered last.
+    /// The place of the line of the job that was offered last.
     pub offered_at: LinePlace,
 }
 
-// Where the line of the last offered job stands, before one is offered.
+// Stands for the place of the last offered job's line before a job is offered.
 const NOWHERE: LinePlace = LinePlace {
     source: LineSource::Input,
     line: 0,
 };
 
 impl<W: Write + Drop> ServeDesk<W> {
-    /// A desk that takes what comes there, with these queues.
+    /// A desk that takes its lines from `feed`, writes to `outlet`, and keeps waiting jobs in
+    /// `sides`; `plan` is the text of the plan in force.
     pub fn new(
         feed: Consumer<Fed>,
         bell: Arc<Bell, Global>,
@@ -199,21 +202,21 @@ impl<W: Write + Drop> ServeDesk<W> {
         }
     }
 
-    /// The outlet; all else is dropped.
+    /// Returns the outlet, and drops the rest.
     pub fn into_outlet(self) -> Outlet<W>
         ensures { result ≡ self.outlet }
     {
         self.outlet
     }
 
-    /// Whether nothing more can be done: there is no memory, or nothing can be written.
+    /// Returns whether nothing more can be done: memory ran out, or a write failed.
     pub fn has_stopped(&self) -> bool
         ensures { result ≡ (self.now.lacks_memory || self.now.outlet.has_failed) }
     {
         self.lacks_memory || self.outlet.has_failed
     }
 
-    /// How it ends where nothing more can be done.
+    /// How the engine ends if nothing more can be done; else `None`.
     pub fn stop_ending(&self) -> Option<ServeEnding>
         ensures stopped { IfSome result EndsStopped }
         ensures stops { IfSome result (λ ending.
@@ -229,14 +232,14 @@ impl<W: Write + Drop> ServeDesk<W> {
         }
     }
 
-    /// Whether the epoch is to end.
+    /// Returns whether the epoch should end.
     pub fn has_wish(&self) -> bool
         ensures { result ≡ is_some (wish_of self.now) }
     {
         self.wish.is_some() || self.is_done()
     }
 
-    /// Whether a page is to be taken, or the last one.
+    /// Returns whether the epoch should end for a page, or to close, which takes the last page.
     pub fn wants_page(&self) -> bool
         ensures { result ≡ is_page_wished (wish_of self.now) }
     {
@@ -247,7 +250,8 @@ impl<W: Write + Drop> ServeDesk<W> {
         }
     }
 
-    /// Takes why the epoch is to end: to close, once all is done.
+    /// Takes the reason for the epoch's end; it is [`Wish::Close`] if there is no other and all is
+    /// done.
     pub fn take_wish(&mut self) -> Option<Wish>
         ensures takes { TakesWish result (desk_value W.contents self.old)
             (desk_value W.contents self.new) }
@@ -259,14 +263,14 @@ impl<W: Write + Drop> ServeDesk<W> {
         wish
     }
 
-    /// Sees that what was written goes out.
+    /// Flushes what was written.
     pub fn flush(&mut self)
         ensures { WritesBytes [] (desk_value W.contents self.old) (desk_value W.contents self.new) }
     {
         self.outlet.flush();
     }
 
-    /// Begins a call. If no audit runs, a page may be due.
+    /// Begins a call. Asks for a page if one is due, no audit runs and no rows move.
     pub fn begin_call(&mut self, audit_goes_on: bool)
         ensures { desk_value W.contents self.new ≡ desk_value W.contents self.old }
     {
@@ -277,7 +281,7 @@ impl<W: Write + Drop> ServeDesk<W> {
         }
     }
 
-    // Lets the epoch end for a page, unless it ends for something else.
+    // Asks that the epoch ends for a page, unless another reason is set.
     fn want_page(&mut self)
         ensures { desk_value W.contents self.new ≡ desk_value W.contents self.old }
     {
@@ -286,7 +290,7 @@ impl<W: Write + Drop> ServeDesk<W> {
         }
     }
 
-    /// Takes note of how far the running stage is, if rows move.
+    /// Records the progress of the running stage, if rows move.
     pub fn note_stage(&mut self, stage: StageProgress)
         ensures { desk_value W.contents self.new
             ≡ with_stage stage (desk_value W.contents self.old) }
@@ -296,12 +300,13 @@ impl<W: Write + Drop> ServeDesk<W> {
         }
     }
 
-    /// Whether rows move by what was told, although none do in the stage that runs.
+    /// Returns whether a move is recorded although nothing moves in the stage that runs.
     pub(crate) fn has_moved(&self, stage: StageProgress) -> bool {
         self.moving.is_some() && stage.is_rest()
     }
 
-    /// What is wanted of the engine next: that a job is posted, if there is one.
+    /// The next command to the engine: to post a job if there is one, else to rest. Without a job
+    /// it flushes the output.
     pub fn next_command<V: ServeWatch>(&mut self, watch: &V) -> Command
         ensures { Hears [] (desk_value W.contents self.old) (offered_by result)
             (desk_value W.contents self.new) }
@@ -318,8 +323,8 @@ impl<W: Write + Drop> ServeDesk<W> {
         }
     }
 
-    // The next job to be posted: one that waits, where it is the turn of these; else one that a line asks for; else
-    // again one that waits.
+    // The next job to post. Waiting jobs go first in each call whose number is a multiple of
+    // `CALLS_A_TRY`; else a job from a line goes before them.
     fn next_job<V: ServeWatch>(&mut self, watch: &V) -> Option<Job>
         ensures { Hears [] (desk_value W.contents self.old) (job_list result)
             (desk_value W.contents self.new) }
@@ -330,7 +335,7 @@ impl<W: Write + Drop> ServeDesk<W> {
         }
     }
 
-    // The first job that waits, where it is the turn of these; their queues are tried again.
+    // The first waiting job, in a call in which full queues are tried again.
     fn job_tried_again(&mut self) -> Option<Job>
         ensures { Hears [] (desk_value W.contents self.old) (job_list result)
             (desk_value W.contents self.new) }
@@ -342,7 +347,7 @@ impl<W: Write + Drop> ServeDesk<W> {
         self.waiting_job()
     }
 
-    // A job that a line asks for, or else one of those that wait.
+    // A job from a line, or else a waiting one.
     fn asked_or_waiting_job<V: ServeWatch>(&mut self, watch: &V) -> Option<Job>
         ensures { Hears [] (desk_value W.contents self.old) (job_list result)
             (desk_value W.contents self.new) }
@@ -353,7 +358,7 @@ impl<W: Write + Drop> ServeDesk<W> {
         }
     }
 
-    // The first job of those that wait whose queue wasn't full.
+    // The first waiting job of a queue that wasn't full when last tried.
     fn waiting_job(&mut self) -> Option<Job>
         ensures { Hears [] (desk_value W.contents self.old) (job_list result)
             (desk_value W.contents self.new) }
@@ -370,7 +375,7 @@ impl<W: Write + Drop> ServeDesk<W> {
         }
     }
 
-    // Takes lines up to one that asks for a job that can be posted now.
+    // Takes lines, up to one whose job can be posted now.
     fn asked_job<V: ServeWatch>(&mut self, watch: &V) -> Option<Job>
         ensures { Hears [] (desk_value W.contents self.old) (job_list result)
             (desk_value W.contents self.new) }
@@ -385,7 +390,8 @@ impl<W: Write + Drop> ServeDesk<W> {
         None
     }
 
-    // Takes the next line, if one is there and lines are taken. Gives the job, if it asks for one that can be posted now.
+    // Takes the next line, if there is one and lines are taken; else returns `None`. The inner
+    // result is the job that the line asks for, if it can be posted now.
     fn job_of_next_line<V: ServeWatch>(&mut self, watch: &V) -> Option<Option<Job>>
         ensures { MatchOption result
             (Hears [] (desk_value W.contents self.old) [] (desk_value W.contents self.new))
@@ -401,7 +407,8 @@ impl<W: Write + Drop> ServeDesk<W> {
         }
     }
 
-    // Whether the next line is read: the input has not ended, queues have room, the desk has not stopped, and no wish waits.
+    // Returns whether the next line is taken: the input hasn't ended, the queues have room, the
+    // desk hasn't stopped, and no next wish is set.
     fn takes_lines(&self) -> bool
         ensures { IsTrue result → self.now.next_wish ≡ None }
     {
@@ -411,7 +418,7 @@ impl<W: Write + Drop> ServeDesk<W> {
         }
     }
 
-    // Takes what was handed on. Gives the job, if it asks for one that can be posted now.
+    // Handles what the reader handed on. Returns the job that it asks for, if it can be posted now.
     fn take_fed<V: ServeWatch>(&mut self, fed: Fed, watch: &V) -> Option<Job>
         requires { self.old.next_wish ≡ None }
         ensures heard { received self.new.feed ≡ received self.old.feed }
@@ -427,7 +434,8 @@ impl<W: Write + Drop> ServeDesk<W> {
         }
     }
 
-    // Takes what a line asks, or its fault. Gives the job, if it asks for one that can be posted now.
+    // Handles what a line asks, or its fault. Returns the job that it asks for, if it can be posted
+    // now.
     fn take_line<V: ServeWatch>(
         &mut self,
         place: LinePlace,
@@ -448,7 +456,7 @@ impl<W: Write + Drop> ServeDesk<W> {
         }
     }
 
-    // Takes what a line asks. Gives the job, if it asks for one that can be posted now.
+    // Handles what a line asks. Returns the job that it asks for, if it can be posted now.
     fn take_asked<V: ServeWatch>(
         &mut self,
         place: LinePlace,
@@ -490,8 +498,8 @@ impl<W: Write + Drop> ServeDesk<W> {
         }
     }
 
-    // Puts a job behind those of its partition that wait. Gives it back if none waits, or writes that there is no such
-    // partition.
+    // Returns the job if no other job of its partition waits; else it waits after those. If the
+    // partition doesn't exist, its line is answered with fault 219.
     fn take_job<V: ServeWatch>(
         &mut self,
         place: LinePlace,
@@ -511,7 +519,7 @@ impl<W: Write + Drop> ServeDesk<W> {
         }
     }
 
-    // Puts a job of an existing partition behind those that wait for it. Gives it back if none waits.
+    // Returns the job if no other job of its partition waits; else it waits after those.
     fn take_job_at(&mut self, place: LinePlace, at: u8, txn: Txn) -> Option<Job>
         requires { at < length self.old.sides }
         ensures heard { received self.new.feed ≡ received self.old.feed }
@@ -529,7 +537,7 @@ impl<W: Write + Drop> ServeDesk<W> {
         })
     }
 
-    // Puts a job behind those of its partition that wait.
+    // Lets a job wait after the others of its partition.
     fn put_behind(&mut self, at: u8, asked: AskedTxn)
         requires { at < length self.old.sides }
         ensures heard { received self.new.feed ≡ received self.old.feed }
@@ -542,7 +550,7 @@ impl<W: Write + Drop> ServeDesk<W> {
         }
     }
 
-    // Answers a line that has a fault.
+    // Answers a line that has a fault, or stops for lack of memory.
     fn take_fault<V: ServeWatch>(&mut self, place: LinePlace, faulty: &FaultyLine, watch: &V)
         ensures heard { received self.new.feed ≡ received self.old.feed }
         ensures handles { Handles (fed.Line place (Err faulty.now) ∷ []) []
@@ -562,11 +570,12 @@ impl<W: Write + Drop> ServeDesk<W> {
         }
     }
 
-    // Takes note of how the input ended.
+    // Records how the input ended, and answers a line that broke it.
     fn take_end<V: ServeWatch>(&mut self, end: InputEnd, watch: &V)
         ensures heard { received self.new.feed ≡ received self.old.feed }
         ensures handles { Handles (fed.End end ∷ []) []
             (desk_value W.contents self.old) [] (desk_value W.contents self.new) }
+        ensures whole { KnowsWhole end self.new.end }
     {
         match end {
             InputEnd::Whole => self.end = Some(InputOutcome::Whole),
@@ -578,20 +587,25 @@ impl<W: Write + Drop> ServeDesk<W> {
         }
     }
 
-    // There is no memory to continue.
+    // Records that memory ran out.
     fn stop_for_memory(&mut self)
         ensures { Stops (desk_value W.contents self.old) (desk_value W.contents self.new) }
     {
         self.lacks_memory = true;
     }
 
-    // Asks that the epoch ends for what a line wishes; it is refused if rows move or are to move.
+    // Asks that the epoch ends for `wish`. The line is refused with 217 if rows move or will move.
     fn want_at_rest<V: ServeWatch>(&mut self, wish: Wish, place: LinePlace, watch: &V)
         requires next { self.old.next_wish ≡ None }
         requires of_line { line_wish (Some wish) ≡ wish ∷ [] }
-        ensures { KeepsWish wish (desk_value W.contents self.old)
+        ensures either { KeepsWish wish (desk_value W.contents self.old)
             (desk_value W.contents self.new)
             ⊎ WritesBytes (refused_line 217) (desk_value W.contents self.old)
+            (desk_value W.contents self.new) }
+        ensures kept { moves self.old ≡ false → KeepsWish wish (desk_value W.contents self.old)
+            (desk_value W.contents self.new) }
+        ensures refused { moves self.old ≡ true
+            → WritesBytes (refused_line 217) (desk_value W.contents self.old)
             (desk_value W.contents self.new) }
     {
         if self.moves() {
@@ -602,7 +616,8 @@ impl<W: Write + Drop> ServeDesk<W> {
         }
     }
 
-    // Lets the epoch end for what a line wishes, or the next one if it ends for something else.
+    // Sets `wish` as the reason for the epoch's end, or for the next one's if there is a reason
+    // already.
     fn put_wish(&mut self, wish: Wish)
         requires next { self.old.next_wish ≡ None }
         requires of_line { line_wish (Some wish) ≡ wish ∷ [] }
@@ -615,11 +630,18 @@ impl<W: Write + Drop> ServeDesk<W> {
         }
     }
 
-    // Refuses a plan with its fault; if rows move it isn't looked at.
+    // Refuses the line of a faulty plan with the number of its fault, or with 217 if rows move or
+    // will move.
     fn refuse_plan<V: ServeWatch>(&mut self, watch: &V, refusal: LineRefusal<'_>)
-        ensures { WritesBytes (refused_line 217) (desk_value W.contents self.old)
+        ensures either { WritesBytes (refused_line 217) (desk_value W.contents self.old)
             (desk_value W.contents self.new)
             ⊎ WritesBytes (refused_line refusal.entry.number) (desk_value W.contents self.old)
+            (desk_value W.contents self.new) }
+        ensures moving { moves self.old ≡ true
+            → WritesBytes (refused_line 217) (desk_value W.contents self.old)
+            (desk_value W.contents self.new) }
+        ensures at_rest { moves self.old ≡ false
+            → WritesBytes (refused_line refusal.entry.number) (desk_value W.contents self.old)
             (desk_value W.contents self.new) }
     {
         if self.moves() {
@@ -633,12 +655,14 @@ impl<W: Write + Drop> ServeDesk<W> {
         }
     }
 
-    // Whether rows move, or are to move.
-    fn moves(&self) -> bool {
+    // Returns whether rows move or will move.
+    fn moves(&self) -> bool
+        ensures { result ≡ moves self.now }
+    {
         self.moving.is_some() || matches!(&self.wish, Some(Wish::Move(_)))
     }
 
-    // Answers the line of a job, of this partition, with a fault.
+    // Answers the line of a job with fault `number`. `part` is the partition that the line names.
     fn refuse_job<V: ServeWatch>(
         &mut self,
         number: u16,
@@ -661,7 +685,7 @@ impl<W: Write + Drop> ServeDesk<W> {
         self.say_fault(watch, refusal);
     }
 
-    /// Answers a line with its fault, which `watch` is told once.
+    /// Answers a line with its fault, and reports it once to `watch`.
     pub fn say_fault<V: ServeWatch>(&mut self, watch: &V, refusal: LineRefusal<'_>)
         ensures line { WritesBytes
             (serve_answer_line (Fault refusal.entry.number refusal.entry.place.line refusal.entry.id))
@@ -677,7 +701,7 @@ impl<W: Write + Drop> ServeDesk<W> {
         });
     }
 
-    /// Answers a line with its refusal, which `watch` is told once.
+    /// Answers a line with its refusal, and reports it once to `watch`.
     pub fn say_refused<V: ServeWatch>(&mut self, watch: &V, refusal: LineRefusal<'_>)
         ensures line { WritesBytes (refused_line refusal.entry.number)
             (desk_value W.contents self.old) (desk_value W.contents self.new) }
@@ -688,8 +712,8 @@ impl<W: Write + Drop> ServeDesk<W> {
         self.outlet.say_refused(refusal.number);
     }
 
-    // Counts a line that is answered with a fault or a refusal, and tells `watch`, which hears of none elsewhere. No line is
-    // taken after it from a strict input.
+    // Counts a refused or faulty line, and reports it to `watch`; this is the only place that does.
+    // A strict input ends here.
     fn note_refusal<V: ServeWatch>(&mut self, watch: &V, refusal: LineRefusal<'_>)
         ensures value { desk_value W.contents self.new ≡ desk_value W.contents self.old }
         ensures outlet { self.new.outlet ≡ self.old.outlet }
@@ -704,7 +728,7 @@ impl<W: Write + Drop> ServeDesk<W> {
         }
     }
 
-    /// Writes an answer to a line that isn't a job.
+    /// Writes an answer to a line other than a job.
     pub fn say(&mut self, answer: ServeAnswer)
         ensures line { WritesBytes (serve_answer_line answer) (desk_value W.contents self.old)
             (desk_value W.contents self.new) }
@@ -714,7 +738,7 @@ impl<W: Write + Drop> ServeDesk<W> {
         self.outlet.say(answer);
     }
 
-    /// Writes the lines of rows, and behind them how many these are.
+    /// Writes `lines`, the lines of rows, and then their number.
     pub fn say_rows(&mut self, lines: &[u8])
         ensures { WritesBytes (rows_told lines.now) (desk_value W.contents self.old)
             (desk_value W.contents self.new) }
@@ -730,7 +754,7 @@ impl<W: Write + Drop> ServeDesk<W> {
         self.outlet.say_plan(self.plan.as_str());
     }
 
-    // Writes how far a move is, and how many jobs have no answer.
+    // Writes the progress of a move, and how many jobs have no answer.
     fn say_status(&mut self)
         ensures { WritesStatus
             (unanswered_jobs self.old.counts (sum_by length self.old.sides))
@@ -740,7 +764,8 @@ impl<W: Write + Drop> ServeDesk<W> {
         self.say(status);
     }
 
-    /// How far the running stage of a move is, and how many jobs have no answer. A stage without segments is one at rest.
+    /// The progress of the running stage, and how many jobs have no answer. A stage without
+    /// segments counts as rest.
     pub fn status(&self) -> ServeAnswer
         ensures { IsStatus self.now.moving
             (unanswered_jobs self.now.counts (sum_by length self.now.sides)) result }
@@ -756,7 +781,7 @@ impl<W: Write + Drop> ServeDesk<W> {
         }
     }
 
-    /// How many jobs have no answer.
+    /// How many jobs have no answer: those that are posted and those that wait.
     pub(crate) fn unanswered(&self) -> u64
         ensures counts { unanswered_jobs self.now.counts (sum_by length self.now.sides) < 2 ^ 64
             → result ≡ unanswered_jobs self.now.counts (sum_by length self.now.sides) }
@@ -768,7 +793,7 @@ impl<W: Write + Drop> ServeDesk<W> {
         running.saturating_add(waiting)
     }
 
-    // Without a job to be posted: what was written goes out, and queues that were full are tried again.
+    // Without a job to post, flushes the output, and lets full queues be tried again.
     fn idle(&mut self)
         ensures { WritesBytes [] (desk_value W.contents self.old) (desk_value W.contents self.new) }
     {
@@ -777,22 +802,23 @@ impl<W: Write + Drop> ServeDesk<W> {
         self.sides.try_again();
     }
 
-    /// Whether all is done: the input has ended, no rows move, and no answer is expected.
+    /// Returns whether all is done: the input has ended, no rows move, and no answer is expected.
     pub fn is_done(&self) -> bool
         ensures { result ≡ is_done self.now }
     {
         self.end.is_some() && self.moving.is_none() && self.expects_nothing()
     }
 
-    // Whether each job has its answer; or none waits to be posted, and none was answered for so long that those that are open are
-    // lost. The audit of the last page finds these.
+    // Returns whether no answer is expected: each job has its answer, or none waits and there was
+    // no work in so many calls that the open jobs count as lost. The audit of the last page finds
+    // those.
     fn expects_nothing(&self) -> bool
         ensures { result ≡ expects_nothing self.now }
     {
         self.unanswered() == 0 || (self.sides.waiting() == 0 && self.idle_calls >= LOST_CALLS)
     }
 
-    // Takes note that a job is offered to the engine.
+    // Records that a job is offered to the engine.
     fn note_offered(&mut self)
         ensures { desk_value W.contents self.new ≡ desk_value W.contents self.old }
     {
@@ -800,7 +826,7 @@ impl<W: Write + Drop> ServeDesk<W> {
         self.counts.posted = self.counts.posted.saturating_add(1);
     }
 
-    /// Takes an answer: its line is written.
+    /// Records an answer, and writes its line.
     pub fn take(&mut self, receipt: Receipt)
         ensures { WritesReceipt receipt (desk_value W.contents self.old)
             (desk_value W.contents self.new) }
@@ -811,8 +837,10 @@ impl<W: Write + Drop> ServeDesk<W> {
         self.outlet.say_receipt(receipt);
     }
 
-    /// Takes a job back that isn't posted, the last that was offered. It waits before the others of its partition if the queue is
-    /// full; else its line is answered with just its fault.
+    /// Takes back the job that was offered last, since it wasn't posted. If its queue is full, it
+    /// waits before the others of its partition. If its id is repeated or its partition doesn't
+    /// exist, its line is answered with just that fault, 127 or 219. If memory ran out, the desk
+    /// stops.
     pub fn take_back<V: ServeWatch>(&mut self, job: Job, fault: PostFault, watch: &V)
         ensures { TakesJobBack job fault (desk_value W.contents self.old)
             (desk_value W.contents self.new) }
@@ -826,7 +854,7 @@ impl<W: Write + Drop> ServeDesk<W> {
         }
     }
 
-    // Answers the line of the job that was offered last with a fault.
+    // Answers the line of the job that was offered last with fault `number`.
     fn refuse_returned<V: ServeWatch>(&mut self, number: u16, job: &Job, watch: &V)
         ensures { AnswersRefusal number job.now (desk_value W.contents self.old)
             (desk_value W.contents self.new) }
@@ -835,7 +863,8 @@ impl<W: Write + Drop> ServeDesk<W> {
         self.refuse_job(number, self.offered_at, part, &job.txn, watch);
     }
 
-    // Puts a job before those of its partition that wait.
+    // Lets a job wait before the others of its partition. If the partition doesn't exist, its line
+    // is answered with fault 219.
     fn put_back<V: ServeWatch>(&mut self, job: Job, watch: &V)
         ensures { WaitsOrHasNoPartition job (desk_value W.contents self.old)
             (desk_value W.contents self.new) }
@@ -847,7 +876,7 @@ impl<W: Write + Drop> ServeDesk<W> {
         }
     }
 
-    // Puts a job of an existing partition before those of it that wait.
+    // Lets a job of an existing partition wait before the others of it.
     fn put_before(&mut self, job: Job)
         requires { job.part < length self.old.sides }
         ensures { Hears (job ∷ []) (desk_value W.contents self.old) []

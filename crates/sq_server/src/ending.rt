@@ -10,7 +10,7 @@ use sq_serve::HeaderFault;
 pub enum InputOutcome {
     /// To its end.
     Whole,
-    /// Up to a line with a fault after which nothing is read.
+    /// Up to a line with a fault after which nothing more is read.
     Broken,
     /// Up to the first line that was refused or has a fault, which ends a strict input.
     Refused,
@@ -25,20 +25,21 @@ pub enum ServeEnding {
         committed: u64,
         input: InputOutcome,
     },
-    /// This is the first defect of a page.
+    /// A page has this defect, the first that its audit found.
     Unsound(Defect),
     /// The header has this fault.
     NoHeader(HeaderFault),
     /// Memory ran out.
     Memory,
-    /// The system grants fewer threads than the engine has nodes.
+    /// The system grants fewer threads than the engine has nodes, or no memory for one.
     Threads,
-    /// An answer can't be written.
+    /// An answer couldn't be written.
     Unwritten,
 }
 
 impl ServeEnding {
-    /// The exit status.
+    /// The exit status: that of the input if the engine ends sound (0, 2 or 3), 4 if it is unsound,
+    /// else 2.
     pub fn status(self) -> u8
         ensures { result ≡ serve_status self }
     {
@@ -54,7 +55,8 @@ impl ServeEnding {
 }
 
 impl InputOutcome {
-    // The exit status of an engine that ends sound.
+    // The exit status of an engine that ends sound: 0 for a whole input, 2 for a broken one, 3 for
+    // a refused line.
     fn status(self) -> u8
         ensures { result ≡ input_status self }
     {
@@ -65,7 +67,7 @@ impl InputOutcome {
         }
     }
 
-    // The outcome once a line of a strict input was refused. A broken input stays broken.
+    // The outcome after a line of a strict input was refused. A broken input stays broken.
     pub(crate) fn refused(before: Option<InputOutcome>) -> InputOutcome
         ensures { result ≡ outcome_refused before }
     {

@@ -1,4 +1,4 @@
-// An epoch that is served, with a desk.
+// Serving an epoch with a desk.
 ghost use Rattle.std.specs.Prelude.{◌≡◌, IfOk, IfErr, OnErr};
 ghost use Rattle.sq_engine.specs.Engine.{KeepsHistoryAndJobs};
 ghost use Rattle.sq_server.specs.Becoming.{desk_value};
@@ -12,7 +12,8 @@ use std::io::Write;
 use std::sync::Wait;
 use std::thread::Threads;
 
-/// Serves an epoch of an engine, as [`Engine::serve`] does: its jobs come from a desk, and each answer is written there.
+/// Serves an epoch of an engine, as [`Engine::serve`] does: the desk in `control` supplies the jobs
+/// and writes each answer. An error returns the engine, and `control` is unchanged.
 pub fn serve_epoch<T: Threads + Wait + Sync, W: Write + Drop, V: ServeWatch>(
     rt: &T,
     alloc: Global,

@@ -9,27 +9,27 @@ use sq_driver::rest;
 use sq_serve::{FaultyLine, LinePlace, ServeLine};
 use std::sync::Wait;
 
-/// How many lines are handed on at most that weren't taken.
+/// How many lines may be handed on and not yet taken.
 pub const FEED_ROOM: usize = 4_096;
 
 // The longest sleep between two tries, in microseconds.
 const LONGEST_SLEEP: u64 = 2_000;
 
-/// How an input ends behind its header.
+/// How an input ends after its header.
 #[derive(Clone, Copy, Debug, PartialEq, Eq)]
 pub enum InputEnd {
     /// All of it was read.
     Whole,
-    /// This line has a fault behind which nothing is read.
+    /// The line at `place` has a fault after which nothing more is read.
     Broken { fault: u16, place: LinePlace },
     /// Memory ran out.
     Memory,
 }
 
-/// What a reader hands on behind the header.
+/// What a reader hands on after the header.
 #[derive(Debug, Drop)]
 pub enum Fed {
-    /// What the line at this place asks.
+    /// What the line at `place` asks, or its fault.
     Line {
         place: LinePlace,
         asks: Result<ServeLine, FaultyLine>,
@@ -38,8 +38,8 @@ pub enum Fed {
     End(InputEnd),
 }
 
-/// Hands something on, as soon as there is room, rings the bell of who takes it, and returns whether it did: not if
-/// nobody takes any more.
+/// Hands `given` on as soon as there is room, and rings `bell` to wake its taker. Returns false,
+/// with nothing handed on, if nobody takes any more.
 pub fn give<X: Drop, R: Wait>(rt: &R, feed: &mut Producer<X>, bell: &Bell, given: X) -> bool
     ensures ring { SameProducer feed.old feed.new }
     ensures given { OnTrue result (sent feed.new ≡ sent feed.old ++ given ∷ []) }
@@ -64,7 +64,7 @@ pub fn give<X: Drop, R: Wait>(rt: &R, feed: &mut Producer<X>, bell: &Bell, given
     unreachable!()
 }
 
-/// Takes what is handed on next, as soon as something is there. `None` if nothing comes any more.
+/// Takes what is handed on next, as soon as it is there. Returns `None` if nothing more comes.
 pub fn wait_for<X: Drop, R: Wait>(rt: &R, feed: &mut Consumer<X>) -> Option<X> {
     let mut tries = 0u64;
     for _ in rt.forever() {

@@ -1,5 +1,5 @@
-//! Between the lines of an engine behind a pipe and the epochs of that engine: jobs go to the engine, or wait beside the full queue
-//! of their partition, and each answer is written.
+//! Connects the input lines of an engine with its epochs: jobs go to the engine, or wait beside the
+//! full queue of their partition, and each answer is written.
 #![tactic(auto)]
 
 mod audit_progress;

@@ -1,24 +1,25 @@
-// What is done in an epoch, as it is marked for who watches.
+// Marks for the watch about what is done in an epoch.
 use sq_engine::{Command, StageProgress};
 use sq_node::Receipt;
 use sq_plan::PartId;
 use sq_schema::Reply;
 use sq_serve::{ServeMark, ServeWatch};
 
-/// Marks what is done in an epoch.
+/// Marks for a watch about what is done in an epoch.
 #[derive(Drop)]
 pub struct EpochMarks<'a, V: ServeWatch> {
     watch: &'a V,
     has_begun: bool,
     has_ended: bool,
-    // How many segments were complete and how many families and bytes were moved, as was marked last.
+    // How many segments were complete, and how many families and bytes were moved, at the last mark
+    // of them.
     complete: u64,
     moved: u64,
     moved_bytes: u64,
 }
 
 impl<'a, V: ServeWatch> EpochMarks<'a, V> {
-    /// For this one, in an epoch that hasn't begun.
+    /// Marks for `watch`, before the epoch begins.
     pub fn new(watch: &'a V) -> EpochMarks<'a, V> {
         EpochMarks {
             watch,
@@ -30,12 +31,11 @@ impl<'a, V: ServeWatch> EpochMarks<'a, V> {
         }
     }
 
-    // Who watches.
     pub(crate) fn watch(&self) -> &'a V {
         self.watch
     }
 
-    // Marks at the first call that the epoch begins.
+    // Marks that the epoch begins, at the first call only.
     pub(crate) fn begin(&mut self) {
         if !self.has_begun {
             self.has_begun = true;
@@ -43,7 +43,7 @@ impl<'a, V: ServeWatch> EpochMarks<'a, V> {
         }
     }
 
-    // Marks how far the stage is, where that has changed.
+    // Marks the progress of the stage, if it has changed.
     pub(crate) fn note_progress(&mut self, stage: StageProgress) {
         let complete = stage.complete;
         if self.complete != complete {
@@ -67,7 +67,7 @@ impl<'a, V: ServeWatch> EpochMarks<'a, V> {
         }
     }
 
-    // Marks an answer of a partition.
+    // Marks the answer of a partition to a job.
     pub(crate) fn answer(&self, part: PartId, receipt: &Receipt) {
         let is_commit = matches!(&receipt.reply, Reply::Committed(_));
         let id = receipt.id;
@@ -78,15 +78,15 @@ impl<'a, V: ServeWatch> EpochMarks<'a, V> {
         });
     }
 
-    /// Marks what is not marked of an epoch that was served, and whose stage was so far in the end. Its client may not have been
-    /// asked.
+    /// Marks what hasn't been marked yet of an epoch that was served, whose stage ended with
+    /// progress `stage`. The engine may never have called its client.
     pub fn end_served(&mut self, stage: StageProgress) {
         self.begin();
         self.note_progress(stage);
         self.end();
     }
 
-    // Marks once that the epoch ends.
+    // Marks that the epoch ends, at the first call only.
     pub(crate) fn end(&mut self) {
         if !self.has_ended {
             self.has_ended = true;

@@ -1,7 +1,7 @@
-// Where the lines of an engine are written.
+// The output of an engine.
 ghost use Rattle.std.specs.Prelude.{◌≡◌, true, false, []};
 ghost use Rattle.sq_text.specs.Texts.{refused_line, fault_line};
-ghost use Rattle.sq_told.specs.Lines.{receipt_line};
+ghost use Rattle.sq_server.specs.Receipts.{receipt_line};
 ghost use Rattle.sq_serve.specs.ServeAnswers.{serve_answer_line, plan_line};
 ghost use Rattle.sq_live.specs.Outcome.{outcome_line};
 ghost use Rattle.sq_server.specs.Saying.{Says, lines_in, rows_told};
@@ -13,7 +13,7 @@ use sq_serve::{ServeAnswer, write_plan, write_serve_answer};
 use sq_text::{write_answer, write_fault, write_refused};
 use std::io::Write;
 
-/// Where the lines of an engine are written. Behind a write that failed nothing more is written.
+/// The output of an engine. After a failed write nothing more is written.
 #[derive(Drop)]
 pub struct Outlet<W: Write + Drop> {
     pub writer: W,
@@ -23,7 +23,7 @@ pub struct Outlet<W: Write + Drop> {
 }
 
 impl<W: Write + Drop> Outlet<W> {
-    /// One over this writer.
+    /// An outlet over `writer`.
     pub fn new(writer: W) -> Outlet<W>
         ensures writer { result.writer ≡ writer }
         ensures whole { result.has_failed ≡ false }
@@ -50,7 +50,7 @@ impl<W: Write + Drop> Outlet<W> {
         self.note(failed);
     }
 
-    /// Writes an answer to a line that isn't a job, or that asks nothing.
+    /// Writes an answer to a line other than a job, or to a line that asks nothing.
     pub fn say(&mut self, answer: ServeAnswer)
         ensures { Says W.contents self.old (serve_answer_line answer) self.new }
     {
@@ -61,7 +61,7 @@ impl<W: Write + Drop> Outlet<W> {
         self.note(failed);
     }
 
-    /// Writes a refusal with this number.
+    /// Writes the line of refusal `number`.
     pub fn say_refused(&mut self, number: u16)
         ensures { Says W.contents self.old (refused_line number) self.new }
     {
@@ -72,7 +72,7 @@ impl<W: Write + Drop> Outlet<W> {
         self.note(failed);
     }
 
-    /// Writes the line of a plan with this text.
+    /// Writes the line of the plan with this text.
     pub fn say_plan(&mut self, text: &str)
         ensures { Says W.contents self.old (plan_line text.now) self.new }
     {
@@ -83,7 +83,7 @@ impl<W: Write + Drop> Outlet<W> {
         self.note(failed);
     }
 
-    /// Writes the lines of rows, and behind them how many these are.
+    /// Writes `lines`, the lines of rows, and then their number.
     pub fn say_rows(&mut self, lines: &[u8])
         ensures { Says W.contents self.old (rows_told lines.now) self.new }
     {
@@ -104,7 +104,7 @@ impl<W: Write + Drop> Outlet<W> {
         self.note(failed);
     }
 
-    /// Writes the outcome of all.
+    /// Writes the line of the outcome.
     pub fn say_outcome(&mut self, outcome: LiveOutcome)
         ensures { Says W.contents self.old (outcome_line outcome) self.new }
     {
@@ -115,7 +115,7 @@ impl<W: Write + Drop> Outlet<W> {
         self.note(failed);
     }
 
-    /// Writes a fault of no line.
+    /// Writes the line of fault `number`, which belongs to no input line.
     pub fn say_fault(&mut self, number: u16)
         ensures { Says W.contents self.old (fault_line number) self.new }
     {
@@ -126,7 +126,7 @@ impl<W: Write + Drop> Outlet<W> {
         self.note(failed);
     }
 
-    /// Sees that what was written goes out.
+    /// Flushes what was written since the last flush.
     pub fn flush(&mut self)
         ensures { Says W.contents self.old [] self.new }
     {
@@ -137,7 +137,7 @@ impl<W: Write + Drop> Outlet<W> {
         self.has_failed = self.writer.flush().is_err();
     }
 
-    // Takes note of whether a write failed.
+    // Records a write, and whether it failed.
     fn note(&mut self, failed: bool)
         ensures { self.new ≡ record self.old { has_failed = failed; is_unflushed = true } }
     {
@@ -149,7 +149,7 @@ impl<W: Write + Drop> Outlet<W> {
 // The byte that ends a line.
 const LINE_END: u8 = 10;
 
-// How many lines a text has.
+// How many line ends a text has.
 fn lines_in(text: &[u8]) -> u64
     ensures { result ≡ lines_in text.now }
 {

@@ -6,26 +6,28 @@ use std::alloc::{AllocError, Global};
 use std::collections::VecDeque;
 use std::marker::Model;
 
-/// The most jobs that may wait, over all partitions.
+/// How many jobs may wait, over all partitions, before no more lines are taken.
 pub const SIDE_ROOM: usize = 65_536;
 
 /// The jobs of one partition that wait beside its queue.
 #[derive(Drop)]
 pub(crate) struct SideQueue<J: Drop> {
     jobs: VecDeque<J>,
-    // In which round its queue was full when a job of it was offered.
+    // The round in which a job of it was last offered and the queue was full.
     full_in: u64,
 }
 
-/// For each partition the jobs that wait beside its queue, in their order. To a contract they are a list for each partition.
+/// For each partition, the jobs that wait beside its queue, in their order. Contracts see a list of
+/// lists.
 #[derive(Drop)]
 pub struct SideQueues<J: Drop> {
     sides: Vec<SideQueue<J>>,
-    // How many jobs wait.
+    // How many jobs wait, over all partitions.
     waiting: usize,
     // The partition that is looked at first.
     first: usize,
-    // The round of tries: a queue that was full isn't tried again in its round.
+    // The number of the current round. A queue found full in it isn't tried again until the next
+    // one.
     round: u64,
 }
 
@@ -41,7 +43,7 @@ impl<J: Drop> Model for SideQueues<J> {
 }
 
 impl<J: Drop> SideQueues<J> {
-    /// For so many partitions, with no jobs.
+    /// Queues for `parts` partitions, without jobs.
     pub fn new(alloc: Global, parts: u8) -> Result<SideQueues<J>, AllocError>
         ensures { IfOk result (λ sides. sides ≡ replicate parts []) }
     {
@@ -60,28 +62,27 @@ impl<J: Drop> SideQueues<J> {
         })
     }
 
-    /// How many partitions there are.
     pub fn parts(&self) -> u8
         ensures { result ≡ length self.now }
     {
         self.sides.len() as u8
     }
 
-    /// How many jobs wait.
+    /// How many jobs wait, over all partitions.
     pub fn waiting(&self) -> usize
         ensures { result ≡ sum_by length self.now }
     {
         self.waiting
     }
 
-    /// Whether no more jobs should be taken in.
+    /// Returns whether `SIDE_ROOM` or more jobs wait, so that no more lines should be taken.
     pub fn are_full(&self) -> bool
         ensures { IsTrue result ↔ (SIDE_ROOM ≤ sum_by length self.now) }
     {
         self.waiting >= SIDE_ROOM
     }
 
-    /// Whether a job of a partition waits.
+    /// Returns whether a job of partition `part` waits.
     pub fn has_jobs(&self, part: usize) -> bool
         requires { part < length self.now }
         ensures { IsTrue result ↔ (0 < length (waiting_at self.now part)) }
@@ -89,7 +90,8 @@ impl<J: Drop> SideQueues<J> {
         !self.sides[part].jobs.is_empty()
     }
 
-    /// Puts a job behind those of its partition.
+    /// Adds a job after the others of partition `part`. Fails, and changes nothing, if memory runs
+    /// out.
     pub fn put_behind(&mut self, part: usize, job: J) -> Result<(), AllocError>
         requires { part < length self.old }
         ensures ok { OnOk result (ChangesAt part (waiting_at self.old part ++ job ∷ [])
@@ -103,7 +105,8 @@ impl<J: Drop> SideQueues<J> {
         Ok(())
     }
 
-    /// Puts a job before those of its partition, whose queue is full.
+    /// Adds a job before the others of partition `part`, whose queue is full. Fails, and changes
+    /// nothing, if memory runs out.
     pub fn put_back(&mut self, part: usize, job: J) -> Result<(), AllocError>
         requires { part < length self.old }
         ensures ok { OnOk result (ChangesAt part (job ∷ waiting_at self.old part)
@@ -118,14 +121,15 @@ impl<J: Drop> SideQueues<J> {
         Ok(())
     }
 
-    /// Forgets which queues were full.
+    /// Begins a new round, in which queues that were full may be tried again.
     pub fn try_again(&mut self)
         ensures { self.new ≡ self.old }
     {
         self.round = self.round.wrapping_add(1);
     }
 
-    /// Takes the first job of a partition whose queue wasn't full, one partition after another.
+    /// Takes the first job of a partition whose queue wasn't full in this round, and returns it
+    /// with the partition. Partitions take turns.
     pub fn take(&mut self) -> Option<(u8, J)>
         ensures { MatchOption result (self.new ≡ self.old)
             (λ taken. TakesFirst taken.0 taken.1 self.old self.new) }
@@ -138,7 +142,7 @@ impl<J: Drop> SideQueues<J> {
         Some((at as u8, job))
     }
 
-    // The next partition that has a job, and whose queue wasn't full.
+    // The next partition that has a job and whose queue wasn't full in this round.
     fn next_ready(&self) -> Option<usize>
         ensures { IfSome result (λ at. (at < length self.now)
             × (0 < length (waiting_at self.now at))) }
@@ -157,7 +161,7 @@ impl<J: Drop> SideQueues<J> {
 }
 
 impl<J: Drop> SideQueue<J> {
-    // Whether a job of it may be offered in a round.
+    // Returns whether a job of it may be offered in `round`.
     fn is_ready(&self, round: u64) -> bool
         ensures { IsTrue result → 0 < length self.now.jobs.items }
     {

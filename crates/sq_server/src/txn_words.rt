@@ -15,7 +15,7 @@ pub(crate) fn txn_words(part: u64, id: u64) -> ArrayVec<u8, MOST> {
     words
 }
 
-// Adds bytes, up to the most.
+// Adds bytes as long as there is room.
 fn add(words: &mut ArrayVec<u8, MOST>, bytes: &[u8]) {
     for byte in bytes {
         if words.try_push(*byte).is_err() {

@@ -14,7 +14,8 @@ use Rattle.sq_service.specs.declared.page_book.PageBook.{PageBook}
 use Rattle.sq_service.specs.Judging.{IsFoundAs, page_commits}
 use Rattle.sq_service.specs.Rows.{TellsRows}
 
--- an epoch is served with these exchanges, a page is taken, rows are written, or the engine continues, as where a move begins
+-- an epoch is served with these exchanges, a page is taken, rows are written, or the engine
+-- continues otherwise, for example as a move begins
 pub data ServeEvent : Type 0 where
   EpochServed : (is_whole : Bool) → (exchanges : List Exchange) → ServeEvent
   PageTurned : (page : RestPage) → ServeEvent
@@ -29,7 +30,7 @@ Happens (PageTurned page) old before new after = TakesPage old page new × (afte
 Happens RowsTold old before new after = KeepsHistoryAndJobs old new × TellsRows new before after
 Happens GoneOn old before new after = KeepsHistoryAndJobs old new × Speaks before after
 
--- what these events, one after another, make of them
+-- what these events, one after another, make of an engine and its desk
 abbrev pub HappenEach : List ServeEvent → Standing → ServeDeskValue → Standing → ServeDeskValue → Type 0
 HappenEach [] old before new after = (new ≡ old) × (after ≡ before)
 HappenEach (event ∷ events) old before new after =
@@ -62,17 +63,17 @@ page_turned GoneOn = []
 abbrev pub pages_turned : List ServeEvent → List RestPage
 pages_turned events = flat_map page_turned events
 
--- the page that is to be audited, if there is one
+-- the page to audit, if there is one
 abbrev pub page_due : Option PageToAudit → List RestPage
 page_due (Some due) = due.page ∷ []
 page_due None = []
 
--- so many more were committed, unless they are more than 64 bits count
+-- the commits of these pages were added, unless 64 bits can't count them
 abbrev pub CountsCommits : ℕ → List RestPage → ℕ → Type 0
 CountsCommits before pages after = before + sum_by page_commits pages < 2 ^ 64 → after ≡ before + sum_by page_commits pages
 
--- an engine was served for a while, and no answer is missing: of the pages that were to be audited or were taken each was found
--- sound, but for the one that is to be audited now
+-- an engine was served for a while, and no answer is missing: each page that was due or taken was
+-- found sound, except for the one that is due now
 pub record HasServed (was : PageBook) (old : Standing) (before : ServeDeskValue) (now : PageBook) (new : Standing) (after : ServeDeskValue) : Type 0 where
   pub events : List ServeEvent
   pub happened : HappenEach events old before new after

@@ -15,27 +15,27 @@ use Rattle.sq_service.specs.declared.page_audit.PageCounts.{PageCounts}
 abbrev pub page_commits : RestPage → ℕ
 page_commits page = commit_count page.page.run.receipts
 
--- so many families and commits a page has, unless it has more families than 64 bits count
+-- the counts of a page: its families, unless 64 bits can't count them, and its commits
 pub record HasCounts (run : GatheredValue) (counts : PageCounts) : Type 0 where
   pub families : stored_count run < 2 ^ 64 → counts.families ≡ stored_count run
   pub committed : counts.committed ≡ commit_count run.receipts
 
--- the result of this verdict on a page
+-- the result of a verdict on a page
 abbrev pub IsJudgedAs : GatheredValue → Verdict → Result PageCounts ServeEnding → Type 0
 IsJudgedAs run verdict.Sound (Ok counts) = HasCounts run counts
 IsJudgedAs run verdict.Sound (Err ending) = ⊥
 IsJudgedAs run (verdict.Unsound defect) (Ok counts) = ⊥
 IsJudgedAs run (verdict.Unsound defect) (Err ending) = ending ≡ Unsound defect
 
--- this is the verdict on a page
+-- `found` is the verdict on a page
 abbrev pub IsFoundAs : Verdict → RestPage → Type 0
 IsFoundAs found page = SpeaksForRuns page.plan page.page.run page.page.jobs.items found
 
--- and this on the last page of a closed engine
+-- `found` is the verdict on the last page of a closed engine
 abbrev pub ClosesAs : Verdict → Closed → Type 0
 ClosesAs found closed = SpeaksForRuns closed.opening.new closed.page.run closed.page.jobs.items found
 
--- how an engine ends whose page was found so, where memory may have run out instead
+-- how an engine ends whose page isn't sound, unless memory ran out
 abbrev pub EndsAsFound : (Verdict → Type 0) → ServeEnding → Type 0
 EndsAsFound found (Unsound defect) = found (verdict.Unsound defect)
 EndsAsFound found Memory = Unit {0}
@@ -44,7 +44,7 @@ EndsAsFound found (Sound families committed input) = ⊥
 EndsAsFound found (NoHeader fault) = ⊥
 EndsAsFound found Unwritten = ⊥
 
--- the outcome of the audit of a page: it was found sound, or it wasn't, or there was no memory for it
+-- the outcome of the audit of a page: it was found sound or unsound, or memory ran out
 abbrev pub JudgesPage : RestPage → Result PageCounts ServeEnding → Type 0
 JudgesPage page (Ok counts) = IsFoundAs verdict.Sound page × HasCounts page.page.run counts
 JudgesPage page (Err ending) = EndsAsFound (λ found. IsFoundAs found page) ending

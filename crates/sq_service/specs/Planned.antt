@@ -1,4 +1,4 @@
--- Where an engine that was served ends, if all was found sound.
+-- Where an engine that was served ends, if all pages were found sound.
 use Rattle.std.specs.Prelude.{◌≡◌, List, [], ◌∷◌, All}
 use Rattle.sq_ranges.specs.OpeningValue.{OpeningValue}
 use Rattle.sq_audit.specs.declared.verdict.Verdict.TheVariants.{Sound}
@@ -13,7 +13,8 @@ use Rattle.sq_service.specs.Judging.{IsFoundAs}
 use Rattle.sq_service.specs.Events.{ServeEvent, HappenEach, pages_turned}
 use Rattle.sq_service.specs.Ends.{ClosesFound}
 
--- an engine that opened with this was served and closed so, and each page of it was found sound, the last one too
+-- an engine with this opening was served and closed, and each page of it was found sound, the last
+-- one included
 pub record IsServedSoundly (o : OpeningValue) (closed : Closed) : Type 0 where
   pub engine : Standing
   pub last : Standing
@@ -25,7 +26,8 @@ pub record IsServedSoundly (o : OpeningValue) (closed : Closed) : Type 0 where
   pub pages : All (IsFoundAs Sound) (pages_turned events)
   pub last_page : ClosesFound last Sound closed
 
--- an engine that opened with this was closed where it was planned, and its families are those that the last episode left
+-- an engine with this opening was closed where planned, and its families are those that the last
+-- episode left
 pub record EndsServingAsPlanned (o : OpeningValue) (closed : Closed) : Type 0 where
   pub earlier : List Episode
   pub latest : Episode

@@ -6,7 +6,8 @@ use Rattle.sq_serve.specs.declared.serve_line.ServeLine.{ServeLine}
 use Rattle.sq_serve.specs.FaultyLines.{job_id_of, IsTextOf}
 use Rattle.sq_serve.specs.ServeLines.{IsServeLine}
 
--- what is wanted was read of a line, unless memory ran out; of one with a fault its job's id and its text are known
+-- a line is read as `wanted`, unless memory ran out; if it has a fault, the id of its job and its
+-- text are kept
 abbrev pub IsAskedBy : List ℕ → Result ServeLine FaultyLine → Result ServeLine ServeFault → Type 0
 IsAskedBy line (Ok asks) wanted = IsServeLine (Ok asks) wanted
 IsAskedBy line (Err faulty) wanted =

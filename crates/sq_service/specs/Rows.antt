@@ -21,17 +21,18 @@ use Rattle.sq_server.specs.Becoming.{ServeDeskValue, Speaks, WritesBytes}
 abbrev pub IsRowsText : List StoreValue → List ℕ → Type 0
 IsRowsText stores text = WritesRows (flat_map families_in stores) (Some []) (Some text)
 
--- the line of rows that were to be saved
+-- the line that answers rows that were to be saved
 abbrev pub saved_line : Bool → List ℕ → List ℕ
 saved_line true lines = serve_answer_line (Rows (lines_in lines))
 saved_line false lines = refused_line 124
 
--- rows with these lines were written; or they were to be saved under a name, and one line says how that went
+-- the lines of rows were written; or they were to be saved under a name, and one line reports the
+-- outcome
 abbrev pub GivesRows : (List ℕ → List ℕ → Bool → Type 0) → Option (List ℕ) → List ℕ → ServeDeskValue → ServeDeskValue → Type 0
 GivesRows saves None lines before after = WritesBytes (rows_told lines) before after
 GivesRows saves (Some name) lines before after = (saved : Bool) × saves name lines saved × WritesBytes (saved_line saved lines) before after
 
--- and they are the rows of an engine
+-- the same of the lines of an engine's rows
 pub record RowsAreGiven (saves : List ℕ → List ℕ → Bool → Type 0) (engine : Standing) (file : Option (List ℕ))
     (before after : ServeDeskValue) : Type 0 where
   pub stores : List StoreValue
@@ -40,17 +41,17 @@ pub record RowsAreGiven (saves : List ℕ → List ℕ → Bool → Type 0) (eng
   pub is : IsRowsText stores lines
   pub gives : GivesRows saves file lines before after
 
--- the one line of rows that can't be had
+-- the one line that refuses rows
 abbrev pub not_taken_line : NotTaken → LinePlace → List ℕ
 not_taken_line untaken.Moving place = refused_line 217
 not_taken_line untaken.Memory place = serve_answer_line (Fault memory_number place.line None)
 
--- why the rows of an engine can't be had: rows move, or there is no memory
+-- why the rows of an engine can't be had: rows move, or memory ran out
 abbrev pub WithholdsRows : Standing → NotTaken → Type 0
 WithholdsRows engine untaken.Moving = EngineRests engine → ⊥
 WithholdsRows engine untaken.Memory = Unit {0}
 
--- a line that asks for rows is answered by them, or by the one line of why not
+-- a line that asks for rows is answered by them, or by one line with the reason why not
 abbrev pub AnswersRows : (List ℕ → List ℕ → Bool → Type 0) → AskedRows → Standing → ServeDeskValue → Standing → ServeDeskValue → Type 0
 AnswersRows saves asked old before new after =
     RowsAreGiven saves new asked.file before after
@@ -64,6 +65,6 @@ pub record TellsRows (engine : Standing) (before after : ServeDeskValue) : Type 
   pub is : IsRowsText stores lines
   pub told : WritesBytes (rows_told lines) before after
 
--- an engine continued, and its rows were written as lines, or other lines were
+-- an engine continued, and either its rows or other lines were written
 abbrev pub TellsRowsOrSpeaks : Standing → ServeDeskValue → Standing → ServeDeskValue → Type 0
 TellsRowsOrSpeaks old before new after = KeepsHistoryAndJobs old new × (TellsRows new before after ⊎ Speaks before after)

@@ -25,7 +25,8 @@ use Rattle.sq_service.specs.Telling.{TellsEnding}
 abbrev pub no_pages : PageBook
 no_pages = record { due = None; committed = 0 }
 
--- an engine without a page was served until it ended so, and what its desk wrote by then is what the outlet holds
+-- an engine without a page was served until it ended with `ending`, and the outlet holds what its
+-- desk wrote by then
 pub record HasEndedWithOutlet {W : Type 0} (contents : W → Option (List ℕ)) (engine : Standing) (before : ServeDeskValue)
     (ending : ServeEnding) (outlet : Outlet W) : Type 0 where
   pub after : ServeDeskValue
@@ -33,12 +34,13 @@ pub record HasEndedWithOutlet {W : Type 0} (contents : W → Option (List ℕ)) 
   pub written : contents outlet.writer ≡ after.written
   pub stopped : after.has_stopped ≡ false → outlet.has_failed ≡ false
 
--- a desk that has heard this, for so many partitions, and has written what an outlet holds
+-- a desk for `parts` partitions, to which `heard` is handed on, and which has written what an
+-- outlet holds
 abbrev pub first_desk : {W : Type 0} → (W → Option (List ℕ)) → Outlet W → List Fed → ℕ → ServeDeskValue
 first_desk contents outlet heard parts =
     new_desk contents outlet heard (replicate parts [])
 
--- where it ends sound, it ends as planned, with so many families
+-- if the engine ends sound, it ends as planned, with this number of families
 abbrev pub SoundAsPlanned : OpeningValue → ServeEnding → Type 0
 SoundAsPlanned o (Sound families committed input) =
     (closed : Closed) × EndsServingAsPlanned o closed
@@ -49,17 +51,18 @@ SoundAsPlanned o Memory = Unit {0}
 SoundAsPlanned o Threads = Unit {0}
 SoundAsPlanned o Unwritten = Unit {0}
 
--- an engine with this opening was served, by a desk in this state, until it ended so
+-- an engine with this opening was served, by a desk that began as `before`, until it ended with
+-- `ending`
 abbrev pub EngineServes : {W : Type 0} → (W → Option (List ℕ)) → OpeningValue → ServeDeskValue → ServeEnding → Outlet W → Type 0
 EngineServes contents o before ending new =
     (engine : Standing) × Stands o [] engine × HasEndedWithOutlet contents engine before ending new × SoundAsPlanned o ending
 
--- or there was no memory for it
+-- the same, or memory ran out before
 abbrev pub ServesOpening : {W : Type 0} → (W → Option (List ℕ)) → OpeningValue → ServeDeskValue → Outlet W → ServeEnding → Outlet W → Type 0
 ServesOpening contents o before outlet ending new =
     EngineServes contents o before ending new ⊎ ((ending ≡ Memory) × (new ≡ outlet))
 
--- nothing was served, since the header has a fault, or there was no memory or no thread
+-- nothing was served: the header has a fault, memory ran out, or a thread was missing
 abbrev pub ServesNone : ServeEnding → Type 0
 ServesNone (NoHeader fault) = Unit {0}
 ServesNone Memory = Unit {0}
@@ -68,13 +71,14 @@ ServesNone (Sound families committed input) = ⊥
 ServesNone (Unsound defect) = ⊥
 ServesNone Unwritten = ⊥
 
--- an engine with some opening was served, or nothing was
+-- an engine with some opening was served, or none was
 abbrev pub ServesSome : {W : Type 0} → (W → Option (List ℕ)) → Outlet W → ServeEnding → Outlet W → Type 0
 ServesSome contents outlet ending new =
     ((o : OpeningValue) × (heard : List Fed) × EngineServes contents o (first_desk contents outlet heard o.new.parts) ending new)
     ⊎ (ServesNone ending × (new ≡ outlet))
 
--- what a writer holds grew by what an engine with some opening wrote, if one was served, and by the line of how it ended
+-- what a writer holds grew by what an engine with some opening wrote, if one was served, and by the
+-- line of its ending
 pub record ServesWriter {W : Type 0} (contents : W → Option (List ℕ)) (old new : W) (told : ServeEnding) : Type 0 where
   pub first : Outlet W
   pub first_writer : first.writer ≡ old
@@ -85,9 +89,10 @@ pub record ServesWriter {W : Type 0} (contents : W → Option (List ℕ)) (old n
   pub tells : TellsEnding contents last ending end told
   pub end_writer : end.writer ≡ new
 
--- an engine was served from its opening on, and ended sound with these totals, closed where it was planned: no answer is missing, and
--- no job waits. What a writer holds grew by the line of each answer, once, those of each partition in their order, by other lines, and
--- last by the line of this ending
+-- an engine was served from its opening on, and ended sound with these totals, closed where
+-- planned: no answer is missing, and no job waits; what a writer holds grew by the line of each
+-- answer, once, those of each partition in their order, by other lines, and last by the line of
+-- this ending
 pub record SoundService (families committed : ℕ) (input : InputOutcome) (old new : Option (List ℕ)) : Type 0 where
   pub opening : OpeningValue
   pub engine : Standing
@@ -100,7 +105,7 @@ pub record SoundService (families committed : ℕ) (input : InputOutcome) (old n
   pub writes : WritesEach (all_exchanged ended.events) before after
   pub written : Appends old new (flat_map said_line writes.said ++ outcome_line (outcome.Sound families committed))
 
--- a sound ending means that the service was a sound one
+-- a sound ending means a sound service
 abbrev pub ServesSoundly : Option (List ℕ) → Option (List ℕ) → ServeEnding → Type 0
 ServesSoundly old new (Sound families committed input) = SoundService families committed input old new
 ServesSoundly old new (Unsound defect) = Unit {0}

@@ -12,7 +12,7 @@ use Rattle.sq_service.specs.declared.page_book.PageBook.{PageBook}
 use Rattle.sq_service.specs.Events.{HasServed}
 use Rattle.sq_service.specs.Ends.{HasEndedServing}
 
--- an engine ends since memory ran out or a thread was missing
+-- an engine ends because memory ran out or a thread was missing
 abbrev pub EndsForWant : ServeEnding → Type 0
 EndsForWant Memory = Unit {0}
 EndsForWant Threads = Unit {0}
@@ -21,7 +21,7 @@ EndsForWant (Unsound defect) = ⊥
 EndsForWant (NoHeader fault) = ⊥
 EndsForWant Unwritten = ⊥
 
--- the engine that was served whole, unless memory ran out or a thread was missing
+-- the engine of an epoch that was served whole, unless memory ran out or a thread was missing
 abbrev pub IsWholeEngine : Result EngineServed Standing → Result Standing ServeEnding → Type 0
 IsWholeEngine (Ok served) (Ok engine) =
     (engine ≡ served.engine) × (served.is_whole ≡ true) × (served.lacks_threads ≡ false) × (served.lacks_memory ≡ false)
@@ -29,7 +29,7 @@ IsWholeEngine (Ok served) (Err ending) = ending ≡ (if served.lacks_threads the
 IsWholeEngine (Err back) (Ok engine) = ⊥
 IsWholeEngine (Err back) (Err ending) = ending ≡ Memory
 
--- an epoch was served, or memory ran out or a thread was missing: before it, or in it
+-- an epoch was served; or memory ran out or a thread was missing, before it or in it
 abbrev pub EpochGives : Standing → ServeDeskValue → Result Standing ServeEnding → ServeDeskValue → Type 0
 EpochGives old before (Ok new) after = EpochIsWritten old before new after true
 EpochGives old before (Err ending) after =
@@ -46,12 +46,12 @@ abbrev pub StepGives : PageBook → Standing → ServeDeskValue → PageBook →
 StepGives was old before now (Ok new) after = HasServed was old before now new after
 StepGives was old before now (Err ending) after = HasEndedServing was old before ending after
 
--- the engine, unless the page beside its epoch ends it
+-- the engine, or else the ending that the audit of the page requires
 abbrev pub first_ending : Result Unit ServeEnding → Result Standing ServeEnding → Result Standing ServeEnding
 first_ending (Ok _) engine = engine
 first_ending (Err ending) engine = Err ending
 
--- the commits of a sound page were counted, or why none were
+-- the commits of a sound page were counted, or else this is the ending
 abbrev pub EntersPage : ℕ → Result PageCounts ServeEnding → ℕ → Result Unit ServeEnding → Type 0
 EntersPage was (Ok counts) now (Ok _) = was + counts.committed < 2 ^ 64 → now ≡ was + counts.committed
 EntersPage was (Ok counts) now (Err ending) = ⊥

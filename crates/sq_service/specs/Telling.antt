@@ -1,4 +1,4 @@
--- The last line that an engine writes that was served.
+-- The last line of an engine that was served.
 use Rattle.std.specs.Prelude.{◌≡◌, false, ℕ, if◌then◌else◌, List, [], Option, None}
 use Rattle.std.specs.Option.{option_map_or}
 use Rattle.std.specs.Io.KnownBytes.{Appends}
@@ -30,7 +30,7 @@ IsLineOfEnding Memory text = text ≡ fault_line memory_number
 IsLineOfEnding Threads text = text ≡ fault_line memory_number
 IsLineOfEnding Unwritten text = text ≡ []
 
--- such a line was written
+-- a line with this property was written
 abbrev pub SaysLine : {W : Type 0} → (List ℕ → Type 0) → (W → Option (List ℕ)) → Outlet W → Outlet W → Type 0
 SaysLine is contents old new = (text : List ℕ) × is text × Says contents old text new
 

@@ -1,4 +1,4 @@
-// What lines after a header ask.
+// What the lines after a header ask.
 ghost use Rattle.std.specs.Prelude.{◌≡◌, Ok};
 ghost use Rattle.sq_schema.specs.declared.schema.TheConstants.{MAX_TABLES};
 ghost use Rattle.sq_serve.specs.ServeLines.{serve_line_of, IsServeLine};
@@ -11,7 +11,7 @@ use sq_server::{Fed, InputEnd};
 use sq_text::InputFault;
 use std::alloc::{AllocError, Global};
 
-/// What the next piece of an input, in a line that stands there, is to be handed on as.
+/// What is handed on for the next piece of an input; `place` is where its line is.
 pub(crate) fn fed_of(alloc: Global, next: Next, place: LinePlace, piece: &[u8]) -> Fed {
     match next {
         Next::Line | Next::Rest => Fed::Line {
@@ -41,7 +41,7 @@ fn asked_by(alloc: Global, line: &[u8]) -> Result<ServeLine, ServeFault>
     shared(read_serve_line(alloc, &largest_schema(), line)?)
 }
 
-// What a line asks, so that copies of its transaction share its operations.
+// The same, with a transaction whose copies share its operations.
 fn shared(asks: ServeLine) -> Result<ServeLine, ServeFault>
     ensures { IsServeLine result (Ok asks) }
 {
@@ -54,7 +54,7 @@ fn shared(asks: ServeLine) -> Result<ServeLine, ServeFault>
     }
 }
 
-// Nothing is read after a fault of a line.
+// The end of an input after the fault of a line, after which nothing is read.
 fn broken(fault: InputFault, place: LinePlace) -> InputEnd {
     InputEnd::Broken {
         fault: fault.number(),

@@ -13,8 +13,8 @@ use std::io::Write;
 use std::sync::Wait;
 use std::thread::Threads;
 
-/// Closes an engine at rest, and says how it ends; where a job waits beside its queue, the engine continues. So many jobs were
-/// committed on the pages before.
+/// Closes an engine at rest, and returns how it ends; if a job waits beside its queue, the engine
+/// continues instead. `committed` jobs were committed on the pages before.
 pub(crate) fn close_unless_jobs_wait<T: Threads + Wait + Sync, W: Write + Drop>(
     rt: &T,
     alloc: Global,
@@ -33,7 +33,7 @@ pub(crate) fn close_unless_jobs_wait<T: Threads + Wait + Sync, W: Write + Drop>(
     Err(close_unless_stopped(rt, alloc, engine, desk, committed))
 }
 
-// Closes an engine, unless its desk has stopped, and says how it ends.
+// Closes an engine, unless its desk has stopped, and returns how it ends.
 fn close_unless_stopped<T: Threads + Wait + Sync, W: Write + Drop>(
     rt: &T,
     alloc: Global,
@@ -57,7 +57,7 @@ fn close_unless_stopped<T: Threads + Wait + Sync, W: Write + Drop>(
     }
 }
 
-// Closes an engine whose input ended so, and says how it ends.
+// Closes an engine whose input ended with `input`, and returns how it ends.
 fn close<T: Threads + Wait + Sync>(
     rt: &T,
     alloc: Global,
@@ -81,7 +81,7 @@ fn close<T: Threads + Wait + Sync>(
     }
 }
 
-// How a closed engine ends, whose input ended so.
+// How a closed engine ends whose input ended with `input`.
 fn judge_closed<T: Threads + Sync>(
     rt: &T,
     alloc: Global,

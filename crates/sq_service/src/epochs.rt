@@ -17,14 +17,14 @@ use std::io::Write;
 use std::sync::Wait;
 use std::thread::{Threads, join};
 
-/// Whether an engine that is served continues, or how it ends.
+/// An engine that continues, or how it ended, with its desk.
 #[derive(Drop)]
 pub(crate) struct ServiceStep<W: Write + Drop> {
     pub(crate) desk: ServeDesk<W>,
     pub(crate) engine: Result<Engine, ServeEnding>,
 }
 
-/// Serves an epoch, and audits the page beside it that is due, if one is.
+/// Serves an epoch, and audits beside it the page that is due, if there is one.
 pub(crate) fn go_through_epoch<T: Threads + Wait + Sync, W: Write + Drop, V: ServeWatch>(
     rt: &T,
     alloc: Global,
@@ -43,7 +43,7 @@ pub(crate) fn go_through_epoch<T: Threads + Wait + Sync, W: Write + Drop, V: Ser
     }
 }
 
-// Serves an epoch, audits beside it the page that is due, and notes the outcome.
+// Serves an epoch, audits beside it the page that is due, and records the outcome.
 fn serve_with_due<T: Threads + Wait + Sync, W: Write + Drop, V: ServeWatch>(
     rt: &T,
     alloc: Global,
@@ -70,7 +70,7 @@ fn serve_with_due<T: Threads + Wait + Sync, W: Write + Drop, V: ServeWatch>(
     }
 }
 
-// The engine, unless the page beside its epoch ends it.
+// The engine, or else the ending that the audit of the page requires.
 fn unless_ended(
     entered: Result<(), ServeEnding>,
     engine: Result<Engine, ServeEnding>,
@@ -115,7 +115,7 @@ fn serve_one_epoch<T: Threads + Wait + Sync, W: Write + Drop, V: ServeWatch>(
     }
 }
 
-// Marks what is not marked of an epoch that was served.
+// Marks what hasn't been marked yet of an epoch that was served.
 fn mark_served<V: ServeWatch>(
     marks: &mut EpochMarks<'_, V>,
     served: &Result<EngineServed, Engine>,
@@ -181,7 +181,7 @@ fn serve_beside_audit<T: Threads + Wait + Sync, W: Write + Drop, V: ServeWatch>(
     )
 }
 
-// Notes the outcome of the audit of a page, and writes it where a line asked for it.
+// Records the outcome of the audit of a page, and writes it if a line asked for it.
 fn enter_page<W: Write + Drop>(
     book: &mut PageBook,
     judged: Result<PageCounts, ServeEnding>,
@@ -204,7 +204,7 @@ fn enter_page<W: Write + Drop>(
     }
 }
 
-// Writes what a sound page has, where a line asked for it.
+// Writes the counts of a sound page, if a line asked for it.
 fn tell_folded<W: Write + Drop>(desk: &mut ServeDesk<W>, is_asked: bool, counts: PageCounts)
     ensures speaks { Speaks (desk_value W.contents desk.old) (desk_value W.contents desk.new) }
     ensures answers { AnswersFold is_asked counts (desk_value W.contents desk.old)

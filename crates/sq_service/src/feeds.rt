@@ -18,7 +18,7 @@ pub(crate) struct Refused {
 }
 
 impl Refused {
-    /// Memory ran out.
+    /// The fault that memory ran out, which has no line.
     pub(crate) fn for_memory() -> Refused {
         Refused {
             located: InputFault::Memory.at_no_line(),
@@ -27,12 +27,13 @@ impl Refused {
     }
 }
 
-/// Where a reader hands on what it reads: the header, and what the lines after it ask. It knows where these stand.
+/// The rings over which a reader hands on the header, and what the lines after it ask; and the
+/// places of lines.
 #[derive(Drop)]
 pub(crate) struct Feeds<P: LinePlaces + Drop> {
     pub(crate) header: Producer<Header>,
     pub(crate) lines: Producer<Fed>,
-    /// It rings for who takes the lines.
+    /// Rings for the thread that takes the lines.
     pub(crate) bell: Arc<Bell, Global>,
     pub(crate) places: P,
 }
@@ -52,12 +53,12 @@ impl<P: LinePlaces + Drop> Feeds<P> {
         give(rt, &mut self.header, &self.bell, Err(faulty));
     }
 
-    /// Hands on what a line asks, or how the input ends. Gives whether anybody takes it.
+    /// Hands on what a line asks, or how the input ends. Returns whether anybody takes it.
     pub(crate) fn hand_on<R: Wait>(&mut self, rt: &R, fed: Fed) -> bool {
         give(rt, &mut self.lines, &self.bell, fed)
     }
 
-    /// Where the line with this number stands.
+    /// The place of line `number`.
     pub(crate) fn place(&self, number: u64) -> LinePlace {
         self.places.place(number)
     }

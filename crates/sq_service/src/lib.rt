@@ -1,4 +1,5 @@
-//! An engine behind a pipe: it reads an opening and then lines, for as long as they come, and answers each of them.
+//! Serves an engine behind a pipe: reads an opening and then lines, for as long as they come, and
+//! answers each of them.
 #![tactic(auto)]
 
 mod asking;

@@ -16,7 +16,7 @@ use std::io::Write;
 use std::sync::Wait;
 use std::thread::Threads;
 
-/// Begins a move that a line asks for, or refuses it.
+/// Begins the move that a line asks for, or refuses it. Ends the engine if memory runs out.
 pub(crate) fn begin_move<T: Threads + Wait + Sync, W: Write + Drop, V: ServeWatch>(
     rt: &T,
     alloc: Global,
@@ -38,7 +38,8 @@ pub(crate) fn begin_move<T: Threads + Wait + Sync, W: Write + Drop, V: ServeWatc
     }
 }
 
-// Refuses a move to the plan with this text that a line asks for, or ends the engine if there is no memory.
+// Refuses the move to the plan with this text that a line asks for, or ends the engine if memory
+// ran out.
 fn refuse_move<W: Write + Drop, V: ServeWatch>(
     engine: Engine,
     why: NotMoved,
@@ -66,7 +67,8 @@ fn refuse_move<W: Write + Drop, V: ServeWatch>(
     }
 }
 
-// Lets `watch` know why a move from `old` to the plan with this text is refused, if the text is there.
+// Tells `watch` why the move from `old` to the plan with this text is refused, if the text is
+// known.
 fn explain_move<V: ServeWatch>(
     engine: &Engine,
     watch: &V,
@@ -86,7 +88,7 @@ fn explain_move<V: ServeWatch>(
     }
 }
 
-// Writes that the move of an engine begins, and where nothing moves that it is done.
+// Writes that a move begins, and that it is done if nothing moves.
 fn tell_begun<W: Write + Drop, V: ServeWatch>(
     engine: Engine,
     desk: &mut ServeDesk<W>,
@@ -132,7 +134,7 @@ pub(crate) fn note_rest<W: Write + Drop, V: ServeWatch>(
     }
 }
 
-// Writes that the move that is so far is done, if nothing moves any more.
+// Writes that a move with this progress is done, if nothing moves any more.
 fn note_end<W: Write + Drop, V: ServeWatch>(
     engine: &Engine,
     desk: &mut ServeDesk<W>,
@@ -153,7 +155,7 @@ fn note_end<W: Write + Drop, V: ServeWatch>(
     }
 }
 
-// Writes that a move of so many segments is done.
+// Writes that a move of `segments` segments is done.
 fn end_move<W: Write + Drop>(
     engine: &Engine,
     desk: &mut ServeDesk<W>,

@@ -8,8 +8,8 @@ use sq_audit::Verdict;
 use sq_engine::{Closed, RestPage};
 use sq_gather::Gathered;
 use sq_live::count_commits;
-use sq_runs::RunStore;
 use sq_server::{AuditProgress, ServeEnding};
+use sq_slab::SlabStore;
 use std::alloc::Global;
 use std::thread::Threads;
 
@@ -20,14 +20,15 @@ pub(crate) struct PageToAudit {
     pub(crate) is_asked: bool,
 }
 
-/// What a sound page has.
+/// The counts of a sound page.
 #[derive(Clone, Copy)]
 pub(crate) struct PageCounts {
     pub(crate) families: u64,
     pub(crate) committed: u64,
 }
 
-/// Audits a page, and says how far that is: what the page has, or how an engine ends whose page isn't sound.
+/// Audits a page, and reports the progress to `progress`. Returns the counts of the page, or how
+/// the engine ends if the page isn't sound.
 pub(crate) fn audit_beside<T: Threads + Sync>(
     rt: &T,
     alloc: Global,
@@ -38,13 +39,14 @@ pub(crate) fn audit_beside<T: Threads + Sync>(
 {
     progress.begin();
     let judged = audit_rest_page(rt, alloc, &page);
-    // An epoch ends once the audit has: it shouldn't wait for the memory of the page.
+    // An epoch ends as soon as the audit has; it shouldn't wait until the page's memory is freed,
+    // so that comes first.
     drop(page);
     progress.end();
     judged
 }
 
-// What a page of an engine at rest has, or how an engine ends whose page isn't sound.
+// The counts of a page of an engine at rest, or how the engine ends if the page isn't sound.
 fn audit_rest_page<T: Threads + Sync>(
     rt: &T,
     alloc: Global,
@@ -58,7 +60,7 @@ fn audit_rest_page<T: Threads + Sync>(
     }
 }
 
-/// What the last page of an engine has, or how an engine ends whose last page isn't sound.
+/// The counts of the last page of an engine, or how the engine ends if that page isn't sound.
 pub(crate) fn audit_closed<T: Threads + Sync>(
     rt: &T,
     alloc: Global,
@@ -73,7 +75,7 @@ pub(crate) fn audit_closed<T: Threads + Sync>(
     }
 }
 
-// What a page has by this verdict, or how an engine ends whose page isn't sound.
+// The counts of a page with this verdict, or how the engine ends if the page isn't sound.
 fn judge(verdict: Verdict, run: &Gathered) -> Result<PageCounts, ServeEnding>
     ensures { IsJudgedAs run.now verdict result }
 {
@@ -86,8 +88,8 @@ fn judge(verdict: Verdict, run: &Gathered) -> Result<PageCounts, ServeEnding>
     }
 }
 
-/// How many families stores have.
-pub(crate) fn count_families(stores: &[RunStore]) -> u64
+/// How many families `stores` have; the most that 64 bits count if they are more.
+pub(crate) fn count_families(stores: &[SlabStore]) -> u64
     ensures { sum_by (λ store. len store) stores.now < 2 ^ 64
         → result ≡ sum_by (λ store. len store) stores.now }
 {

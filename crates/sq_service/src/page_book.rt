@@ -3,17 +3,17 @@ ghost use Rattle.std.specs.Prelude.{◌≡◌, ◌+◌, ◌^◌, ◌<◌, None, 
 
 use crate::page_audit::{PageCounts, PageToAudit};
 
-/// What is known of the pages of an engine that is served.
+/// The pages of an engine that is served.
 #[derive(Drop)]
 pub(crate) struct PageBook {
-    /// The page that is to be audited beside the next epoch.
+    /// The page to audit beside the next epoch.
     pub(crate) due: Option<PageToAudit>,
-    /// How many jobs were committed, by the pages that were found sound.
+    /// How many jobs were committed on the pages that were found sound.
     pub(crate) committed: u64,
 }
 
 impl PageBook {
-    /// The book of an engine without a page.
+    /// The book of an engine that has no page yet.
     pub(crate) fn new() -> PageBook
         ensures { result ≡ record { due = None; committed = 0 } }
     {
@@ -23,7 +23,7 @@ impl PageBook {
         }
     }
 
-    /// Takes the page that is to be audited, if there is one.
+    /// Takes the page to audit, if there is one.
     pub(crate) fn take_due(&mut self) -> Option<PageToAudit>
         ensures due { result ≡ self.old.due }
         ensures taken { self.new ≡ record self.old { due = None } }
@@ -31,14 +31,14 @@ impl PageBook {
         self.due.take()
     }
 
-    /// Lets a page be audited beside the next epoch.
+    /// Sets the page to audit beside the next epoch.
     pub(crate) fn put_due(&mut self, page: PageToAudit)
         ensures { self.new ≡ record self.old { due = Some page } }
     {
         self.due = Some(page);
     }
 
-    /// Takes note of what a sound page has.
+    /// Adds the commits of a sound page.
     pub(crate) fn enter(&mut self, counts: PageCounts)
         ensures due { self.new.due ≡ self.old.due }
         ensures committed { self.old.committed + counts.committed < 2 ^ 64

@@ -6,16 +6,17 @@ use sq_text::{InputFault, InputLine, LocatedFault, MAX_LINE};
 use std::alloc::{AllocError, Global};
 use std::io::Read;
 
-// What the first line begins with.
+// How the first line begins.
 const PLAN: &[u8] = b"plan ";
 
-// The number of the first line of the rows in a header whose plans have two lines.
+// The number of the first line of the rows in a header that has its plans on two lines.
 const FIRST_ROW: u64 = 4;
 
 // The byte that ends a line.
 const LINE_END: u8 = 10;
 
-/// The first two lines of a header, made of the first line of an input, `plan JSON`: both of them have this plan.
+/// The first two lines of a header, made from the first line of an input, `plan JSON`: both have
+/// this plan.
 pub(crate) fn header_start<I: Read>(alloc: Global, input: &mut I) -> Result<Vec<u8>, Refused> {
     match first_line(alloc, input) {
         Ok(line) => plan_twice(alloc, line.as_slice()),
@@ -27,7 +28,8 @@ pub(crate) fn header_start<I: Read>(alloc: Global, input: &mut I) -> Result<Vec<
     }
 }
 
-/// The line that has this fault and wasn't read: where it isn't of its form the input ends before it.
+/// The line with this fault, if it wasn't read: a line that isn't of its form is missing, since the
+/// input ends before it.
 pub(crate) fn unread_line(fault: InputFault) -> HeaderLine {
     if fault == InputFault::BadHeader {
         HeaderLine::Missing
@@ -36,7 +38,7 @@ pub(crate) fn unread_line(fault: InputFault) -> HeaderLine {
     }
 }
 
-// The two lines of the plan that a line spells.
+// The two lines of the plan that `line` spells.
 fn plan_twice(alloc: Global, line: &[u8]) -> Result<Vec<u8>, Refused> {
     if !line.starts_with(PLAN) {
         return Err(Refused {
@@ -51,7 +53,7 @@ fn plan_twice(alloc: Global, line: &[u8]) -> Result<Vec<u8>, Refused> {
     }
 }
 
-// The bytes of the first line, without its end. What is behind it isn't read.
+// The bytes of the first line, without its end. Nothing after it is read.
 fn first_line<I: Read>(alloc: Global, input: &mut I) -> Result<Vec<u8>, InputFault> {
     let mut line = Vec::new(alloc);
     for _byte in 0..=MAX_LINE {
@@ -76,7 +78,8 @@ fn next_byte<I: Read>(input: &mut I) -> Result<Option<u8>, InputFault> {
     }
 }
 
-/// The fault of a header with its plan on one line, made of the fault of the same header with it on two.
+/// The fault of a header with its plan on one line, from the fault of the same header with its plan
+/// on two.
 pub(crate) fn on_one_line(located: LocatedFault) -> LocatedFault {
     LocatedFault {
         fault: located.fault,
@@ -84,7 +87,7 @@ pub(crate) fn on_one_line(located: LocatedFault) -> LocatedFault {
     }
 }
 
-// The number that a line has where the plan is on one line, made of its number where the plan is on two.
+// The line of a header with its plan on one line, from the same line with the plan on two.
 fn line_before(line: InputLine) -> InputLine {
     match line {
         InputLine::Old | InputLine::New => InputLine::Old,
@@ -95,7 +98,8 @@ fn line_before(line: InputLine) -> InputLine {
     }
 }
 
-/// The fault of a row in a portion of an input whose first line has this number. It counts the rows from the first of the portion.
+/// The fault of a row in a portion whose first line is line `number` of the input. `located` counts
+/// the rows from the first of the portion.
 pub(crate) fn on_later_line(located: LocatedFault, number: u64) -> LocatedFault {
     LocatedFault {
         fault: located.fault,
@@ -106,7 +110,7 @@ pub(crate) fn on_later_line(located: LocatedFault, number: u64) -> LocatedFault 
     }
 }
 
-/// The line with this number of a header, after the sizes.
+/// Line `number` of a header, after the sizes.
 pub(crate) fn line_at(number: u64) -> InputLine {
     if number < FIRST_ROW {
         InputLine::Config

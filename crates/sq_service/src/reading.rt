@@ -15,19 +15,19 @@ use std::sync::Wait;
 // How many lines a portion of the input has.
 const PORTION: usize = MAX_LINES as usize;
 
-// How many lines the first line of an input becomes.
+// How many header lines the first line of an input becomes.
 const PLAN_LINES: usize = 2;
 
-/// What a portion of an input ends in.
+/// How a portion of an input ends.
 #[derive(Drop)]
 enum PortionEnd {
-    /// The header, whose rows up to there are in this opening.
+    /// In the header; the opening has the rows up to there.
     Header(Opening),
-    /// The lines after the header.
+    /// In the lines after the header.
     Lines(InputEnd),
 }
 
-/// Reads an input to its end, and hands on what its lines ask. The last one needs no line end.
+/// Reads an input to its end, and hands on what its lines ask. The last line needs no line end.
 pub(crate) fn read_all<R: Wait, I: Read + Drop, P: LinePlaces + Drop>(
     rt: &R,
     alloc: Global,
@@ -41,7 +41,8 @@ pub(crate) fn read_all<R: Wait, I: Read + Drop, P: LinePlaces + Drop>(
     }
 }
 
-// Hands on all that an input asks, and says how it ends; `None` if its header has a fault, or if nobody takes what is handed on.
+// Hands on all that an input asks, and returns how it ends; `None` if its header has a fault, or if
+// nobody takes what is handed on.
 fn read_input<R: Wait, I: Read + Drop, P: LinePlaces + Drop>(
     rt: &R,
     alloc: Global,
@@ -61,7 +62,7 @@ fn read_input<R: Wait, I: Read + Drop, P: LinePlaces + Drop>(
     read_portions(rt, alloc, feeds, portions, first)
 }
 
-// Hands on what all portions after the first one hold, which ended so.
+// Hands on what all portions after the first one hold; `first` is how that one ended.
 fn read_portions<R: Wait, I: Read + Drop, P: LinePlaces + Drop>(
     rt: &R,
     alloc: Global,
@@ -71,7 +72,7 @@ fn read_portions<R: Wait, I: Read + Drop, P: LinePlaces + Drop>(
 ) -> Option<InputEnd> {
     let mut portions = portions;
     let mut end = first;
-    // The first portion has the plan on two lines, and the input on one.
+    // The first portion has the plan on two lines, and the input has it on one.
     let mut number = PORTION as u64;
     for _ in rt.forever() {
         if !goes_on(&end) || !portions.next_portion(PORTION) {
@@ -83,7 +84,7 @@ fn read_portions<R: Wait, I: Read + Drop, P: LinePlaces + Drop>(
     unreachable!()
 }
 
-// Whether more may come after a portion.
+// Returns whether more may come after a portion.
 fn goes_on(end: &PortionEnd) -> bool {
     matches!(
         end,
@@ -91,7 +92,8 @@ fn goes_on(end: &PortionEnd) -> bool {
     )
 }
 
-// Says how an input ends whose last portion ended so. If it is a header alone, that is handed on.
+// How an input ends whose last portion ended with `last`. If the whole input is a header, it is
+// handed on here.
 fn finish<R: Wait, P: LinePlaces + Drop>(
     rt: &R,
     feeds: &mut Feeds<P>,
@@ -128,7 +130,7 @@ fn read_first<R: Wait, I: Read + Drop, P: LinePlaces + Drop>(
     }
 }
 
-// The line of a header that has this fault; it is numbered as in its portion.
+// The header line with this fault; it is numbered as in its portion.
 fn faulty_line<I: Read>(
     alloc: Global,
     lines: &LineReader<I>,
@@ -142,7 +144,8 @@ fn faulty_line<I: Read>(
     }
 }
 
-// Hands on what a portion holds, whose first line has this number. The portion before it ended so.
+// Hands on what a portion holds. `number` is that of its first line in the input, and `before` is
+// how the portion before it ended.
 fn read_portion<R: Wait, I: Read + Drop, P: LinePlaces + Drop>(
     rt: &R,
     alloc: Global,
@@ -157,7 +160,8 @@ fn read_portion<R: Wait, I: Read + Drop, P: LinePlaces + Drop>(
     }
 }
 
-// Takes the rows with which a portion goes on into an opening, and hands on what the portion holds after them.
+// Takes the rows at the start of a portion into `opening`, and hands on what the portion holds
+// after them.
 fn read_rows<R: Wait, I: Read + Drop, P: LinePlaces + Drop>(
     rt: &R,
     alloc: Global,
@@ -182,8 +186,9 @@ fn read_rows<R: Wait, I: Read + Drop, P: LinePlaces + Drop>(
     }
 }
 
-// Goes on after the rows of a portion whose first line has this number: the header ends before a line that asks something, and it
-// may go on in the next portion. It has any other line for a fault.
+// Continues after the rows of a portion whose first line is line `number`. The header ends before
+// the first line that asks something, and may continue in the next portion; any other line is a
+// fault of it.
 fn read_after_rows<R: Wait, I: Read + Drop, P: LinePlaces + Drop>(
     rt: &R,
     alloc: Global,
@@ -222,7 +227,7 @@ fn fault_after_rows(next: Next, piece: &[u8]) -> Option<InputFault> {
     }
 }
 
-// Hands on what the lines of a portion ask, the first of which has this number.
+// Hands on what the lines of a portion ask; `number` is that of its first line in the input.
 fn read_only_lines<R: Wait, I: Read + Drop, P: LinePlaces + Drop>(
     rt: &R,
     alloc: Global,
@@ -236,8 +241,8 @@ fn read_only_lines<R: Wait, I: Read + Drop, P: LinePlaces + Drop>(
     }
 }
 
-// Hands on what lines ask; the first line of their portion has this number. Says how they end; `None` if nobody takes what is
-// handed on.
+// Hands on what lines ask, and returns how they end; `None` if nobody takes what is handed on.
+// `number` is that of the first line of their portion.
 fn read_lines<R: Wait, I: Read + Drop, P: LinePlaces + Drop>(
     rt: &R,
     alloc: Global,
@@ -260,7 +265,7 @@ fn read_lines<R: Wait, I: Read + Drop, P: LinePlaces + Drop>(
     unreachable!()
 }
 
-// The number of the next line of a portion, whose first line has this number.
+// The number in the input of the next line of a portion whose first line is line `number`.
 fn next_number<I: Read>(number: u64, lines: &LineReader<I>) -> u64 {
     let before = u64::from(lines.next_line_number()).saturating_sub(1);
     number.saturating_add(before)

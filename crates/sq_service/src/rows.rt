@@ -8,23 +8,23 @@ ghost use Rattle.sq_service.specs.Rows.{IsRowsText, GivesRows, RowsAreGiven, Tel
 use crate::telling::unread_refusal;
 use sq_engine::{Engine, NotTaken};
 use sq_results::write_stored_rows;
-use sq_runs::RunStore;
 use sq_schema::OUT_OF_MEMORY;
 use sq_serve::{LinePlace, RowsFile, ServeAnswer, ServeWatch, line_ends};
 use sq_server::{AskedRows, ServeDesk};
+use sq_slab::SlabStore;
 use std::alloc::Global;
 use std::io;
 use std::io::Write;
 use std::sync::Wait;
 
-// The number of the refusal while rows move.
+// The number of the refusal if rows move.
 const MOVING: u16 = 217;
 
-// The number of the refusal where a file can't be written.
+// The number of the refusal if a file can't be written.
 const UNWRITTEN: u16 = 124;
 
-/// Writes the rows of an engine at rest, or has them saved in the file that a line names. Where rows move, or there
-/// is no memory, it says so.
+/// Writes the rows of an engine at rest, or has them saved in the file that a line names. If rows
+/// move, the line is refused with 217; if memory runs out, it is answered with a fault.
 pub(crate) fn tell_rows<R: Wait, W: Write + Drop, V: ServeWatch>(
     rt: &R,
     alloc: Global,
@@ -50,7 +50,7 @@ pub(crate) fn tell_rows<R: Wait, W: Write + Drop, V: ServeWatch>(
     }
 }
 
-// Says why the rows that a line asks for don't come.
+// Answers a line that asks for rows with the reason why they can't be had.
 fn say_not_paused<W: Write + Drop, V: ServeWatch>(
     desk: &mut ServeDesk<W>,
     watch: &V,
@@ -66,7 +66,8 @@ fn say_not_paused<W: Write + Drop, V: ServeWatch>(
     }
 }
 
-// Writes the rows of an engine while no epoch of it runs, or has them saved. Without memory for that it says so.
+// Writes the rows of an engine between two epochs, or has them saved. If memory runs out, the line
+// is answered with a fault.
 fn give_engine_rows<W: Write + Drop, V: ServeWatch>(
     alloc: Global,
     engine: &Engine,
@@ -89,8 +90,8 @@ fn give_engine_rows<W: Write + Drop, V: ServeWatch>(
     }
 }
 
-// The lines of the rows of stores. An error is that there is no memory.
-fn rows_text(alloc: Global, stores: &[RunStore]) -> io::Result<Vec<u8>>
+// The lines of the rows of `stores`. Fails if memory runs out.
+fn rows_text(alloc: Global, stores: &[SlabStore]) -> io::Result<Vec<u8>>
     ensures { IfOk result (λ text. IsRowsText stores.now text.items) }
 {
     let mut text = Vec::new(alloc);
@@ -98,7 +99,7 @@ fn rows_text(alloc: Global, stores: &[RunStore]) -> io::Result<Vec<u8>>
     Ok(text)
 }
 
-// Writes rows with these lines, or has them saved in the file that is asked for.
+// Writes the lines of rows, or has them saved in the file that is asked for.
 fn give_rows<W: Write + Drop, V: ServeWatch>(
     desk: &mut ServeDesk<W>,
     watch: &V,
@@ -115,7 +116,8 @@ fn give_rows<W: Write + Drop, V: ServeWatch>(
     }
 }
 
-// Has rows with these lines saved in a file, and says how many there are, or that the file can't be written.
+// Has the lines of rows saved in a file, and writes how many there are, or that the file can't be
+// written.
 fn save_rows<W: Write + Drop, V: ServeWatch>(
     desk: &mut ServeDesk<W>,
     watch: &V,

@@ -16,7 +16,7 @@ use std::io::Write;
 use std::sync::Wait;
 use std::thread::Threads;
 
-/// Serves an engine without a page until it ends, epoch by epoch.
+/// Serves an engine that has no page yet, epoch by epoch, until it ends.
 pub(crate) fn serve_engine<T: Threads + Wait + Sync, W: Write + Drop, V: ServeWatch>(
     rt: &T,
     alloc: Global,
@@ -45,7 +45,7 @@ pub(crate) fn serve_engine<T: Threads + Wait + Sync, W: Write + Drop, V: ServeWa
     unreachable!()
 }
 
-// Serves an epoch, and does what it ended for. What was said before it begins goes out.
+// Flushes the output, serves an epoch, and does what the epoch ended for.
 fn serve_step<T: Threads + Wait + Sync, W: Write + Drop, V: ServeWatch>(
     rt: &T,
     alloc: Global,

@@ -23,14 +23,13 @@ use std::io::{Read, Write};
 use std::sync::{Arc, Wait};
 use std::thread::{Builder, Threads};
 
-/// How an engine is served.
+/// The options of an engine that is served.
 #[derive(Clone, Copy, Debug)]
 pub struct ServeConfig {
-    /// How many pumps there are.
     pub pumps: u32,
     /// After how many answers a page is taken.
     pub fold_after: u64,
-    /// Whether it ends after the first line with a fault or a refusal.
+    /// Whether the input ends after its first line that is refused or has a fault.
     pub is_strict: bool,
 }
 
@@ -48,8 +47,10 @@ struct Handed {
     lines: HandedLines,
 }
 
-/// Serves an engine until its input ends: reads its header and then lines, which stand in these places, and writes the answers.
-/// Who watches saves the rows that a line wants in a file, and tells why a line is refused.
+/// Serves an engine until its input ends: reads a header and then lines from `input`, and writes
+/// the answers to `writer`. Returns the writer, and how the engine ended. `places` maps the number
+/// of a line to its place; `watch` saves the rows that a line `rows FILE` asks for, and learns why
+/// a line is refused.
 pub fn serve<T, I, P, W, V>(
     rt: &T,
     alloc: Global,
@@ -74,7 +75,7 @@ where
     (outlet.writer, ending)
 }
 
-// Serves an engine until its input ends.
+// The same, without the line of the ending.
 fn serve_input<T, I, P, W, V>(
     rt: &T,
     alloc: Global,
@@ -99,7 +100,8 @@ where
     }
 }
 
-// Starts a thread that reads an input. It isn't joined, since a read can't be cut off. An error is how serving ends without it.
+// Starts a thread that reads `input`. It isn't joined, since a read can't be interrupted. An error
+// is how serving ends without it.
 fn start_reader<T, I, P>(rt: &T, alloc: Global, input: I, places: P) -> Result<Handed, ServeEnding>
 where
     T: Threads + Wait + Sync + Copy + Send + 'static,
@@ -138,7 +140,7 @@ fn open_rings<P: LinePlaces + Drop>(
     Ok((feeds, Handed { header, lines }))
 }
 
-// Serves an engine whose input is handed on there.
+// Serves an engine from what the reader hands on.
 fn serve_handed<T: Threads + Wait + Sync, W: Write + Drop, V: ServeWatch>(
     rt: &T,
     alloc: Global,
@@ -162,7 +164,7 @@ fn serve_handed<T: Threads + Wait + Sync, W: Write + Drop, V: ServeWatch>(
     }
 }
 
-// Serves the engine of a header, unless that has a fault.
+// Serves the engine of a header. If the header has a fault, `watch` is told.
 fn serve_header<T: Threads + Wait + Sync, W: Write + Drop, V: ServeWatch>(
     rt: &T,
     alloc: Global,
@@ -207,7 +209,7 @@ fn serve_opening<T: Threads + Wait + Sync, W: Write + Drop, V: ServeWatch>(
     }
 }
 
-// The desk of an engine that begins with this plan. Where there is no memory the outlet comes back.
+// The desk of an engine that begins with `plan`. If memory runs out, the error returns the outlet.
 fn desk_for<W: Write + Drop>(
     alloc: Global,
     plan: &Plan,

@@ -12,7 +12,7 @@ use sq_serve::{HeaderFault, LinePlace, LineRefusal, ServeAnswer};
 use sq_server::{MoveProgress, Outlet, ServeDesk, ServeEnding};
 use std::io::Write;
 
-/// Tells that a move of so many segments begins.
+/// Writes that a move with this progress begins, and records it.
 pub(crate) fn tell_moving<W: Write + Drop>(desk: &mut ServeDesk<W>, progress: MoveProgress)
     ensures speaks { Speaks (desk_value W.contents desk.old) (desk_value W.contents desk.new) }
     ensures line { WritesText (serve_answer_line (Moving progress.segments))
@@ -24,7 +24,7 @@ pub(crate) fn tell_moving<W: Write + Drop>(desk: &mut ServeDesk<W>, progress: Mo
     desk.moving = Some(progress);
 }
 
-/// Writes that a move of so many segments to the plan with this text is done.
+/// Writes that a move of `segments` segments is done, and records its plan, whose text is `plan`.
 pub(crate) fn tell_moved<W: Write + Drop>(desk: &mut ServeDesk<W>, plan: String, segments: u64)
     ensures speaks { Speaks (desk_value W.contents desk.old) (desk_value W.contents desk.new) }
     ensures line { WritesText (serve_answer_line (Moved segments))
@@ -36,7 +36,7 @@ pub(crate) fn tell_moved<W: Write + Drop>(desk: &mut ServeDesk<W>, plan: String,
     desk.say(ServeAnswer::Moved { segments });
 }
 
-/// The refusal with this number of a line that stands there. Its text isn't kept.
+/// The refusal `number` of the line at `place`, without its text.
 pub(crate) fn unread_refusal(number: u16, place: LinePlace) -> LineRefusal<'static>
     ensures number { result.number ≡ number }
     ensures place { result.place ≡ place }
@@ -50,7 +50,8 @@ pub(crate) fn unread_refusal(number: u16, place: LinePlace) -> LineRefusal<'stat
     }
 }
 
-/// Writes how an engine that was served ended, and sees that all goes out.
+/// Writes how an engine that was served ended, and flushes the output. The ending that it returns
+/// is `Unwritten` if a write failed.
 pub(crate) fn tell_ending<W: Write + Drop>(
     outlet: Outlet<W>,
     ending: ServeEnding,

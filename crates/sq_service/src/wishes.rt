@@ -1,4 +1,4 @@
-// What an epoch of an engine that is served ended for.
+// Why an epoch of an engine that is served ended.
 ghost use Rattle.std.specs.Prelude.{◌≡◌, false, None, IfOk, IsOk};
 ghost use Rattle.sq_server.specs.Becoming.{desk_value};
 ghost use Rattle.sq_server.specs.Closing.{wish_of};
@@ -18,8 +18,8 @@ use std::io::Write;
 use std::sync::Wait;
 use std::thread::Threads;
 
-/// Continues after an epoch: says where a move is done, and does what the epoch ended for. All that was written goes out before,
-/// since the wish may take long.
+/// Continues after an epoch: writes that a move is done if it is, and does what the epoch ended
+/// for. It flushes the output first, since the wish may take long.
 pub(crate) fn go_on<T: Threads + Wait + Sync, W: Write + Drop, V: ServeWatch>(
     rt: &T,
     alloc: Global,
@@ -49,7 +49,8 @@ pub(crate) fn go_on<T: Threads + Wait + Sync, W: Write + Drop, V: ServeWatch>(
     }
 }
 
-// Does what an epoch ended for. Where a log is long and nothing moves, a page is taken before.
+// Does what an epoch ended for. If a log is long and nothing moves, it takes a page instead, and
+// the wish stays for later.
 fn page_or_wish<T: Threads + Wait + Sync, W: Write + Drop, V: ServeWatch>(
     rt: &T,
     alloc: Global,
@@ -90,7 +91,7 @@ fn fulfil<T: Threads + Wait + Sync, W: Write + Drop, V: ServeWatch>(
     }
 }
 
-// Does what is wished of an engine.
+// Does what `wish` asks of an engine.
 fn grant<T: Threads + Wait + Sync, W: Write + Drop, V: ServeWatch>(
     rt: &T,
     alloc: Global,

@@ -1,4 +1,7 @@
-use Rattle.std.proofs.Common.{◌≡◌, ◌∷◌, sym, subst}
+use Rattle.std.proofs.Common.{◌≡◌, ◌∷◌, ◌++◌, ◌∙◌, List, sym, ap, subst}
+use Rattle.std.specs.List.{flat_map}
+use Rattle.sq_node.specs.NodeState.{NodeState}
+use Rattle.sq_gather.proofs.ByPart.{same_in_order}
 use Rattle.sq_engine.specs.Values.{EpochValue, receipts_since_page, epoch_value, pause_value}
 use Rattle.sq_engine.specs.History.{EpochEnded, with_other_rows, RunsAfter}
 use Rattle.sq_engine.proofs.Epochs.{gathered_comes}
@@ -27,4 +30,8 @@ returns-in-Ok-clause-ended g c = λ o past runs.
 
 pub returns-in-Ok-clause-receipts : goal.returns-in-Ok-clause-receipts
 returns-in-Ok-clause-receipts g c =
-    subst (λ (e : EpochValue). c.in-Ok.gathered.receipts ≡ receipts_since_page e) c.self.view_is c.in-Ok.ensures.gathered.receipts
+    let run = c.self.inside.run in
+    let gathered = c.in-Ok.ensures.gathered in
+    let same = same_in_order run.nodes.items gathered.by_part gathered.ordered c.self.invariant.2.3.order in
+    subst (λ (e : EpochValue). c.in-Ok.gathered.receipts ≡ receipts_since_page e) c.self.view_is
+    (gathered.receipts ∙ ap (λ (nodes : List NodeState). run.fabric.receipts ++ flat_map (λ (node : NodeState). node.receipts) nodes) same)

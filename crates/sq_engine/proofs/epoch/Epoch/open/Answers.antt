@@ -2,6 +2,7 @@ use Rattle.std.proofs.Common.{List, [], ◌++◌, sym, ap, ◌∙◌, subst}
 use Rattle.sq_node_model.specs.NodeValue.{ReceiptValue}
 use Rattle.sq_node.specs.Opened.{opened_stores}
 use Rattle.sq_audit.specs.declared.job.Job.{Job}
+use Rattle.sq_gather.proofs.AllOf.{new_in_order}
 use Rattle.sq_gather.proofs.Running.{run_begins}
 use Rattle.sq_engine.specs.Values.{epoch_value}
 use Rattle.sq_engine.specs.History.{RunsAfter}
@@ -17,7 +18,8 @@ returns-clause-opened g c =
     let pumps = c.in-Ok.opened.pumps.items in
     subst (λ (jobs : List Job). RunsAfter o [] (epoch_value o jobs fabric nodes pumps)) (sym c.new.ensures)
     (opened_runs o fabric nodes pumps
-    (run_begins o c.args.pumps fabric nodes pumps c.in-Ok.ensures.set_up.opening c.in-Ok.ensures.fabric c.in-Ok.ensures.opened))
+    (run_begins o c.args.pumps fabric nodes pumps c.in-Ok.ensures.set_up.opening c.in-Ok.ensures.fabric c.in-Ok.ensures.opened)
+    (new_in_order o fabric (opened_stores o) nodes c.in-Ok.ensures.opened.each_node))
 
 pub invariant_of-result : goal.invariant_of-result
 invariant_of-result g c =
@@ -29,7 +31,8 @@ invariant_of-result g c =
       [],
       subst (λ (jobs : List Job). RunsAfter o [] (epoch_value o jobs fabric nodes pumps)) (sym c.new.ensures)
           (opened_runs o fabric nodes pumps
-          (run_begins o c.args.pumps fabric nodes pumps c.in-Ok.ensures.set_up.opening c.in-Ok.ensures.fabric c.in-Ok.ensures.opened)),
+          (run_begins o c.args.pumps fabric nodes pumps c.in-Ok.ensures.set_up.opening c.in-Ok.ensures.fabric c.in-Ok.ensures.opened)
+          (new_in_order o fabric (opened_stores o) nodes c.in-Ok.ensures.opened.each_node)),
       c.in-Ok.ensures.set_up,
     )
 

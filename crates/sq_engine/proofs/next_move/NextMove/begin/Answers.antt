@@ -1,6 +1,7 @@
 use Rattle.std.proofs.Common.{sym, ap, ◌∙◌, subst}
 use Rattle.sq_engine.specs.Values.{PauseValue, pause_value}
 use Rattle.sq_engine.specs.History.{IsDueAfter}
+use Rattle.sq_gather.proofs.AllOf.{new_in_order}
 use Rattle.sq_engine.proofs.Epochs.{move_runs}
 use Rattle.sq_engine.proofs.Tellings.{reopened_keeps}
 use Rattle.sq_engine.proofs.next_move.NextMove.begin.Goals as goal
@@ -10,7 +11,8 @@ invariant_of-result c =
     let inside = c.self.inside in
     let was = c.self.invariant in
     let due = pause_value inside.opening inside.jobs inside.gathered in
-    (was.0, was.1, move_runs was.0 was.1 due c.in-Ok.opened.fabric c.in-Ok.opened.nodes.items c.in-Ok.opened.pumps.items was.2 c.in-Ok.ensures.run, was.3)
+    let order = new_in_order _ _ _ _ c.in-Ok.ensures.reopened.each_node in
+    (was.0, was.1, move_runs was.0 was.1 due c.in-Ok.opened.fabric c.in-Ok.opened.nodes.items c.in-Ok.opened.pumps.items was.2 c.in-Ok.ensures.run order, was.3)
 
 pub returns-in-Ok-clause-begun : goal.returns-in-Ok-clause-begun
 returns-in-Ok-clause-begun c = λ o past follows.
@@ -18,6 +20,7 @@ returns-in-Ok-clause-begun c = λ o past follows.
     let due = pause_value inside.opening inside.jobs inside.gathered in
     move_runs o past due c.in-Ok.opened.fabric c.in-Ok.opened.nodes.items c.in-Ok.opened.pumps.items
     (subst (λ (d : PauseValue). IsDueAfter o past d) (sym c.self.view_is) follows) c.in-Ok.ensures.run
+    (new_in_order _ _ _ _ c.in-Ok.ensures.reopened.each_node)
 
 pub returns-in-Ok-clause-receipts : goal.returns-in-Ok-clause-receipts
 returns-in-Ok-clause-receipts c =

@@ -1,6 +1,7 @@
 use Rattle.std.proofs.Common.{sym, ap, ◌∙◌, subst}
 use Rattle.sq_engine.specs.Values.{PauseValue, pause_value}
 use Rattle.sq_engine.specs.History.{HasMoreStages, HasDoneStage, PausesAfter}
+use Rattle.sq_gather.proofs.AllOf.{new_in_order}
 use Rattle.sq_engine.proofs.Epochs.{stage_runs}
 use Rattle.sq_engine.proofs.Tellings.{reopened_keeps}
 use Rattle.sq_engine.proofs.pause.Pause.next_stage.Goals as goal
@@ -14,7 +15,8 @@ invariant_of-result c =
       was.1,
       stage_runs was.0 was.1 here c.in-Ok.opened.fabric c.in-Ok.opened.nodes.items c.in-Ok.opened.pumps.items was.2
           (subst HasDoneStage (sym c.self.view_is) c.requires.done)
-          (subst HasMoreStages (sym c.self.view_is) c.requires.more) c.in-Ok.ensures.run,
+          (subst HasMoreStages (sym c.self.view_is) c.requires.more) c.in-Ok.ensures.run
+          (new_in_order _ _ _ _ c.in-Ok.ensures.reopened.each_node),
       was.3,
     )
 
@@ -26,6 +28,7 @@ returns-in-Ok-clause-begun c = λ o past at.
     (subst (λ (p : PauseValue). PausesAfter o past p) (sym c.self.view_is) at)
     (subst HasDoneStage (sym c.self.view_is) c.requires.done)
     (subst HasMoreStages (sym c.self.view_is) c.requires.more) c.in-Ok.ensures.run
+    (new_in_order _ _ _ _ c.in-Ok.ensures.reopened.each_node)
 
 pub returns-in-Ok-clause-receipts : goal.returns-in-Ok-clause-receipts
 returns-in-Ok-clause-receipts c =

@@ -10,36 +10,36 @@ use Rattle.sq_server.proofs.Desks.{answers_one, status_answered, wish_unheard, w
 use Rattle.sq_server.proofs.desk.ServeDesk.take_asked.Goals as goal
 
 pub returns-in-Move-clause-heard : goal.returns-in-Move-clause-heard
-returns-in-Move-clause-heard g c = wish_unheard (wish.Move (record { place = c.args.place; plan = c.in-Move.plan })) (refused_line 217) _ _ c.want_at_rest.ensures
+returns-in-Move-clause-heard g c = wish_unheard (wish.Move (record { place = c.args.place; plan = c.in-Move.plan })) (refused_line 217) _ _ c.want_at_rest.ensures.either
 
 pub returns-in-Move-clause-handles : goal.returns-in-Move-clause-handles
 returns-in-Move-clause-handles g c =
     rw c.in-Move.is
-    (wishes_one (fed.Line c.args.place (Ok (asks.Move c.in-Move.plan))) (wish.Move (record { place = c.args.place; plan = c.in-Move.plan })) _ _ (inl (refl, refl)) (inr (refl, refl)) (λ part within. refl) c.want_at_rest.ensures)
+    (wishes_one (fed.Line c.args.place (Ok (asks.Move c.in-Move.plan))) (wish.Move (record { place = c.args.place; plan = c.in-Move.plan })) _ _ (inl (refl, refl)) (inr (refl, refl)) (λ part within. refl) c.want_at_rest.ensures.either)
 
 pub returns-in-Fold-clause-heard : goal.returns-in-Fold-clause-heard
-returns-in-Fold-clause-heard g c = wish_unheard wish.Fold (refused_line 217) _ _ c.want_at_rest-in-Fold.ensures
+returns-in-Fold-clause-heard g c = wish_unheard wish.Fold (refused_line 217) _ _ c.want_at_rest-in-Fold.ensures.either
 
 pub returns-in-Fold-clause-handles : goal.returns-in-Fold-clause-handles
 returns-in-Fold-clause-handles g c =
     rw c.in-Fold.is
-    (wishes_one (fed.Line c.args.place (Ok asks.Fold)) wish.Fold _ _ (inl (refl, refl)) (inr (refl, refl)) (λ part within. refl) c.want_at_rest-in-Fold.ensures)
+    (wishes_one (fed.Line c.args.place (Ok asks.Fold)) wish.Fold _ _ (inl (refl, refl)) (inr (refl, refl)) (λ part within. refl) c.want_at_rest-in-Fold.ensures.either)
 
 pub returns-in-Rows-clause-heard : goal.returns-in-Rows-clause-heard
-returns-in-Rows-clause-heard g c = wish_unheard (wish.Rows (record { place = c.args.place; file = None })) (refused_line 217) _ _ c.want_at_rest-in-Rows.ensures
+returns-in-Rows-clause-heard g c = wish_unheard (wish.Rows (record { place = c.args.place; file = None })) (refused_line 217) _ _ c.want_at_rest-in-Rows.ensures.either
 
 pub returns-in-Rows-clause-handles : goal.returns-in-Rows-clause-handles
 returns-in-Rows-clause-handles g c =
     rw c.in-Rows.is
-    (wishes_one (fed.Line c.args.place (Ok asks.Rows)) (wish.Rows (record { place = c.args.place; file = None })) _ _ (inl (refl, refl)) (inr (refl, refl)) (λ part within. refl) c.want_at_rest-in-Rows.ensures)
+    (wishes_one (fed.Line c.args.place (Ok asks.Rows)) (wish.Rows (record { place = c.args.place; file = None })) _ _ (inl (refl, refl)) (inr (refl, refl)) (λ part within. refl) c.want_at_rest-in-Rows.ensures.either)
 
 pub returns-in-RowsTo-clause-heard : goal.returns-in-RowsTo-clause-heard
-returns-in-RowsTo-clause-heard g c = wish_unheard (wish.Rows (record { place = c.args.place; file = Some c.in-RowsTo.file })) (refused_line 217) _ _ c.want_at_rest-in-RowsTo.ensures
+returns-in-RowsTo-clause-heard g c = wish_unheard (wish.Rows (record { place = c.args.place; file = Some c.in-RowsTo.file })) (refused_line 217) _ _ c.want_at_rest-in-RowsTo.ensures.either
 
 pub returns-in-RowsTo-clause-handles : goal.returns-in-RowsTo-clause-handles
 returns-in-RowsTo-clause-handles g c =
     rw c.in-RowsTo.is
-    (wishes_one (fed.Line c.args.place (Ok (asks.RowsTo c.in-RowsTo.file))) (wish.Rows (record { place = c.args.place; file = Some c.in-RowsTo.file })) _ _ (inl (refl, refl)) (inr (refl, refl)) (λ part within. refl) c.want_at_rest-in-RowsTo.ensures)
+    (wishes_one (fed.Line c.args.place (Ok (asks.RowsTo c.in-RowsTo.file))) (wish.Rows (record { place = c.args.place; file = Some c.in-RowsTo.file })) _ _ (inl (refl, refl)) (inr (refl, refl)) (λ part within. refl) c.want_at_rest-in-RowsTo.ensures.either)
 
 pub returns-in-Status-clause-heard : goal.returns-in-Status-clause-heard
 returns-in-Status-clause-heard g c = c.say_status.ensures.2.heard

@@ -1,3 +1,0 @@
-mod Sets
-mod Longer
-mod Interleavings
