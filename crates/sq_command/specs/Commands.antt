@@ -14,7 +14,7 @@ use Rattle.sq_command.specs.declared.owner.TheConstants.{MAX_WIDTH}
 use Rattle.sq_command.specs.declared.demo.TheConstants.{LEAST_PARTITIONS, MAX_PARTITIONS, MAX_ROOTS, MAX_ROWS_PER_ROOT, MAX_JOBS, MAX_HOT, MAX_SEED}
 use Rattle.sq_command.specs.declared.serve.TheConstants.{MAX_FOLD_AFTER}
 
--- the command has this shape, and no argument that goes for its subcommands too, unless memory ran out
+-- the command has this shape and no argument that its subcommands inherit, unless memory ran out
 pub record HasShape (shape : Shape) (made : Result Command AllocError) : Type 0 where
   pub shaped : IfOk made (λ command. shape_of command ≡ shape)
   pub local : IfOk made (λ command. (out-Command command).has_globals ≡ false)
@@ -23,11 +23,11 @@ pub record HasShape (shape : Shape) (made : Result Command AllocError) : Type 0 
 abbrev pub program : Shape
 program = record (new_shape (codes "squall")) { has_version = true; subcommand_required = true }
 
--- an option with a value, as the name of a file
+-- an option with a value, for example the name of a file
 abbrev pub valued_rule : Text → Rule
 valued_rule name = record (new_rule name) { long = Some name; value_names = 1 }
 
--- one whose value this parser takes, and its default
+-- an option whose value this parser accepts, with its default
 abbrev pub option_rule : Text → ValueParser → Text → Rule
 option_rule name parser default =
     record (valued_rule name) { parser = Some parser; defaults = default ∷ [] }
@@ -52,13 +52,14 @@ number_rule =
 abbrev pub larger : Shape → Rule → Shape
 larger shape rule = record shape { rules = shape.rules ++ rule ∷ [] }
 
--- the subcommand with what says where its input comes from: the file, and those of the plans and of the rows
+-- the subcommand with the arguments for the files of an input: the file itself, and those of the
+-- plans and the rows
 abbrev pub with_input : Shape → Shape
 with_input shape =
     larger (larger (larger (larger shape file_rule) (valued_rule (codes "old")))
     (valued_rule (codes "new"))) (valued_rule (codes "rows"))
 
--- the subcommand that makes the steps of a script
+-- the subcommand that executes the steps of a script
 abbrev pub run_shape : Shape
 run_shape =
     with_input (larger (larger (larger (new_shape (codes "run"))
@@ -70,18 +71,18 @@ ranges_shape =
     with_input (larger (larger (larger (new_shape (codes "ranges"))
     (flag_rule (codes "json"))) (flag_rule (codes "svg"))) (flag_rule (codes "sizes")))
 
--- an option for a number from the least up to the most, and the text of its default
+-- an option for a number from `least` to `most`, with the text of its default
 abbrev pub counted_rule : Text → ℕ → ℕ → Text → Rule
 counted_rule name least most default = option_rule name (Unsigned least most) default
 
--- the subcommand that runs jobs in threads, with its options for numbers
+-- the subcommand that runs jobs in threads, with its numeric options
 abbrev pub numbered_shape : Shape
 numbered_shape =
     larger (larger (new_shape (codes "live"))
     (counted_rule (codes "turns") 1 MAX_TURNS (codes "1000000")))
     (counted_rule (codes "pumps") 1 MAX_PUMPS (codes "1"))
 
--- and with all its options
+-- the same with all its options
 abbrev pub live_shape : Shape
 live_shape =
     with_input (larger (larger (larger (larger (larger (larger numbered_shape
@@ -93,11 +94,11 @@ live_shape =
 abbrev pub steps_shape : Shape
 steps_shape = with_input (new_shape (codes "steps"))
 
--- an option with a value that has to be there
+-- a required option with a value
 abbrev pub needed_rule : Text → Rule
 needed_rule name = record (valued_rule name) { required = true }
 
--- the words that are root keys, one or more
+-- the words that are root keys, at least one
 abbrev pub keys_rule : Rule
 keys_rule = record (new_rule (codes "key")) {
   value_names = 1;
@@ -106,17 +107,17 @@ keys_rule = record (new_rule (codes "key")) {
   required = true;
 }
 
--- an option for the root keys in a leaf
+-- the option for the number of root keys in a leaf
 abbrev pub width_rule : Rule
 width_rule = record (valued_rule (codes "width")) { parser = Some (Unsigned 1 MAX_WIDTH) }
 
--- the subcommand that lists the owners of root keys
+-- the subcommand that writes the owners of root keys
 abbrev pub owner_shape : Shape
 owner_shape =
     larger (larger (larger (larger (new_shape (codes "owner"))
     (needed_rule (codes "old"))) (needed_rule (codes "new"))) width_rule) keys_rule
 
--- the subcommand that writes an input to begin with, with its options for partitions, root keys and rows
+-- the subcommand that writes a sample input, with its options for partitions, root keys and rows
 abbrev pub placed_shape : Shape
 placed_shape =
     larger (larger (larger (new_shape (codes "demo"))
@@ -124,7 +125,7 @@ placed_shape =
     (counted_rule (codes "roots") 1 MAX_ROOTS (codes "1000")))
     (counted_rule (codes "rows-per-root") 1 MAX_ROWS_PER_ROOT (codes "4"))
 
--- and for jobs
+-- the same with its options for jobs
 abbrev pub worked_shape : Shape
 worked_shape =
     larger (larger (larger placed_shape (counted_rule (codes "jobs") 0 MAX_JOBS (codes "2000")))
@@ -135,11 +136,11 @@ worked_shape =
 abbrev pub folder_rule : Rule
 folder_rule = record (new_rule (codes "folder")) { value_names = 1; required = true }
 
--- and with all that it takes
+-- the same with all its options and its folder
 abbrev pub demo_shape : Shape
 demo_shape = larger (larger worked_shape (flag_rule (codes "stages"))) folder_rule
 
--- the subcommand that serves an engine, with its options for numbers and the flag that ends it early
+-- the subcommand that serves an engine, with its numeric options and the flag that ends it early
 abbrev pub served_shape : Shape
 served_shape =
     larger (larger (larger (new_shape (codes "serve"))
@@ -147,22 +148,22 @@ served_shape =
     (counted_rule (codes "fold-after") 1 MAX_FOLD_AFTER (codes "262144")))
     (flag_rule (codes "strict"))
 
--- and for reports
+-- the same with its options for reports
 abbrev pub reported_shape : Shape
 reported_shape =
     larger (larger served_shape (valued_rule (codes "summary-out"))) (valued_rule (codes "timeline"))
 
--- and with all its options
+-- the same with all its options
 abbrev pub serve_shape : Shape
 serve_shape =
     larger (larger (larger reported_shape (valued_rule (codes "plan"))) (valued_rule (codes "rows")))
     file_rule
 
--- the subcommand that says what numbers mean
+-- the subcommand that explains numbers
 abbrev pub explain_shape : Shape
 explain_shape = larger (new_shape (codes "explain")) number_rule
 
--- the command with the subcommands that do something with an input
+-- the command with the subcommands that work on an input
 abbrev pub working : App
 working =
     with_subcommand (with_subcommand (with_subcommand (with_subcommand

@@ -1,4 +1,4 @@
--- What an input to begin with is like.
+-- What a sample input is like.
 use Rattle.std.specs.Prelude.{◌≡◌, ◌≤◌, List, None, Some, codes}
 use Rattle.clap.specs.Walk.{Row, one_of}
 use Rattle.clap.specs.declared.error.kind.ErrorKind.{ErrorKind}
@@ -9,7 +9,7 @@ use Rattle.sq_command.specs.declared.line.Line.TheVariants as line
 use Rattle.sq_command.specs.declared.demo.TheConstants.{LEAST_PARTITIONS, MAX_PARTITIONS, PARTITIONS, MAX_ROOTS, ROOTS, MAX_ROWS_PER_ROOT, ROWS_PER_ROOT, MAX_JOBS, JOBS, MAX_HOT, HOT, MAX_SEED, SEED}
 use Rattle.sq_command.specs.Options.{NumberOf, FlagOf, IsNameOf}
 
--- the input is like the numbers and the flag of these options say
+-- the sample input has the numbers and the flag of these options
 pub record IsDemoOf (rows : List Row) (demo : Demo) : Type 0 where
   pub partitions : let text = one_of (codes "partitions") rows in
       NumberOf LEAST_PARTITIONS MAX_PARTITIONS PARTITIONS text demo.partitions
@@ -33,7 +33,7 @@ pub record DemoIsWithin (demo : Demo) : Type 0 where
   pub hot : demo.hot ≤ MAX_HOT
   pub seed : demo.seed ≤ MAX_SEED
 
--- the line writes such an input into the folder that is named
+-- the line writes such a sample input into the folder that is named
 abbrev pub IsDemoLine : List Row → Line → Type 0
 IsDemoLine rows (line.Demo demo folder) =
     IsDemoOf rows demo × IsNameOf (codes "folder") rows (Some folder)
@@ -42,6 +42,6 @@ IsDemoLine rows (line.Owner keys plans width) = ⊥
 IsDemoLine rows (line.Serve pumps fold_after strict files file reports) = ⊥
 IsDemoLine rows (line.Explain number) = ⊥
 
--- options are refused since no folder is named
+-- options are refused because no folder is named
 abbrev pub LacksFolder : List Row → ErrorKind → Type 0
 LacksFolder rows kind = (kind ≡ MissingRequiredArgument) × IsNameOf (codes "folder") rows None

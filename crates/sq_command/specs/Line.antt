@@ -31,14 +31,14 @@ abbrev pub SpellsShort : Text → Type 0
 SpellsShort text =
     let digits = without_leading_plus text in IsNumeral 10 digits × (digits_value 10 digits < 2 ^ 16)
 
--- the number that a word is, where there is one and it spells one
+-- the number that a word spells, if there is a word and it spells one
 abbrev pub GivenNumber : Option Text → Option ℕ → Type 0
 GivenNumber None number = number ≡ None
 GivenNumber (Some text) None = SpellsShort text → ⊥
 GivenNumber (Some text) (Some number) =
     SpellsShort text × (number ≡ digits_value 10 (without_leading_plus text))
 
--- what moves is written as lines, or else as the one flag says
+-- the format is lines, or the one whose flag is given
 abbrev pub IsFormOf : List Row → Form → Type 0
 IsFormOf rows Lines =
     FlagOf (one_of (codes "json") rows) false × FlagOf (one_of (codes "svg") rows) false
@@ -56,7 +56,7 @@ IsRunTask rows (Ranges form sizes) = ⊥
 IsRunTask rows (Live live) = ⊥
 IsRunTask rows Steps = ⊥
 
--- the task is a listing, of the form that is asked for, with sizes where that flag is given
+-- the task is a listing in the format that is asked for, with sizes if that flag is given
 abbrev pub IsRangesTask : List Row → Task → Type 0
 IsRangesTask rows (Run echoes strict rows_out) = ⊥
 IsRangesTask rows (Ranges form sizes) =
@@ -75,7 +75,7 @@ pub record AreLiveOptions (rows : List Row) (live : LiveOptions) : Type 0 where
   pub replies : IsNameOf (codes "replies") rows live.replies
   pub rows_out : IsNameOf (codes "rows-out") rows live.rows_out
 
--- the task is a live run as these options say
+-- the task is a live run with these options
 abbrev pub IsLiveTask : List Row → Task → Type 0
 IsLiveTask rows (Run echoes strict rows_out) = ⊥
 IsLiveTask rows (Ranges form sizes) = ⊥
@@ -86,7 +86,7 @@ IsLiveTask rows Steps = ⊥
 abbrev pub IsStepsTask : List Row → Task → Type 0
 IsStepsTask rows task = task ≡ Steps
 
--- the line does a task that has this property with the input that is named
+-- the line performs a task that satisfies `IsTask`, with the input that is named
 abbrev pub IsWorkLine : (List Row → Task → Type 0) → List Row → Line → Type 0
 IsWorkLine IsTask rows (Work task input) = IsTask rows task × IsInputOf rows input
 IsWorkLine IsTask rows (Owner keys plans width) = ⊥
@@ -102,13 +102,13 @@ IsExplainLine rows (Demo demo folder) = ⊥
 IsExplainLine rows (Serve pumps fold_after strict files file reports) = ⊥
 IsExplainLine rows (Explain number) = GivenNumber (one_of (codes "number") rows) number
 
--- a form is refused since two are asked for
+-- the format is refused because two are asked for
 abbrev pub FormClash : List Row → ErrorKind → Type 0
 FormClash rows kind =
     (kind ≡ ArgumentConflict) × FlagOf (one_of (codes "json") rows) true
     × FlagOf (one_of (codes "svg") rows) true
 
--- a listing is refused since two forms are asked for, or a file of a plan is missing
+-- a listing is refused because two formats are asked for, or because a file of a plan is missing
 abbrev pub RangesClash : List Row → ErrorKind → Type 0
 RangesClash rows kind =
     FormClash rows kind ⊎ LacksPlan rows kind
@@ -119,11 +119,11 @@ subcommand_names =
     codes "run" ∷ codes "ranges" ∷ codes "live" ∷ codes "steps" ∷ codes "owner" ∷ codes "demo"
     ∷ codes "serve" ∷ codes "explain" ∷ []
 
--- the program has a subcommand of this name
+-- the program has a subcommand with this name
 abbrev pub IsSubcommand : Text → Type 0
 IsSubcommand name = list_any (bytes_eq name) subcommand_names ≡ true
 
--- this is what words ask for by which `clap` finds this subcommand with these options
+-- the result is what the subcommand and the options that `clap` finds ask for
 abbrev pub IsAskedOf : Option (Text × List Row) → Result Line Clash → Type 0
 IsAskedOf None asked = ⊥
 IsAskedOf (Some sub) asked =
@@ -136,22 +136,22 @@ IsAskedOf (Some sub) asked =
     ⊎ (((sub.0 ≡ codes "serve") × Asks IsEngineLine LacksEnginePlan sub.1 asked)
     ⊎ ((sub.0 ≡ codes "explain") × Asks IsExplainLine (λ rows kind. ⊥) sub.1 asked)))))))
 
--- a line stays, and a clash becomes an error of its kind, unless memory runs out
+-- a line is returned as it is, and a clash as an error of its kind, unless memory runs out
 abbrev pub Settles : Result Line Clash → Result Line Error → Type 0
 Settles (Ok line) (Ok settled) = settled ≡ line
 Settles (Ok line) (Err error) = ⊥
 Settles (Err clash) (Ok settled) = ⊥
 Settles (Err clash) (Err error) = (kind_of error ≡ OutOfMemory) ⊎ (kind_of error ≡ clash_kind clash)
 
--- `clap` finds no fault in the words, and what they ask for is refused by a clash of this kind
+-- `clap` finds no fault in the words, and a clash of this kind refuses what they ask for
 abbrev pub ClashesAt : List Text → ErrorKind → Type 0
 ClashesAt words kind =
     (fault_of squall words ≡ [])
     × ((clash : Clash) × IsAskedOf (subcommand_of squall words) (Err clash)
     × (kind ≡ clash_kind clash))
 
--- the result of words: a line, where they have no fault; else memory ran out, `clap` finds a fault of this kind, or
--- options don't go together
+-- the result of parsing words: a line if they have no fault; else `clap` finds a fault of the
+-- error's kind, memory ran out, or options don't go together
 abbrev pub ComesOf : List Text → Result Line Error → Type 0
 ComesOf words (Ok line) =
     (fault_of squall words ≡ []) × IsAskedOf (subcommand_of squall words) (Ok line)
@@ -165,7 +165,8 @@ IsWithin (Live live) =
     (1 ≤ live.turns) × (live.turns ≤ MAX_TURNS) × (1 ≤ live.pumps) × (live.pumps ≤ MAX_PUMPS)
 IsWithin Steps = Unit {0}
 
--- and so are those of a line, which has a root key at least where it asks for owners
+-- the numbers of a line are within their limits, and a line that asks for owners has at least one
+-- root key
 abbrev pub LineIsWithin : Line → Type 0
 LineIsWithin (Work task input) = IsWithin task
 LineIsWithin (Owner keys plans width) =

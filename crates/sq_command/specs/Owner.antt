@@ -1,4 +1,4 @@
--- Which root keys are asked for, and where the plans are.
+-- Which root keys are asked for, and which files hold the plans.
 use Rattle.std.specs.Prelude.{◌≡◌, ◌⊎◌, ◌<◌, ◌^◌, ℕ, List, [], Some, None, map, unwrap_or, codes, Result, Ok, Err}
 use Rattle.std.specs.List.{All}
 use Rattle.std.specs.Str.Parse.{IsNumeral, digits_value, without_leading_plus}
@@ -25,7 +25,7 @@ SpellsKey text =
 abbrev pub spelled_key : Text → ℕ
 spelled_key text = digits_value 10 (without_leading_plus text)
 
--- the key that a word spells, unless it spells none
+-- the key that a word spells, or the clash `BadKey` if it spells none
 abbrev pub IsKeyOf : Text → Result ℕ Clash → Type 0
 IsKeyOf word (Ok key) = SpellsKey word × (key ≡ spelled_key word)
 IsKeyOf word (Err clash) = (clash ≡ BadKey) × (SpellsKey word → ⊥)
@@ -34,22 +34,23 @@ IsKeyOf word (Err clash) = (clash ≡ BadKey) × (SpellsKey word → ⊥)
 abbrev pub AreKeysOf : List Row → List ℕ → Type 0
 AreKeysOf rows keys = All SpellsKey (key_words rows) × (keys ≡ map spelled_key (key_words rows))
 
--- words are refused since there are none or one spells no key, or memory runs out
+-- words are refused because there are none, because one of them spells no key, or because memory
+-- runs out
 abbrev pub KeysClash : List Row → ErrorKind → Type 0
 KeysClash rows kind =
     ((kind ≡ MissingRequiredArgument) × (key_words rows ≡ []))
     ⊎ (((kind ≡ ValueValidation) × (All SpellsKey (key_words rows) → ⊥)) ⊎ (kind ≡ OutOfMemory))
 
--- the plans are those of the files that are named
+-- the plans are in the files that are named
 abbrev pub HasPlans : List Row → Plans → Type 0
 HasPlans rows plans = ArePlansOf rows (Some plans)
 
--- and are refused since a file of one is missing
+-- the plans are refused because a file of one is missing
 abbrev pub PlansClash : List Row → ErrorKind → Type 0
 PlansClash rows kind =
     LacksPlan rows kind ⊎ ((kind ≡ MissingRequiredArgument) × IsNameOf (codes "old") rows None)
 
--- the line asks for the keys that are named, by these plans and leaves
+-- the line asks for the keys, the plans and the width of leaves that are named
 abbrev pub IsOwnerLine : List Row → Line → Type 0
 IsOwnerLine rows (Owner keys plans width) =
     AreKeysOf rows keys.items × HasPlans rows plans
@@ -59,6 +60,6 @@ IsOwnerLine rows (Demo demo folder) = ⊥
 IsOwnerLine rows (Serve pumps fold_after strict files file reports) = ⊥
 IsOwnerLine rows (Explain number) = ⊥
 
--- its options are refused for the plans or for the keys
+-- its options are refused because of the plans or the keys
 abbrev pub OwnerClash : List Row → ErrorKind → Type 0
 OwnerClash rows kind = PlansClash rows kind ⊎ KeysClash rows kind

@@ -11,13 +11,14 @@ use Rattle.sq_command.specs.declared.tasks.TheConstants.{MAX_PUMPS, PUMPS}
 use Rattle.sq_command.specs.declared.serve.TheConstants.{MAX_FOLD_AFTER, FOLD_AFTER}
 use Rattle.sq_command.specs.Options.{NumberOf, FlagOf, IsNameOf, IsMainOf}
 
--- the engine begins with the file of a plan that is named, and the file of rows if it is named; or neither is
+-- the plan of the engine is in the file that is named, and its rows in another if it is named; or
+-- neither is named
 abbrev pub AreEngineFilesOf : List Row → Option EngineFiles → Type 0
 AreEngineFilesOf rows None = IsNameOf (codes "plan") rows None × IsNameOf (codes "rows") rows None
 AreEngineFilesOf rows (Some files) =
     IsNameOf (codes "plan") rows (Some files.plan) × IsNameOf (codes "rows") rows files.rows
 
--- options are refused since there is a file of rows, and none of a plan
+-- options are refused because a file of rows is named, but no file of a plan
 abbrev pub LacksEnginePlan : List Row → ErrorKind → Type 0
 LacksEnginePlan rows kind =
     (kind ≡ MissingRequiredArgument) × (is_some (first_of (codes "rows") rows) ≡ true)

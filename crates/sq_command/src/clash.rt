@@ -7,24 +7,24 @@ use clap::Command;
 use clap::error::{Error, ErrorKind};
 use std::alloc::{AllocError, AllocFailed, Global};
 
-/// Why the options of a subcommand don't go together.
+/// Why the options of a subcommand are refused.
 #[derive(Clone, Copy, Debug, PartialEq, Eq)]
 pub enum Clash {
-    /// A file of the new plan is named, and none of the old one.
+    /// `--new` is given without `--old`.
     NoOld,
-    /// A file of the old plan is named, and none of the new one.
+    /// `--old` is given without `--new`.
     NoNew,
-    /// A file of rows is named, and none of the plans.
+    /// The plans are missing: `--rows` is given without them, or the subcommand requires them.
     NoPlans,
-    /// What moves is to be written in two forms.
+    /// `--json` and `--svg` are both given.
     TwoForms,
     /// No root key is named.
     NoKeys,
-    /// A word that is to be a root key is none.
+    /// A word isn't a root key.
     BadKey,
     /// No folder is named.
     NoFolder,
-    /// A file of rows is named, and none of the plan of an engine.
+    /// `--rows` is given without `--plan`.
     NoEnginePlan,
     /// Memory ran out.
     Memory,
@@ -42,7 +42,7 @@ impl From<AllocFailed<u32>> for Clash {
 }
 
 impl Clash {
-    // Which kind of error it is.
+    // The kind of the error, in `clap`'s terms.
     fn kind(self) -> ErrorKind
         ensures { result ≡ clash_kind self }
     {
@@ -54,7 +54,7 @@ impl Clash {
         }
     }
 
-    // What is wrong, in the words that `clap` has for it.
+    // The message, in `clap`'s words.
     fn message(self) -> &'static str {
         match self {
             Clash::NoOld => "the following required arguments were not provided:\n  --old <FILE>",
@@ -72,7 +72,7 @@ impl Clash {
         }
     }
 
-    // What may follow the subcommand.
+    // What may follow the subcommand's name.
     fn usage(self) -> &'static str {
         match self {
             Clash::NoOld | Clash::NoNew => "--old <FILE> --new <FILE> [FILE]",
@@ -85,7 +85,8 @@ impl Clash {
     }
 }
 
-/// The error of a clash among the options of the subcommand of this name. Memory may run out.
+/// The error that reports `clash` among the options of the subcommand `name`. Fails if memory runs
+/// out.
 pub fn refusal(alloc: Global, name: &str, clash: Clash) -> Result<Error, AllocError>
     ensures { IfOk result (λ error. kind_of error ≡ clash_kind clash) }
 {

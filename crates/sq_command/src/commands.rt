@@ -1,4 +1,4 @@
-// The program's command, with a subcommand for each thing that it does.
+// The program's command and its subcommands.
 ghost use Rattle.std.specs.Prelude.{◌≡◌, ◌≤◌, ◌<◌, ◌^◌, [], IfOk, false};
 ghost use Rattle.clap.specs.Walk.{Rule, rule_of};
 ghost use Rattle.clap.specs.Simple.{App, Shape, new_shape, with_subcommand};
@@ -20,7 +20,7 @@ use std::alloc::{AllocError, Global};
 // The version that `--version` prints.
 const VERSION: &str = "0.1.0";
 
-// The program's command without its subcommands, one of which it wants.
+// The program's command before its subcommands are added; a subcommand is required.
 fn program<'a>(alloc: Global) -> Command<'a>
     ensures app { app_of result ≡ record { top = program; subs = [] } }
     ensures local { (out-Command result).has_globals ≡ false }
@@ -32,7 +32,7 @@ fn program<'a>(alloc: Global) -> Command<'a>
         .subcommand_required(true)
 }
 
-/// A subcommand that takes no further words, with what its help text says.
+/// The subcommand `name` before its arguments are added, with its help texts.
 pub fn subcommand<'a>(
     alloc: Global,
     name: &'a str,
@@ -47,7 +47,7 @@ pub fn subcommand<'a>(
         .after_help(after_help)
 }
 
-/// An option with a value, which help calls so.
+/// The option `--name`, whose value is called `value` in the help text.
 pub fn valued<'a>(alloc: Global, name: &'a str, value: &'a str, help: &'a str) -> Arg<'a>
     ensures rule { rule_of result ≡ valued_rule name.entry.now }
     ensures local { result.global ≡ false }
@@ -58,7 +58,7 @@ pub fn valued<'a>(alloc: Global, name: &'a str, value: &'a str, help: &'a str) -
         .help(help)
 }
 
-/// The parser of the numbers from the least up to the most.
+/// The parser of the numbers from `least` to `most`.
 pub fn numbers<'a>(least: u64, most: u64) -> ValueParser<'a>
     requires some { least ≤ most }
     requires within { most < 2 ^ 63 }
@@ -67,7 +67,7 @@ pub fn numbers<'a>(least: u64, most: u64) -> ValueParser<'a>
     value_parser!(u64).range(least as i64..=most as i64)
 }
 
-// An option with a value that this parser takes, which is a number, and its default.
+// The option `--name`, whose value is a number that `parser` accepts, with its default.
 fn option<'a>(
     alloc: Global,
     name: &'a str,
@@ -83,7 +83,7 @@ fn option<'a>(
         .default_value(default)
 }
 
-/// An option for a number from the least up to the most, and its default.
+/// The option `--name` for a number from `least` to `most`, with its default.
 pub fn counted<'a>(
     alloc: Global,
     name: &'a str,
@@ -101,7 +101,7 @@ pub fn counted<'a>(
     option(alloc, name, help, numbers(least, most), default)
 }
 
-// An option that takes no value.
+// The flag `--name`.
 fn flag<'a>(alloc: Global, name: &'a str, help: &'a str) -> Arg<'a>
     ensures rule { rule_of result ≡ flag_rule name.entry.now }
     ensures local { result.global ≡ false }
@@ -112,7 +112,7 @@ fn flag<'a>(alloc: Global, name: &'a str, help: &'a str) -> Arg<'a>
         .action(ArgAction::SetTrue)
 }
 
-/// The name of a file, which may be left out.
+/// The optional name of the input file.
 pub fn file<'a>(alloc: Global) -> Arg<'a>
     ensures rule { rule_of result ≡ file_rule }
     ensures local { result.global ≡ false }
@@ -120,7 +120,7 @@ pub fn file<'a>(alloc: Global) -> Arg<'a>
     Arg::new(alloc, "file").value_name("FILE").help(help::FILE)
 }
 
-/// An option for the name of a file.
+/// The option `--name`, whose value is the name of a file.
 pub fn path<'a>(alloc: Global, name: &'a str, help: &'a str) -> Arg<'a>
     ensures rule { rule_of result ≡ valued_rule name.entry.now }
     ensures local { result.global ≡ false }
@@ -128,7 +128,7 @@ pub fn path<'a>(alloc: Global, name: &'a str, help: &'a str) -> Arg<'a>
     valued(alloc, name, "FILE", help)
 }
 
-/// The command, if it is made, with one argument more.
+/// Adds `arg` to `command`. Returns an error if `command` is one or memory runs out.
 pub fn with<'a>(
     command: Result<Command<'a>, AllocError>,
     arg: Arg<'a>,
@@ -140,7 +140,7 @@ pub fn with<'a>(
     command?.arg(arg)
 }
 
-/// The command, if it is made, with an option that takes no value.
+/// Adds the flag `--name` to `command`. Returns an error if `command` is one or memory runs out.
 pub fn with_flag<'a>(
     alloc: Global,
     command: Result<Command<'a>, AllocError>,
@@ -153,7 +153,8 @@ pub fn with_flag<'a>(
     with(command, flag(alloc, name, help))
 }
 
-/// The command, if it is made, with an option for the name of a file.
+/// Adds the option `--name` for a file to `command`. Returns an error if `command` is one or memory
+/// runs out.
 pub fn with_path<'a>(
     alloc: Global,
     command: Result<Command<'a>, AllocError>,
@@ -166,7 +167,8 @@ pub fn with_path<'a>(
     with(command, path(alloc, name, help))
 }
 
-/// The command, if it is made, with what says where its input comes from.
+/// Adds the arguments for the files of an input to `command`: the file itself, `--old`, `--new` and
+/// `--rows`. Returns an error if `command` is one or memory runs out.
 pub fn with_input<'a>(
     alloc: Global,
     command: Result<Command<'a>, AllocError>,
@@ -179,7 +181,7 @@ pub fn with_input<'a>(
     with_path(alloc, with_new, "rows", help::ROWS)
 }
 
-// The command with one subcommand more, if both are made.
+// Adds the subcommand `sub` to `command`, unless either of them is an error.
 fn also<'a>(
     command: Result<Command<'a>, AllocError>,
     sub: Result<Command<'a>, AllocError>,
@@ -190,7 +192,7 @@ fn also<'a>(
     command?.subcommand(sub?)
 }
 
-// The program's command with the subcommands that do something with an input.
+// The program's command with the subcommands that work on an input.
 fn working<'a>(alloc: Global) -> Result<Command<'a>, AllocError>
     ensures { IfOk result (λ command. app_of command ≡ working) }
 {
@@ -200,7 +202,7 @@ fn working<'a>(alloc: Global) -> Result<Command<'a>, AllocError>
     also(lives, steps(alloc))
 }
 
-/// The program's command, with a subcommand for each line.
+/// The program's command with all its subcommands. Fails if memory runs out.
 pub fn command<'a>(alloc: Global) -> Result<Command<'a>, AllocError>
     ensures { IfOk result (λ command. app_of command ≡ squall) }
 {

@@ -1,4 +1,4 @@
-// The subcommand that writes an input to begin with.
+// The subcommand that writes a sample input.
 ghost use Rattle.std.specs.Prelude.{◌≡◌, IfOk, false, codes};
 ghost use Rattle.clap.specs.Matches.{found_of};
 ghost use Rattle.clap.specs.Walk.{rule_of, rows_of};
@@ -15,7 +15,7 @@ use crate::options::{is_given, name_of, number_of};
 use clap::{Arg, ArgMatches, Command};
 use std::alloc::{AllocError, Global};
 
-/// The fewest and the most partitions, the most root keys and rows of each, and the most jobs.
+/// The limits: fewest and most partitions, most root keys, most rows of a root key, and most jobs.
 pub const LEAST_PARTITIONS: u64 = 2;
 
 pub const MAX_PARTITIONS: u64 = 16;
@@ -26,13 +26,13 @@ pub const MAX_ROWS_PER_ROOT: u64 = 1_000;
 
 pub const MAX_JOBS: u64 = 4_096;
 
-/// All jobs, in a hundred.
+/// The largest number for `--hot`: all jobs of 100.
 pub const MAX_HOT: u64 = 100;
 
 /// The largest seed.
 pub const MAX_SEED: u64 = 4_294_967_295;
 
-/// The defaults of options.
+/// The defaults of the options.
 pub const PARTITIONS: u64 = 4;
 
 pub const ROOTS: u64 = 1_000;
@@ -45,12 +45,12 @@ pub const HOT: u64 = 50;
 
 pub const SEED: u64 = 1;
 
-// As the texts of these defaults say.
+// The default texts below repeat these numbers.
 const _: () = prove!(PARTITIONS == 4 && ROOTS == 1_000 && ROWS_PER_ROOT == 4);
 
 const _: () = prove!(JOBS == 2_000 && HOT == 50 && SEED == 1);
 
-// The option for the partitions.
+// The option `--partitions`.
 fn partitions<'a>(alloc: Global) -> Arg<'a>
     ensures rule { let least = LEAST_PARTITIONS in
         rule_of result ≡ counted_rule (codes "partitions") least MAX_PARTITIONS (codes "4") }
@@ -79,7 +79,7 @@ fn placed<'a>(alloc: Global) -> Result<Command<'a>, AllocError>
     with(rooted, rows)
 }
 
-// The subcommand with its options for jobs too.
+// The same subcommand with its options for jobs, too.
 fn worked<'a>(alloc: Global) -> Result<Command<'a>, AllocError>
     ensures { HasShape worked_shape result }
 {
@@ -91,7 +91,7 @@ fn worked<'a>(alloc: Global) -> Result<Command<'a>, AllocError>
     with(heated, seed)
 }
 
-// The name of the folder.
+// The required name of the folder.
 fn folder<'a>(alloc: Global) -> Arg<'a>
     ensures rule { rule_of result ≡ folder_rule }
     ensures local { result.global ≡ false }
@@ -102,7 +102,7 @@ fn folder<'a>(alloc: Global) -> Arg<'a>
         .required(true)
 }
 
-/// The subcommand that writes an input to begin with.
+/// The subcommand `demo`, which writes a sample input.
 pub fn demo<'a>(alloc: Global) -> Result<Command<'a>, AllocError>
     ensures { HasShape demo_shape result }
 {
@@ -110,7 +110,7 @@ pub fn demo<'a>(alloc: Global) -> Result<Command<'a>, AllocError>
     with(staged, folder(alloc))
 }
 
-/// The input to begin with that options ask for.
+/// The sample input that `options` ask for. Fails if they name no folder.
 pub fn demo_line<'a>(options: &ArgMatches<'a>) -> Result<Line<'a>, Clash>
     ensures line { Asks IsDemoLine LacksFolder (rows_of (found_of options.now)) result }
     ensures within { IfOk result LineIsWithin }
@@ -124,7 +124,7 @@ pub fn demo_line<'a>(options: &ArgMatches<'a>) -> Result<Line<'a>, Clash>
     })
 }
 
-// What it is to be like.
+// What the sample input is like.
 fn demo_of(options: &ArgMatches<'_>) -> Demo
     ensures demo { IsDemoOf (rows_of (found_of options.now)) result }
     ensures within { DemoIsWithin result }

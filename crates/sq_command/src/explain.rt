@@ -1,4 +1,4 @@
-// The subcommand that says what numbers mean.
+// The subcommand that explains numbers.
 ghost use Rattle.clap.specs.Matches.{found_of};
 ghost use Rattle.clap.specs.Walk.{rows_of};
 ghost use Rattle.sq_command.specs.Commands.{HasShape, explain_shape};
@@ -10,7 +10,7 @@ use crate::line::Line;
 use clap::{Arg, ArgMatches, Command, value_parser};
 use std::alloc::{AllocError, Global};
 
-/// The subcommand that says what numbers mean.
+/// The subcommand `explain`, which explains numbers.
 pub fn explain<'a>(alloc: Global) -> Result<Command<'a>, AllocError>
     ensures { HasShape explain_shape result }
 {
@@ -22,7 +22,7 @@ pub fn explain<'a>(alloc: Global) -> Result<Command<'a>, AllocError>
     with(plain, number)
 }
 
-/// The number that options name.
+/// The number that `options` ask to explain; all numbers if they name none.
 pub fn explain_line<'a>(options: &ArgMatches<'a>) -> Line<'a>
     ensures { IsExplainLine (rows_of (found_of options.now)) result }
 {

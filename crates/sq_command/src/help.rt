@@ -1,8 +1,9 @@
-// What the help texts say: in a line of each subcommand and of each argument, and at length behind these.
+// The help texts: one line for each subcommand and argument, and a longer text after each list of
+// options.
 use crate::demo::{MAX_HOT, MAX_JOBS, MAX_PARTITIONS, MAX_ROOTS, MAX_ROWS_PER_ROOT};
 use crate::tasks::MAX_PUMPS;
 
-// A text with the header of an example in it, whose only row moves from partition 0 to partition 1.
+// Puts a sample header between two texts; its only row moves from partition 0 to partition 1.
 macro_rules! with_header {
     ($before:literal, $behind:literal) => {
         concat!(
@@ -17,7 +18,7 @@ row 5 0 0 10 -
     };
 }
 
-/// Behind the options of the whole program.
+/// The text after the options of the whole program.
 pub const PROGRAM: &str = "\
 run, ranges, live and steps read standard input, or the file that is named, and
 write to standard output; serve reads the file and then standard input. Their
@@ -33,7 +34,7 @@ After a fault the last line of standard output is its number, as in 'fault 105',
 and standard error says what it means, and on which line it is. squall explain
 105 tells more of it, and squall explain tells all numbers.";
 
-/// Help on the file that is read.
+/// Help on the input file.
 pub const FILE: &str = "The file to read, in place of standard input";
 
 /// Help on the files of the plans and of the rows.
@@ -43,10 +44,10 @@ pub const NEW: &str = "The plan after the move, in a file of its own";
 
 pub const ROWS: &str = "The lines of the rows, in a file of their own";
 
-/// Help on the file for the rows in the end.
+/// Help on the file that gets the rows at the end.
 pub const ROWS_OUT: &str = "Write into this file the rows that stand at the end";
 
-/// Help on `run` and its options, and the text behind these.
+/// Help on `run` and its options, and the text after them.
 pub const RUN_ABOUT: &str = "Makes the steps of a script, and answers each";
 
 pub const ECHO: &str = "Write each step before its answer, and explain refusals";
@@ -107,7 +108,7 @@ Exit status:
   3  with --strict, a line that was refused"#
 );
 
-/// Help on `ranges` and its options, and the text behind these.
+/// Help on `ranges` and its options, and the text after them.
 pub const RANGES_ABOUT: &str = "Tells what moves between two plans";
 
 pub const JSON: &str = "Write it as one JSON value, for a program";
@@ -154,7 +155,7 @@ Exit status:
   0  done
   2  a fault, or a command line that is refused"#;
 
-/// Help on `live` and its options, and the text behind these.
+/// Help on `live` and its options, and the text after them.
 pub const LIVE_ABOUT: &str = "Runs jobs in threads while rows move, and audits what is left";
 
 pub const TURNS: &str = "Most turns of a thread in a stage";
@@ -238,7 +239,7 @@ Exit status:
   4  unsound"#
 );
 
-/// Help on `steps`, and the text behind its options.
+/// Help on `steps`, and the text after its options.
 pub const STEPS_ABOUT: &str = "Writes the script that makes a whole move";
 
 pub const STEPS: &str = with_header!(
@@ -265,7 +266,7 @@ Exit status:
   2  a fault, or a command line that is refused"#
 );
 
-/// Help on `owner`, its options and its words, and the text behind these.
+/// Help on `owner`, its options and its arguments, and the text after them.
 pub const OWNER_ABOUT: &str = "Tells who owns root keys before a move and after it";
 
 pub const WIDTH: &str = "How many root keys a leaf has, as the line config says";
@@ -286,7 +287,7 @@ Exit status:
   0  done
   2  a fault, or a command line that is refused";
 
-/// Help on `demo`, its options and its folder, and the text behind these.
+/// Help on `demo`, its options and its folder, and the text after them.
 pub const DEMO_ABOUT: &str = "Writes plans, rows and jobs to begin with";
 
 pub const PARTITIONS: &str = "How many partitions there are, 2 to 16";
@@ -327,7 +328,7 @@ Exit status:
   0  done
   2  a file that can't be written, or a command line that is refused";
 
-/// Help on `serve` and its options, and the text behind these.
+/// Help on `serve` and its options, and the text after them.
 pub const SERVE_ABOUT: &str = "Answers jobs for as long as lines come, while rows move";
 
 pub const FOLD_AFTER: &str = "Fold logs after so many answers";
@@ -364,7 +365,7 @@ Exit status:
   3  with --strict: a line had a fault or was refused
   4  unsound";
 
-/// Help on `explain` and its number, and the text behind these.
+/// Help on `explain` and its number, and the text after them.
 pub const EXPLAIN_ABOUT: &str =
     "Tells what a number means, where it is given, and what to do about it";
 

@@ -1,4 +1,4 @@
-//! The command line of `squall`: its words, its help texts, and what they ask for.
+//! The command line of `squall`: its subcommands, its help texts, and what its words ask for.
 #![tactic(auto)]
 
 mod clash;

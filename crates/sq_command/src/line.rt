@@ -15,46 +15,44 @@ use clap::{ArgMatches, Error};
 use std::alloc::{AllocError, Global};
 use std::convert::AsStr;
 
-/// What the program is to do.
+/// What the program has to do.
 #[derive(Debug, Drop)]
 pub enum Line<'a> {
-    /// Do this with that input.
+    /// Perform `task` with `input`.
     Work {
         task: Task<'a>,
         input: Input<'a>,
     },
-    /// Say which partition owns root keys before a move and after it, and where in the move they are.
+    /// Write the owners of root keys before and after a move, and where in the move the keys are.
     Owner {
-        /// The root keys, in the order in which they are written.
+        /// The root keys, in the order of the command line.
         keys: Vec<u32>,
-        /// The files of the plans.
         plans: Plans<'a>,
-        /// How many root keys a leaf has, where the segment and the leaf of a root key are to be written.
+        /// How many root keys a leaf has; `None` if segments and leaves aren't to be written.
         width: Option<u32>,
     },
-    /// Write an input to begin with.
+    /// Write a sample input.
     Demo {
-        /// What the input is to be like.
+        /// What the input is like.
         demo: Demo,
-        /// The name of the folder into which its files are written.
+        /// The name of the folder that gets its files.
         folder: &'a str,
     },
     /// Answer jobs for as long as lines come, while rows move.
     Serve {
-        /// How many pumps there are.
         pumps: u32,
         /// After how many answers the logs are audited and folded.
         fold_after: u64,
-        /// Whether it ends after the first line with a fault or a refusal.
+        /// Whether it ends after the first line that has a fault or is refused.
         strict: bool,
-        /// The files of the plan and of the rows, where they have files of their own.
+        /// The files of the plan and the rows; `None` if both are in the input.
         files: Option<EngineFiles<'a>>,
-        /// The name of the file that is read before standard input, where there is one.
+        /// The name of the file that is read before standard input, if there is one.
         file: Option<&'a str>,
-        /// The files into which it is written what the engine did.
+        /// The report files.
         reports: EngineReports<'a>,
     },
-    /// Say what this number means, or all numbers.
+    /// Explain `number`, or all numbers if it is `None`.
     Explain {
         number: Option<u16>,
     },
@@ -63,69 +61,68 @@ pub enum Line<'a> {
 /// Where an input comes from.
 #[derive(Clone, Copy, Debug)]
 pub struct Input<'a> {
-    /// The file of this name, or standard input where there is none.
+    /// The name of the input file; `None` for standard input.
     pub file: Option<&'a str>,
-    /// The files of the plans, where they have files of their own.
+    /// The files of the plans and the rows; `None` if all of them are in the input.
     pub plans: Option<Plans<'a>>,
 }
 
-/// The files that hold the plans of a move.
+/// The files that hold the plans of a move, and perhaps the rows.
 #[derive(Clone, Copy, Debug)]
 pub struct Plans<'a> {
     /// The name of the file that holds the plan before the move.
     pub old: &'a str,
     /// The name of the file that holds the plan after the move.
     pub new: &'a str,
-    /// The name of the file that holds the rows, where they have one.
+    /// The name of the file that holds the rows; `None` if the input holds them.
     pub rows: Option<&'a str>,
 }
 
-/// The files that an engine begins with.
+/// The files that hold the plan of an engine, and perhaps its rows.
 #[derive(Clone, Copy, Debug, PartialEq, Eq)]
 pub struct EngineFiles<'a> {
     /// The name of the file that holds the plan.
     pub plan: &'a str,
-    /// The name of the file that holds the rows, where they have one.
+    /// The name of the file that holds the rows; `None` if the input holds them.
     pub rows: Option<&'a str>,
 }
 
-/// The files into which it is written what an engine did.
+/// The report files of an engine.
 #[derive(Clone, Copy, Debug, PartialEq, Eq)]
 pub struct EngineReports<'a> {
-    /// The name of the file into which an account of it is written, where there is to be one.
+    /// The name of the file for a summary, if one is asked for.
     pub summary_out: Option<&'a str>,
-    /// The name of the file into which it is written what was done in each short interval, where there is to be one.
+    /// The name of the file for the timeline, by short intervals, if one is asked for.
     pub timeline: Option<&'a str>,
 }
 
-/// The form in which what moves is written.
+/// The output format of `ranges`.
 #[derive(Clone, Copy, Debug)]
 pub enum Form {
-    /// A line for each range and for each segment.
+    /// One line for each range and each segment.
     Lines,
     /// One JSON value.
     Json,
-    /// A picture.
+    /// A picture in SVG.
     Svg,
 }
 
-/// What is to be done with an input.
+/// What to do with an input.
 #[derive(Clone, Copy, Debug)]
 pub enum Task<'a> {
-    /// Make the steps of a script.
+    /// Execute the steps of a script.
     Run {
         /// Whether each step is written before its answer.
         echoes: bool,
-        /// Whether the first step that is refused ends the run.
+        /// Whether the run stops at the first refused step.
         strict: bool,
-        /// The name of the file for the rows at the end, if there is one.
+        /// The name of the file for the rows at the end, if one is asked for.
         rows_out: Option<&'a str>,
     },
-    /// Say what moves between two plans.
+    /// List what moves between two plans.
     Ranges {
-        /// The form.
         form: Form,
-        /// Whether it is written how much moves.
+        /// Whether the numbers of families, rows, bytes and chunks that move are written too.
         sizes: bool,
     },
     /// Run jobs in threads while rows move.
@@ -134,51 +131,49 @@ pub enum Task<'a> {
     Steps,
 }
 
-/// How jobs are run in threads, and what is written of it besides its line.
+/// The options of a live run.
 #[derive(Clone, Copy, Debug)]
 pub struct LiveOptions<'a> {
-    /// How many turns each thread takes at most.
+    /// The most turns that each thread takes in a stage.
     pub turns: u64,
-    /// How many pumps there are.
     pub pumps: u32,
     /// Whether the logs are folded between stages.
     pub folds: bool,
-    /// Whether a summary is written.
+    /// Whether a summary is written to standard error.
     pub summary: bool,
-    /// The name of the file for a longer account of it, if there is one.
+    /// The name of the file for a longer summary, if one is asked for.
     pub summary_out: Option<&'a str>,
-    /// The name of the file for the times of its events, if there is one.
+    /// The name of the file for the timeline, if one is asked for.
     pub timeline: Option<&'a str>,
-    /// The name of the file for the answers of the jobs, if there is one.
+    /// The name of the file for the answers of the jobs, if one is asked for.
     pub replies: Option<&'a str>,
-    /// The name of the file for the rows at the end, if there is one.
+    /// The name of the file for the rows at the end, if one is asked for.
     pub rows_out: Option<&'a str>,
 }
 
-/// What an input to begin with is like.
+/// What a sample input is like.
 #[derive(Clone, Copy, Debug)]
 pub struct Demo {
-    /// How many partitions there are.
     pub partitions: u32,
     /// How many root keys have rows.
     pub roots: u32,
-    /// How many rows each of them has.
+    /// How many rows each root key has.
     pub rows_per_root: u32,
-    /// How many jobs there are.
     pub jobs: u32,
-    /// How many jobs of a hundred are for the root keys that move.
+    /// How many jobs of 100, on average, are drawn for the hot root keys, which move; the others
+    /// are drawn for all root keys.
     pub hot: u32,
     /// Whether the move has several stages.
     pub stages: bool,
-    /// What the jobs are drawn by.
+    /// The seed of the random numbers that choose the jobs.
     pub seed: u64,
 }
 
-/// What the words of a command line ask for; the first of them is the program's name. An error is in `clap`'s form:
-/// the words aren't of the command's form, or ask for a help text or the version, or have options that don't go
-/// together, or memory ran out. `--old` and `--new` come together or not at all, `--rows` wants both, and of `--json`
-/// and `--svg` there is one at most. `owner` wants the plans and a key, `demo` a folder, and the `--rows` of `serve`
-/// its `--plan`.
+/// Parses `words`, of which the first is the program's name. Returns an error in `clap`'s form if
+/// `words` aren't of the command's form, ask for a help text or the version, or combine options
+/// that don't go together, or if memory runs out. `--old` and `--new` need each other, `--rows`
+/// needs both, and `--json` excludes `--svg`. `owner` needs the plans and at least one key, `demo`
+/// a folder, and the `--rows` of `serve` its `--plan`.
 pub fn line_of<'a, S: AsStr>(alloc: Global, words: &'a [S]) -> Result<Line<'a>, Error>
     ensures comes { ComesOf (map S.text words.now) result }
     ensures within { IfOk result LineIsWithin }
@@ -190,7 +185,7 @@ pub fn line_of<'a, S: AsStr>(alloc: Global, words: &'a [S]) -> Result<Line<'a>, 
     settle(alloc, name, asked(alloc, name, options))
 }
 
-// What the options of the subcommand of this name ask for.
+// What `options` of the subcommand `name` ask for.
 fn asked<'a>(alloc: Global, name: &str, options: &ArgMatches<'a>) -> Result<Line<'a>, Clash>
     requires { IsSubcommand name.now }
     ensures line { IsAskedOf (Some (name.now, rows_of (found_of options.now))) result }
@@ -215,7 +210,7 @@ fn asked<'a>(alloc: Global, name: &str, options: &ArgMatches<'a>) -> Result<Line
     }
 }
 
-// The line, or the error of a clash among the options of the subcommand of this name.
+// The line, or the error that reports a clash among the options of the subcommand `name`.
 fn settle<'a>(alloc: Global, name: &str, asked: Result<Line<'a>, Clash>) -> Result<Line<'a>, Error>
     ensures { Settles asked.entry result }
 {

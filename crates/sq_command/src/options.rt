@@ -1,4 +1,4 @@
-// What options hold.
+// Reading the options of a subcommand.
 ghost use Rattle.std.specs.Prelude.{◌≤◌, IfSome};
 ghost use Rattle.clap.specs.Matches.{found_of};
 ghost use Rattle.clap.specs.Walk.{one_of, rows_of};
@@ -8,10 +8,10 @@ use crate::clash::Clash;
 use crate::line::{Input, Plans};
 use clap::ArgMatches;
 
-// What names standard input in place of a file.
+// The name that stands for standard input.
 const STANDARD_INPUT: &str = "-";
 
-/// The input that options name.
+/// The input that `options` name. Fails if a file of a plan is missing.
 pub fn input_of<'a>(options: &ArgMatches<'a>) -> Result<Input<'a>, Clash>
     ensures { Asks IsInputOf LacksPlan (rows_of (found_of options.now)) result }
 {
@@ -21,7 +21,7 @@ pub fn input_of<'a>(options: &ArgMatches<'a>) -> Result<Input<'a>, Clash>
     })
 }
 
-/// The file that the main part of an input comes from, if it comes from one.
+/// The name of the main input file; `None` for standard input.
 pub fn main_of<'a>(options: &ArgMatches<'a>) -> Option<&'a str>
     ensures { IsMainOf (rows_of (found_of options.now)) result }
 {
@@ -31,7 +31,8 @@ pub fn main_of<'a>(options: &ArgMatches<'a>) -> Option<&'a str>
     }
 }
 
-/// The files of the plans that options name.
+/// The files of the plans and the rows that `options` name; `None` if they name none of the three.
+/// Fails if `--old` or `--new` is given without the other, or `--rows` without both.
 pub fn plans_of<'a>(options: &ArgMatches<'a>) -> Result<Option<Plans<'a>>, Clash>
     ensures { Asks ArePlansOf LacksPlan (rows_of (found_of options.now)) result }
 {
@@ -45,21 +46,21 @@ pub fn plans_of<'a>(options: &ArgMatches<'a>) -> Result<Option<Plans<'a>>, Clash
     }
 }
 
-/// Whether this flag is given.
+/// Returns whether `flag` is given.
 pub fn is_given(options: &ArgMatches<'_>, flag: &str) -> bool
     ensures { FlagOf (one_of flag.now (rows_of (found_of options.now))) result }
 {
     options.get_flag(flag)
 }
 
-/// The name that this option has, if it has one.
+/// The value of `option`, if it is given.
 pub fn name_of<'a>(options: &ArgMatches<'a>, option: &str) -> Option<&'a str>
     ensures { IsNameOf option.now (rows_of (found_of options.now)) result }
 {
     options.get_str(option)
 }
 
-/// The number of an option, from the least up to the most that it may be, or else its default.
+/// The number of the option `name`, if it is given and from `least` to `most`; else `default`.
 pub fn number_of(options: &ArgMatches<'_>, name: &str, least: u64, most: u64, default: u64) -> u64
     requires some { least ≤ default }
     requires within { default ≤ most }
@@ -74,7 +75,7 @@ pub fn number_of(options: &ArgMatches<'_>, name: &str, least: u64, most: u64, de
     }
 }
 
-/// The number of an option, from the least up to the most that it may be, if it is given.
+/// The number of the option `name`, if it is given and from `least` to `most`.
 pub fn given_number(options: &ArgMatches<'_>, name: &str, least: u64, most: u64) -> Option<u64>
     ensures number { let text = one_of name.now (rows_of (found_of options.now)) in
         GivenNumberOf least most text result }

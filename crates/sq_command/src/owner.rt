@@ -1,4 +1,4 @@
-// The subcommand that lists the owners of root keys.
+// The subcommand that writes the owners of root keys.
 ghost use Rattle.std.specs.Prelude.{◌≡◌, ◌≤◌, IfOk, IfSome, false, length, codes};
 ghost use Rattle.clap.specs.Matches.{found_of};
 ghost use Rattle.clap.specs.Walk.{one_of, rule_of, rows_of};
@@ -15,10 +15,10 @@ use crate::options::{given_number, plans_of};
 use clap::{Arg, ArgAction, ArgMatches, Command, value_parser};
 use std::alloc::{AllocError, Global};
 
-/// The most root keys that a leaf has.
+/// The largest number of root keys in a leaf.
 pub const MAX_WIDTH: u64 = 65_536;
 
-// The root keys, one or more.
+// The root keys, at least one.
 fn keys<'a>(alloc: Global) -> Arg<'a>
     ensures rule { rule_of result ≡ keys_rule }
     ensures local { result.global ≡ false }
@@ -31,7 +31,7 @@ fn keys<'a>(alloc: Global) -> Arg<'a>
         .required(true)
 }
 
-// An option for the name of a file, which has to be there.
+// The required option `--name`, whose value is the name of a file.
 fn needed_path<'a>(alloc: Global, name: &'a str, help: &'a str) -> Arg<'a>
     ensures rule { rule_of result ≡ needed_rule name.entry.now }
     ensures local { result.global ≡ false }
@@ -39,7 +39,7 @@ fn needed_path<'a>(alloc: Global, name: &'a str, help: &'a str) -> Arg<'a>
     path(alloc, name, help).required(true)
 }
 
-// The option for the root keys in a leaf.
+// The option `--width`, the number of root keys in a leaf.
 fn width<'a>(alloc: Global) -> Arg<'a>
     ensures rule { rule_of result ≡ width_rule }
     ensures local { result.global ≡ false }
@@ -47,7 +47,7 @@ fn width<'a>(alloc: Global) -> Arg<'a>
     valued(alloc, "width", "N", help::WIDTH).value_parser(numbers(1, MAX_WIDTH))
 }
 
-/// The subcommand that lists the owners of root keys.
+/// The subcommand `owner`, which writes the owners of root keys.
 pub fn owner<'a>(alloc: Global) -> Result<Command<'a>, AllocError>
     ensures { HasShape owner_shape result }
 {
@@ -58,7 +58,8 @@ pub fn owner<'a>(alloc: Global) -> Result<Command<'a>, AllocError>
     with(with_width, keys(alloc))
 }
 
-/// The root keys, with the plans, as options name them.
+/// The root keys and plans that `options` name. Fails if a file of a plan or a root key is missing,
+/// if a word is no root key, or if memory runs out.
 pub fn owner_line<'a>(alloc: Global, options: &ArgMatches<'a>) -> Result<Line<'a>, Clash>
     ensures line { Asks IsOwnerLine OwnerClash (rows_of (found_of options.now)) result }
     ensures within { IfOk result LineIsWithin }
@@ -71,7 +72,7 @@ pub fn owner_line<'a>(alloc: Global, options: &ArgMatches<'a>) -> Result<Line<'a
     })
 }
 
-// The root keys in a leaf, if they are named.
+// The number of root keys in a leaf, if `options` name it.
 fn width_of(options: &ArgMatches<'_>) -> Option<u32>
     ensures width { let text = one_of (codes "width") (rows_of (found_of options.now)) in
         GivenNumberOf 1 MAX_WIDTH text result }
@@ -83,7 +84,7 @@ fn width_of(options: &ArgMatches<'_>) -> Option<u32>
     }
 }
 
-// The files of the plans.
+// The files of the plans. Fails if one of them is missing.
 fn both_plans<'a>(options: &ArgMatches<'a>) -> Result<Plans<'a>, Clash>
     ensures { Asks HasPlans PlansClash (rows_of (found_of options.now)) result }
 {
@@ -93,7 +94,7 @@ fn both_plans<'a>(options: &ArgMatches<'a>) -> Result<Plans<'a>, Clash>
     }
 }
 
-// The root keys that words spell.
+// The root keys that the words spell, in their order.
 fn keys_of(alloc: Global, options: &ArgMatches<'_>) -> Result<Vec<u32>, Clash>
     ensures keys { let rows = rows_of (found_of options.now) in
         Asks (λ rows keys. AreKeysOf rows keys.items) KeysClash rows result }
@@ -113,7 +114,7 @@ fn keys_of(alloc: Global, options: &ArgMatches<'_>) -> Result<Vec<u32>, Clash>
     Ok(keys)
 }
 
-// The root key that a word spells.
+// The root key that `word` spells.
 fn key_of(word: &str) -> Result<u32, Clash>
     ensures { IsKeyOf word.now result }
 {

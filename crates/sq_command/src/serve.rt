@@ -16,16 +16,16 @@ use crate::tasks::{MAX_PUMPS, PUMPS};
 use clap::{ArgMatches, Command};
 use std::alloc::{AllocError, Global};
 
-/// The most answers after which the logs are audited and folded.
+/// The largest number for `--fold-after`.
 pub const MAX_FOLD_AFTER: u64 = 1_000_000_000;
 
-/// After how many answers that is, where no option says it.
+/// The default of `--fold-after`: after how many answers the logs are audited and folded.
 pub const FOLD_AFTER: u64 = 262_144;
 
-// As the texts of these defaults say.
+// The default texts below repeat these numbers.
 const _: () = prove!(FOLD_AFTER == 262_144 && PUMPS == 1);
 
-// The subcommand with its options for numbers, and the flag that ends it early.
+// The subcommand with its numeric options and `--strict`.
 fn served<'a>(alloc: Global) -> Result<Command<'a>, AllocError>
     ensures { HasShape served_shape result }
 {
@@ -38,7 +38,7 @@ fn served<'a>(alloc: Global) -> Result<Command<'a>, AllocError>
     with_flag(alloc, folding, "strict", help::SERVE_STRICT)
 }
 
-// The subcommand with its options for reports too.
+// The same subcommand with the options for its reports, too.
 fn reported<'a>(alloc: Global) -> Result<Command<'a>, AllocError>
     ensures { HasShape reported_shape result }
 {
@@ -46,7 +46,7 @@ fn reported<'a>(alloc: Global) -> Result<Command<'a>, AllocError>
     with_path(alloc, accounting, "timeline", help::SERVE_TIMELINE)
 }
 
-/// The subcommand that serves an engine.
+/// The subcommand `serve`, which serves an engine.
 pub fn serve<'a>(alloc: Global) -> Result<Command<'a>, AllocError>
     ensures { HasShape serve_shape result }
 {
@@ -55,7 +55,7 @@ pub fn serve<'a>(alloc: Global) -> Result<Command<'a>, AllocError>
     with(filled, file(alloc))
 }
 
-/// The engine to be served that options ask for.
+/// The engine that `options` ask for. Fails if they name a file of rows, but no file of a plan.
 pub fn serve_line<'a>(options: &ArgMatches<'a>) -> Result<Line<'a>, Clash>
     ensures line { Asks IsEngineLine LacksEnginePlan (rows_of (found_of options.now)) result }
     ensures within { IfOk result LineIsWithin }
@@ -71,7 +71,7 @@ pub fn serve_line<'a>(options: &ArgMatches<'a>) -> Result<Line<'a>, Clash>
     })
 }
 
-// The files of the plan and of the rows that options name.
+// The files of the plan and the rows that `options` name.
 fn engine_files_of<'a>(options: &ArgMatches<'a>) -> Result<Option<EngineFiles<'a>>, Clash>
     ensures { Asks AreEngineFilesOf LacksEnginePlan (rows_of (found_of options.now)) result }
 {
@@ -83,7 +83,7 @@ fn engine_files_of<'a>(options: &ArgMatches<'a>) -> Result<Option<EngineFiles<'a
     }
 }
 
-// The files of reports that options name.
+// The report files that `options` name.
 fn reports_of<'a>(options: &ArgMatches<'a>) -> EngineReports<'a>
     ensures { AreReportsOf (rows_of (found_of options.now)) result }
 {

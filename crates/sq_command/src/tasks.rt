@@ -1,4 +1,4 @@
-// The subcommands that do something with an input: `run`, `ranges`, `live` and `steps`.
+// The subcommands that work on an input: `run`, `ranges`, `live` and `steps`.
 ghost use Rattle.std.specs.Prelude.{IfOk};
 ghost use Rattle.clap.specs.Matches.{found_of};
 ghost use Rattle.clap.specs.Walk.{rows_of};
@@ -14,18 +14,18 @@ use crate::options::{input_of, is_given, name_of, number_of};
 use clap::{ArgMatches, Command};
 use std::alloc::{AllocError, Global};
 
-/// The most turns that a thread of a live run takes.
+/// The largest number for `--turns`.
 pub const MAX_TURNS: u64 = 1_000_000_000;
 
-/// The most pumps that a live run has.
+/// The largest number for `--pumps`.
 pub const MAX_PUMPS: u64 = 16;
 
-/// How many turns a thread takes at most, and how many pumps there are, where no option says it.
+/// The defaults of `--turns` and `--pumps`.
 pub const TURNS: u64 = 1_000_000;
 
 pub const PUMPS: u64 = 1;
 
-/// The subcommand that makes the steps of a script.
+/// The subcommand `run`, which executes the steps of a script.
 pub fn run<'a>(alloc: Global) -> Result<Command<'a>, AllocError>
     ensures { HasShape run_shape result }
 {
@@ -36,7 +36,7 @@ pub fn run<'a>(alloc: Global) -> Result<Command<'a>, AllocError>
     with_input(alloc, keeping)
 }
 
-/// The run that options ask for.
+/// The run that `options` ask for. Fails if a file of a plan is missing.
 pub fn run_line<'a>(options: &ArgMatches<'a>) -> Result<Line<'a>, Clash>
     ensures line { Asks (IsWorkLine IsRunTask) LacksPlan (rows_of (found_of options.now)) result }
     ensures within { IfOk result LineIsWithin }
@@ -50,7 +50,7 @@ pub fn run_line<'a>(options: &ArgMatches<'a>) -> Result<Line<'a>, Clash>
     Ok(Line::Work { task, input })
 }
 
-/// The subcommand that lists what moves.
+/// The subcommand `ranges`, which lists what moves.
 pub fn ranges<'a>(alloc: Global) -> Result<Command<'a>, AllocError>
     ensures { HasShape ranges_shape result }
 {
@@ -61,7 +61,8 @@ pub fn ranges<'a>(alloc: Global) -> Result<Command<'a>, AllocError>
     with_input(alloc, sizing)
 }
 
-/// The listing that options ask for.
+/// The listing that `options` ask for. Fails if they ask for two formats, or if a file of a plan is
+/// missing.
 pub fn ranges_line<'a>(options: &ArgMatches<'a>) -> Result<Line<'a>, Clash>
     ensures line { Asks (IsWorkLine IsRangesTask) RangesClash
         (rows_of (found_of options.now)) result }
@@ -77,7 +78,7 @@ pub fn ranges_line<'a>(options: &ArgMatches<'a>) -> Result<Line<'a>, Clash>
     })
 }
 
-// The form that options ask for.
+// The output format that `options` ask for.
 fn form_of(options: &ArgMatches<'_>) -> Result<Form, Clash>
     ensures { Asks IsFormOf FormClash (rows_of (found_of options.now)) result }
 {
@@ -89,10 +90,10 @@ fn form_of(options: &ArgMatches<'_>) -> Result<Form, Clash>
     }
 }
 
-// As the texts of these defaults say.
+// The default texts below repeat these numbers.
 const _: () = prove!(TURNS == 1_000_000 && PUMPS == 1);
 
-// The subcommand that runs jobs in threads, with its options for numbers.
+// The subcommand `live` with its numeric options.
 fn numbered<'a>(alloc: Global) -> Result<Command<'a>, AllocError>
     ensures { HasShape numbered_shape result }
 {
@@ -102,7 +103,7 @@ fn numbered<'a>(alloc: Global) -> Result<Command<'a>, AllocError>
     with(with(plain, turns), pumps)
 }
 
-/// The subcommand that runs jobs in threads.
+/// The subcommand `live`, which runs jobs in threads.
 pub fn live<'a>(alloc: Global) -> Result<Command<'a>, AllocError>
     ensures { HasShape live_shape result }
 {
@@ -115,7 +116,7 @@ pub fn live<'a>(alloc: Global) -> Result<Command<'a>, AllocError>
     with_input(alloc, keeping)
 }
 
-/// The live run that options ask for.
+/// The live run that `options` ask for. Fails if a file of a plan is missing.
 pub fn live_line<'a>(options: &ArgMatches<'a>) -> Result<Line<'a>, Clash>
     ensures line { Asks (IsWorkLine IsLiveTask) LacksPlan (rows_of (found_of options.now)) result }
     ensures within { IfOk result LineIsWithin }
@@ -138,7 +139,7 @@ pub fn live_line<'a>(options: &ArgMatches<'a>) -> Result<Line<'a>, Clash>
     })
 }
 
-/// The subcommand that writes the script of a move.
+/// The subcommand `steps`, which writes the script of a move.
 pub fn steps<'a>(alloc: Global) -> Result<Command<'a>, AllocError>
     ensures { HasShape steps_shape result }
 {
@@ -146,7 +147,7 @@ pub fn steps<'a>(alloc: Global) -> Result<Command<'a>, AllocError>
     with_input(alloc, Ok(plain))
 }
 
-/// The script that options ask for.
+/// The script that `options` ask for. Fails if a file of a plan is missing.
 pub fn steps_line<'a>(options: &ArgMatches<'a>) -> Result<Line<'a>, Clash>
     ensures line { Asks (IsWorkLine IsStepsTask) LacksPlan (rows_of (found_of options.now)) result }
     ensures within { IfOk result LineIsWithin }

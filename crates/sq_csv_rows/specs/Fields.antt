@@ -1,4 +1,4 @@
--- The places in the fields of a table, beside the states of the reader of records.
+-- The places in the fields of a table, by the states of the reader of records.
 use Rattle.std.specs.Prelude.{◌≢◌}
 use Rattle.csv.specs.declared.parser.State.{State}
 use Rattle.csv.specs.declared.parser.State.TheVariants as st
@@ -16,6 +16,6 @@ field_place st.AfterQuote = AfterQuote
 field_place st.InEscape = Quoted
 field_place st.InComment = Start
 
--- a reader without escapes and comments has no state but these
+-- a state of a reader without escapes and comments
 abbrev pub IsUsual : State → Type 0
 IsUsual state = (state ≢ st.InEscape) × (state ≢ st.InComment)

@@ -1,4 +1,4 @@
-// The columns of a record, and the line of the row that they say.
+// The columns of a record, and the line of the row that it describes.
 ghost use Rattle.std.specs.Prelude.{◌≡◌, ◌<◌, ◌∷◌, ◌++◌, false, map, IfOk, OnOk};
 ghost use Rattle.std.specs.Fmt.{digit_glyph};
 ghost use Rattle.std.specs.List.{flat_map};
@@ -9,22 +9,22 @@ ghost use Rattle.sq_csv_rows.specs.Columns.{word_byte, digit_byte, digits_note, 
 use csv::ByteRecord;
 use std::alloc::{AllocError, Global};
 
-/// The names of the columns, as a header has them.
+/// The names of the columns in a header.
 const NAMES: [&[u8]; 5] = [b"root", b"table", b"sub", b"number", b"note"];
 
 /// The column of the note, from 0.
 pub const NOTE_COLUMN: usize = 4;
 
-// The front of a note in hexadecimal digits.
+// How a note in hexadecimal digits begins.
 const HEX: [u8; 4] = *b"hex:";
 
-// What takes the place of a byte that a word can't have.
+// Replaces a byte that a word can't have.
 const NO_BYTE: u8 = b'?';
 
 // Room for the line of a row with a short note.
 const LINE_ROOM: usize = 64;
 
-/// Whether a record names the columns, in letters of either case.
+/// Returns whether a record names the columns, in upper or lower case.
 pub(crate) fn is_header(values: &ByteRecord) -> bool {
     values.len() == NAMES.len()
         && NAMES.iter().enumerate().all(|(column, name)| {
@@ -34,7 +34,8 @@ pub(crate) fn is_header(values: &ByteRecord) -> bool {
         })
 }
 
-/// The line of the row that a record says: the word `row`, and a word for each field. A faulty field has a faulty word.
+/// The line of the row that a record describes: the word `row`, and a word for each field. A faulty
+/// field gets a faulty word. Fails if memory runs out.
 pub(crate) fn record_line(alloc: Global, values: &ByteRecord) -> Result<Vec<u8>, AllocError>
     ensures { IfOk result (λ line. line.items ≡ record_line (fields_of values.now)) }
 {
@@ -45,7 +46,7 @@ pub(crate) fn record_line(alloc: Global, values: &ByteRecord) -> Result<Vec<u8>,
     Ok(line)
 }
 
-// Puts the words of all fields behind a line, each behind a space.
+// Appends the words of all fields, each after a space.
 fn push_fields(line: &mut Vec<u8>, values: &ByteRecord) -> Result<(), AllocError>
     ensures { OnOk result (line.new.items ≡ line.old.items ++ fields_text (fields_of values.now)) }
 {
@@ -57,7 +58,7 @@ fn push_fields(line: &mut Vec<u8>, values: &ByteRecord) -> Result<(), AllocError
     Ok(())
 }
 
-// Puts the word of a field behind a space.
+// Appends a space and the word of a field.
 fn push_field(line: &mut Vec<u8>, column: usize, field: &[u8]) -> Result<(), AllocError>
     ensures { OnOk result (line.new.items ≡ line.old.items ++ 32 ∷ field_word (column, field.now)) }
 {
@@ -69,7 +70,7 @@ fn push_field(line: &mut Vec<u8>, column: usize, field: &[u8]) -> Result<(), All
     }
 }
 
-// Puts the note of a field.
+// Appends the note of a field.
 fn push_note(line: &mut Vec<u8>, field: &[u8]) -> Result<(), AllocError>
     ensures { OnOk result (line.new.items ≡ line.old.items ++ field_note field.now) }
 {
@@ -82,7 +83,7 @@ fn push_note(line: &mut Vec<u8>, field: &[u8]) -> Result<(), AllocError>
     }
 }
 
-// Puts a note of hexadecimal digits.
+// Appends a note of hexadecimal digits.
 fn push_digits(line: &mut Vec<u8>, digits: &[u8]) -> Result<(), AllocError>
     ensures { OnOk result (line.new.items ≡ line.old.items ++ digits_note digits.now) }
 {
@@ -95,7 +96,7 @@ fn push_digits(line: &mut Vec<u8>, digits: &[u8]) -> Result<(), AllocError>
     Ok(())
 }
 
-// Puts the digits of bytes, two a byte.
+// Appends the hexadecimal digits of bytes, two for each.
 fn push_hex(line: &mut Vec<u8>, bytes: &[u8]) -> Result<(), AllocError>
     ensures { OnOk result (line.new.items ≡ line.old.items ++ flat_map hex_byte_text bytes.now) }
 {
@@ -105,7 +106,7 @@ fn push_hex(line: &mut Vec<u8>, bytes: &[u8]) -> Result<(), AllocError>
     Ok(())
 }
 
-// Puts the bytes of a word.
+// Appends the bytes of a word.
 fn push_word(line: &mut Vec<u8>, bytes: &[u8]) -> Result<(), AllocError>
     ensures { OnOk result (line.new.items ≡ line.old.items ++ map word_byte bytes.now) }
 {
@@ -115,14 +116,14 @@ fn push_word(line: &mut Vec<u8>, bytes: &[u8]) -> Result<(), AllocError>
     Ok(())
 }
 
-// The byte of a word for this one.
+// The byte of a word for `byte`.
 fn word_byte(byte: u8) -> u8
     ensures { result ≡ word_byte byte }
 {
     if byte > b' ' { byte } else { NO_BYTE }
 }
 
-// The byte of a word of hexadecimal digits for this one.
+// The byte of a word of hexadecimal digits for `byte`.
 fn digit_byte(byte: u8) -> u8
     ensures { result ≡ digit_byte byte }
 {
@@ -133,7 +134,7 @@ fn digit_byte(byte: u8) -> u8
     }
 }
 
-// The lower-case digit of this value.
+// The lower-case hexadecimal digit of `value`.
 fn hex_digit(value: u8) -> u8
     requires { value < 16 }
     ensures { result ≡ digit_glyph false value }

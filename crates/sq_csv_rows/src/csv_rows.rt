@@ -11,17 +11,18 @@ use std::alloc::{AllocError, Global};
 use std::io;
 use std::io::{ErrorKind as IoErrorKind, Read};
 
-/// The records of a table of comma-separated values, as the lines of a file of rows, without a first one that names the columns.
-/// The last line is that of the first record which is cut off.
+/// A reader of the records of a table of comma-separated values, as the lines of a file of rows,
+/// without a first record that names the columns. It ends with the line of the first record that is
+/// cut off.
 #[derive(Drop)]
 pub struct CsvRows<'a, R: Read> {
     alloc: Global,
     table: Reader<LineByLine<R>>,
     record: ByteRecord,
     is_begun: bool,
-    // Whether no record comes any more.
+    // Whether there are no more records.
     is_over: bool,
-    // The line of the last record, and how many of its bytes were given.
+    // The line of the last record, and how many of its bytes were read.
     line: Vec<u8>,
     given: usize,
     // Where the records begin.
@@ -29,7 +30,8 @@ pub struct CsvRows<'a, R: Read> {
 }
 
 impl<'a, R: Read + Drop> CsvRows<'a, R> {
-    /// The rows of the table in `inner`; `lines` gets the lines on which its records begin. The only error is that memory ran out.
+    /// The rows of the table in `inner`; `lines` gets the lines on which its records begin. Fails
+    /// only if memory runs out.
     pub fn new(alloc: Global, inner: R, lines: &'a RecordLines) -> io::Result<CsvRows<'a, R>> {
         let inner = LineByLine::new(alloc, inner)?;
         let table = ReaderBuilder::new()
@@ -61,7 +63,7 @@ impl<R: Read> CsvRows<'_, R> {
         }
     }
 
-    // Reads the next record that isn't a header, and returns whether there is one.
+    // Reads the next record other than a header, and returns whether there is one.
     fn read_row(&mut self) -> io::Result<bool> {
         let found = self.read_record()?;
         let is_first = !self.is_begun;
@@ -73,7 +75,7 @@ impl<R: Read> CsvRows<'_, R> {
         Ok(found)
     }
 
-    // Makes a line of the next record, if there is one.
+    // Makes the line of the next record, if there is one.
     fn read_line(&mut self) -> io::Result<()> {
         if self.is_over {
             return Ok(());
@@ -88,7 +90,7 @@ impl<R: Read> CsvRows<'_, R> {
         Ok(())
     }
 
-    // Notes the line on which the record begins, and its flaw.
+    // Records the line on which the record begins, and its flaw.
     fn note_record(&self) -> Result<(), AllocError> {
         let table = self.table.get_ref();
         match table.flaw() {
@@ -100,7 +102,7 @@ impl<R: Read> CsvRows<'_, R> {
         }
     }
 
-    // The line of the record; no row's if the table ends inside its quotes.
+    // The line of the record; it isn't a row's if the table ends inside the record's quotes.
     fn line_of_record(&self) -> Result<Vec<u8>, AllocError> {
         match self.table.get_ref().flaw() {
             Some(

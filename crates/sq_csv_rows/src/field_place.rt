@@ -1,4 +1,4 @@
-// Where bytes of a table are in its fields.
+// The places that a byte may have in a field.
 ghost use Rattle.std.specs.Prelude.{◌≡◌};
 ghost use Rattle.csv.specs.declared.parser.State.{State};
 ghost use Rattle.csv.specs.Machine.{step};
@@ -8,10 +8,10 @@ ghost use Rattle.sq_csv_rows.specs.Fields.{field_place, IsUsual};
 /// The byte that ends a field within a record.
 pub(crate) const COMMA: u8 = b',';
 
-// The byte around a field that may have commas and line ends in it.
+// The byte that surrounds a field with commas or line ends in it.
 const QUOTE: u8 = b'"';
 
-/// Where the bytes that were read end.
+/// Where the bytes read so far end.
 #[derive(Clone, Copy, Debug, PartialEq, Eq)]
 pub(crate) enum FieldPlace {
     /// At the start of a field.
@@ -20,12 +20,12 @@ pub(crate) enum FieldPlace {
     Unquoted,
     /// Inside the quotes of a field.
     Quoted,
-    /// After a quote inside them, which closes them unless another quote follows.
+    /// After a quote inside the quotes of a field, which closes them unless another quote follows.
     AfterQuote,
 }
 
 impl FieldPlace {
-    /// The place after `byte`, as the reader of records has it.
+    /// The place after `byte`, as for the reader of records.
     pub(crate) fn after(self, byte: u8) -> FieldPlace
         ensures { (state : State) → IsUsual state → self ≡ field_place state
             → result ≡ field_place (step default_config state byte).0 }

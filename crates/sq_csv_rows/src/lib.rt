@@ -1,4 +1,4 @@
-//! Rows from a table of comma-separated values, as the lines of a file of rows.
+//! Reads rows from a table of comma-separated values, as the lines of a file of rows.
 #![tactic(auto)]
 
 mod columns;

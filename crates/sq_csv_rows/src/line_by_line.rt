@@ -1,4 +1,4 @@
-// A reader that gives one line at a time, up to where a record is cut off.
+// A reader that reads one line at a time, and ends where a record is cut off.
 ghost use Rattle.std.specs.Prelude.{◌≡◌, ◌≤◌, length, None};
 
 use crate::open_field::OpenField;
@@ -10,18 +10,19 @@ use std::io::{BufRead, BufReader, Read};
 // The byte that ends a line.
 const LINE_END: u8 = b'\n';
 
-// The byte order mark, which the reader of records passes over at the start of a table.
+// The byte order mark, which the reader of records skips at the start of a table.
 const MARK: [u8; 3] = [0xef, 0xbb, 0xbf];
 
-/// Gives `inner`'s bytes, of one line at a time, and counts the lines. It ends where a record is cut off.
+/// A reader that passes on what `inner` reads, at most one line per read, and counts the lines. It
+/// ends where a record is cut off.
 #[derive(Drop)]
 pub(crate) struct LineByLine<R: Read> {
     inner: BufReader<R>,
     is_within: bool,
     lines: u64,
-    // The field in which the bytes that were given end.
+    // The field in which the bytes passed on so far end.
     field: OpenField,
-    // How many bytes of the mark were given; `None` after any other byte.
+    // How many bytes of the byte order mark were passed on; `None` after any other byte.
     mark: Option<usize>,
     end: TableEnd,
 }
@@ -29,16 +30,16 @@ pub(crate) struct LineByLine<R: Read> {
 /// Whether a table has ended, and the flaw of its last record.
 #[derive(Clone, Copy, Debug, PartialEq, Eq)]
 pub(crate) enum TableEnd {
-    /// More may come.
+    /// It hasn't ended yet.
     Open,
-    /// It ends here, which the next read says.
+    /// It ends here, which the next read will report.
     Coming(Option<PlacedFlaw>),
-    /// A read has said so.
+    /// It has ended, and a read has reported that.
     Over(Option<PlacedFlaw>),
 }
 
 impl<R: Read + Drop> LineByLine<R> {
-    /// The lines of this reader.
+    /// A reader over `inner`. Fails if memory runs out.
     pub(crate) fn new(alloc: Global, inner: R) -> io::Result<LineByLine<R>> {
         Ok(LineByLine {
             inner: BufReader::new(alloc, inner)?,
@@ -52,7 +53,7 @@ impl<R: Read + Drop> LineByLine<R> {
 }
 
 impl<R: Read> LineByLine<R> {
-    /// How many lines were given, the last one perhaps in part.
+    /// How many lines were passed on, the last one perhaps in part.
     pub(crate) fn lines(&self) -> u64 {
         self.lines
     }
@@ -65,7 +66,7 @@ impl<R: Read> LineByLine<R> {
         }
     }
 
-    // Says that nothing more comes.
+    // Reports the end, by a read of 0 bytes.
     fn close(&mut self) -> usize
         ensures { result ≡ 0 }
     {
@@ -75,7 +76,7 @@ impl<R: Read> LineByLine<R> {
         0
     }
 
-    // Counts the line of `bytes`, unless it was counted before.
+    // Counts the line of `bytes`, unless it was already counted.
     fn count(&mut self, bytes: &[u8]) {
         let Some(last) = bytes.last() else {
             return;
@@ -86,7 +87,8 @@ impl<R: Read> LineByLine<R> {
         self.is_within = *last != LINE_END;
     }
 
-    // Follows the fields through `bytes` of the current line, and returns how many of them come before the record is cut off.
+    // Follows the fields through `bytes` of the current line, and returns how many of these come
+    // before the record is cut off.
     fn follow(&mut self, bytes: &[u8]) -> usize
         ensures { result ≤ length bytes.now }
     {
@@ -102,7 +104,8 @@ impl<R: Read> LineByLine<R> {
         bytes.len()
     }
 
-    // Enters `field`, which has `byte`; after the mark the first field begins anew.
+    // Enters `field`, which contains `byte`; after the byte order mark the first field begins
+    // again.
     fn enter(&mut self, field: OpenField, byte: u8) {
         self.mark = mark_with(self.mark, byte);
         self.field = if self.mark == Some(MARK.len()) {
@@ -113,7 +116,7 @@ impl<R: Read> LineByLine<R> {
     }
 }
 
-// How many bytes of the mark were given with `byte`; `None` if it isn't the mark's.
+// How many bytes of the byte order mark were passed on with `byte`; `None` if it isn't one of them.
 fn mark_with(given: Option<usize>, byte: u8) -> Option<usize> {
     let given = given?;
     (MARK.get(given) == Some(&byte)).then_some(given.saturating_add(1))

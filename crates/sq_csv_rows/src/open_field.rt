@@ -8,16 +8,17 @@ ghost use Rattle.sq_csv_rows.specs.Fields.{field_place, IsUsual};
 use crate::field_place::{COMMA, FieldPlace};
 use crate::record_flaw::{PlacedFlaw, RecordFlaw};
 
-/// The most bytes of a field that are read: enough for `hex:` and the digits of a note of 256 bytes, one more than a note may have.
+/// The most bytes of a field that are read: enough for `hex:` and the digits of a note of 256
+/// bytes, one more than a note may have.
 pub(crate) const LONGEST_FIELD: usize = 516;
 
-/// The last column that is read, from 0: the one after a row's last.
+/// The last column that is read, from 0: the one after the last column of a row.
 pub(crate) const LAST_COLUMN: usize = 5;
 
 /// The field that is being read.
 #[derive(Clone, Copy, Debug, PartialEq, Eq)]
 pub(crate) struct OpenField {
-    /// Where the bytes that were read end.
+    /// The place at which the bytes read so far end.
     pub(crate) place: FieldPlace,
     /// Its column, from 0.
     pub(crate) column: usize,
@@ -28,7 +29,7 @@ pub(crate) struct OpenField {
 }
 
 impl OpenField {
-    /// The first field of a record.
+    /// The first field of a record, before its first byte.
     pub(crate) fn first() -> OpenField
         ensures place { result.place ≡ FieldPlace.Start }
         ensures column { result.column ≡ 0 }
@@ -42,8 +43,8 @@ impl OpenField {
         }
     }
 
-    /// The field that is being read after `byte`, which is on `line` of the table. An error cuts the record off before `byte`: no row
-    /// has so many columns or so long a field.
+    /// The field that is being read after `byte`, which is on `line` of the table. An error cuts
+    /// the record off before `byte`: no row has that many columns or so long a field.
     pub(crate) fn with(self, byte: u8, line: u64) -> Result<OpenField, Option<PlacedFlaw>>
         ensures place { IfOk result (λ field. (state : State) → IsUsual state
             → self.place ≡ field_place state
@@ -80,7 +81,7 @@ impl OpenField {
         })
     }
 
-    /// The flaw of a table that ends here, inside quotes; `None` outside them.
+    /// The flaw of a table that ends here: inside quotes it has one, outside them `None`.
     pub(crate) fn flaw_at_end(self) -> Option<PlacedFlaw>
         ensures quoted { IsSome result ↔ (self.place ≡ FieldPlace.Quoted) }
         ensures line { IfSome result (λ placed. placed.line ≡ self.line) }
@@ -92,7 +93,8 @@ impl OpenField {
         })
     }
 
-    // How many bytes the field has after one more, which leads to `place`. The quotes around a field aren't counted.
+    // How many bytes the field has after one more, which leads to `place`. The quotes around a
+    // field don't count.
     fn length_in(self, place: FieldPlace) -> usize
         ensures { result ≤ self.length + 1 }
     {
@@ -102,7 +104,7 @@ impl OpenField {
         }
     }
 
-    // The field after `byte`, which ends this one; `None` if no row has so many.
+    // The field after `byte`, which ends this one; `None` if no row has that many fields.
     fn next(self, byte: u8) -> Option<OpenField>
         ensures none { IfNone result (LAST_COLUMN ≤ self.column) }
         ensures place { IfSome result (λ field. field.place ≡ FieldPlace.Start) }
@@ -119,7 +121,8 @@ impl OpenField {
         })
     }
 
-    // The flaw of a field that is too long at `place`, inside quotes; `None` outside them.
+    // The flaw of a field that is too long at `place`: inside quotes it has one, outside them
+    // `None`.
     fn long_flaw(self, place: FieldPlace) -> Option<PlacedFlaw>
         ensures { IfSome result (λ placed. placed.line ≡ self.line) }
     {

@@ -8,7 +8,8 @@ use std::fmt::{Display, Formatter, Write};
 pub enum RecordFlaw {
     /// The table ends inside the quotes of the field in this column.
     OpenQuote { column: usize },
-    /// The quotes of the field in this column aren't closed within as many bytes as are read of a field.
+    /// The quotes of the field in this column aren't closed within the most bytes that are read of
+    /// a field.
     LongQuote { column: usize },
 }
 

@@ -1,15 +1,16 @@
-// The lines of a table's records.
+// The lines on which the records of a table begin.
 use crate::record_flaw::RecordFlaw;
 use std::alloc::{AllocError, Global};
 use std::cell::RefCell;
 
-/// The lines of a table on which its records begin. The reader of the table notes them.
+/// The lines on which the records of a table begin. The reader of the table records them.
 #[derive(Drop)]
 pub struct RecordLines {
     lines: RefCell<LineList>,
 }
 
-/// `record` begins on `line`, and each one after it, up to the next jump, one line further.
+/// `record` begins on `line`, and each later one, up to the next jump, one line after the one
+/// before.
 #[derive(Clone, Copy, Debug, PartialEq, Eq)]
 struct Jump {
     record: u64,
@@ -20,14 +21,14 @@ struct Jump {
 #[derive(Drop)]
 struct LineList {
     jumps: Vec<Jump>,
-    // How many records were noted.
+    // How many records there are so far.
     count: u64,
     // What is wrong with the last of them.
     flaw: Option<RecordFlaw>,
 }
 
 impl RecordLines {
-    /// No records.
+    /// The lines of no records.
     pub fn new(alloc: Global) -> RecordLines {
         RecordLines {
             lines: RefCell::new(LineList {
@@ -38,7 +39,7 @@ impl RecordLines {
         }
     }
 
-    /// Notes the `line` on which the next record begins, and its flaw.
+    /// Records `line`, on which the next record begins, and its flaw. Fails if memory runs out.
     pub(crate) fn note(&self, line: u64, flaw: Option<RecordFlaw>) -> Result<(), AllocError> {
         match self.lines.try_borrow_mut() {
             Ok(mut lines) => {
@@ -49,13 +50,14 @@ impl RecordLines {
         }
     }
 
-    /// The line of the record of this number, from 1.
+    /// The line of record number `record`, from 1; `None` before the first record was recorded.
     pub fn line_of(&self, record: u64) -> Option<u64> {
         let lines = self.lines.try_borrow().ok()?;
         lines.line_of(record)
     }
 
-    /// Why the record of this number, from 1, isn't read to its end. Only the last one may have such a flaw.
+    /// Why record number `record`, from 1, isn't read to its end. Only the last one may have such a
+    /// flaw.
     pub fn flaw_of(&self, record: u64) -> Option<RecordFlaw> {
         let lines = self.lines.try_borrow().ok()?;
         if record == lines.count {
@@ -77,7 +79,7 @@ impl LineList {
         Ok(())
     }
 
-    // The line of the record of this number, by the last jump up to it.
+    // The line of record number `record`, by the last jump up to it.
     fn line_of(&self, record: u64) -> Option<u64> {
         let jump = self.jumps.iter().rev().find(|jump| jump.record <= record)?;
         Some(jump.line.saturating_add(record - jump.record))

@@ -1,16 +1,17 @@
-// What doesn't fit in a record, as it is said of its columns.
+// What is wrong with a record, in terms of its columns.
 use sq_diagnosis::{LineFlaw, ToldFlaw, ToldWord, Wanted};
 use sq_text::Words;
 use std::fmt;
 use std::fmt::{Display, Formatter, Write};
 
-// What the note is to be.
+// What the column of the note wants.
 const NOTE_IS: &str = "a note, a text or 'hex:' and two digits from 0-9 and a-f for each byte";
 
-// As many bytes of a word are shown.
+// How many bytes of a field are shown.
 const SHOWN: usize = 40;
 
-/// What doesn't fit in the line of a row, said of the columns of its record, which are counted from 1.
+/// What is wrong with the line of a row, in terms of the columns of its record, which are counted
+/// from 1.
 #[derive(Clone, Copy, Debug, PartialEq, Eq)]
 pub enum ToldColumn<'a> {
     /// It isn't of its form.
@@ -30,12 +31,12 @@ impl Display for ToldColumn<'_> {
     }
 }
 
-// The column of a word of this number: the first word of the line is `row`.
+// The column of word number `word`; the first word of the line is `row`.
 fn column_of(word: usize) -> usize {
     word.saturating_sub(1)
 }
 
-// Says by what a line isn't of its form.
+// Writes how a line departs from its form.
 fn write_flaw<W: Write>(f: &mut Formatter<W>, told: &ToldFlaw<'_>) -> fmt::Result {
     let line = told.line;
     match told.flaw {
@@ -65,7 +66,7 @@ fn write_flaw<W: Write>(f: &mut Formatter<W>, told: &ToldFlaw<'_>) -> fmt::Resul
     }
 }
 
-// What a field is to be.
+// What a column wants.
 #[derive(Clone, Copy)]
 struct InColumn(Wanted);
 
@@ -78,12 +79,13 @@ impl Display for InColumn {
     }
 }
 
-// A field in quotes, as its word shows it, with escapes for what isn't a character of ASCII, and cut off where it is long.
+// A field in quotes, as its word shows it, cut off if it is long, with escapes for bytes that
+// aren't printable ASCII characters.
 #[derive(Clone, Copy)]
 struct Field<'a>(&'a [u8]);
 
 impl<'a> Field<'a> {
-    // The field of the word of this number, from 1.
+    // The field whose word is word number `at` of the line, from 1.
     fn of(line: &'a [u8], at: usize) -> Field<'a> {
         let mut words = Words::of(line);
         let mut word = words.next_long();

@@ -1,4 +1,2 @@
 pub mod Sizes
-pub mod Demo
 pub mod Texts
-pub mod Commands

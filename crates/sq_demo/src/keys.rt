@@ -1,14 +1,15 @@
-// Root keys at random.
+// Random root keys.
 ghost use Rattle.std.specs.Prelude.{◌≡◌, ◌<◌, ◌≤◌};
 
 use crate::sizes::DemoSizes;
 
-/// Root keys that have rows, and look as if drawn at random: the same ones for one seed.
+/// A source of root keys that have rows, by pseudorandom numbers: the same keys for the same seed.
 #[derive(Drop)]
 pub(crate) struct KeySource {
     state: u64,
     roots: u64,
-    // How many root keys move and have rows, and how many of a hundred jobs are for these.
+    // How many root keys move and have rows, and how many of 100 jobs, on average, are drawn for
+    // these alone; the others are drawn for all root keys with rows.
     hot_roots: u64,
     hot: u64,
     ghost some: { 1 ≤ hot_roots },
@@ -16,7 +17,7 @@ pub(crate) struct KeySource {
 }
 
 impl KeySource {
-    /// A source of root keys for an input to begin with.
+    /// A source of root keys for a sample input.
     pub(crate) fn new(sizes: &DemoSizes) -> KeySource
         ensures { result.roots ≡ sizes.now.roots }
     {
@@ -28,7 +29,7 @@ impl KeySource {
         }
     }
 
-    /// The next one.
+    /// The next root key.
     pub(crate) fn draw(&mut self) -> u64
         ensures root { result < self.old.roots }
         ensures roots { self.new.roots ≡ self.old.roots }
@@ -40,7 +41,7 @@ impl KeySource {
         }
     }
 
-    // A number below this one.
+    // A number below `end`.
     fn below(&mut self, end: u64) -> u64
         requires { 1 ≤ end }
         ensures below { result < end }

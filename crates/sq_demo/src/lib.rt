@@ -1,5 +1,5 @@
-//! An input to begin with: the texts of two plans, of rows and of jobs, of which many are for root keys that move; and the
-//! commands that run it.
+//! Makes a sample input: the texts of two plans, of rows and of jobs, of which many are for root
+//! keys that move; and the commands that run it.
 #![tactic(auto)]
 
 mod commands;

@@ -1,4 +1,4 @@
-// The plans of an input to begin with.
+// The plans of a sample input.
 use crate::sizes::DemoSizes;
 use sq_schema::ROOT_END;
 use std::io;
@@ -15,7 +15,8 @@ pub(crate) fn write_old(text: &mut Vec<u8>, sizes: &DemoSizes) -> io::Result<()>
     text.write_all(b"]}\n")
 }
 
-/// Writes the plan after it: the other partitions have the first keys of partition 0, as evenly as may be.
+/// Writes the plan after the move: the other partitions have the first keys of partition 0, as
+/// evenly as possible.
 pub(crate) fn write_new(text: &mut Vec<u8>, sizes: &DemoSizes) -> io::Result<()> {
     let partitions = sizes.partitions;
     if sizes.stages {
@@ -34,7 +35,7 @@ pub(crate) fn write_new(text: &mut Vec<u8>, sizes: &DemoSizes) -> io::Result<()>
     text.write_all(b"]}\n")
 }
 
-// Writes the ranges of the first keys, up to those that stay, each with a comma behind it.
+// Writes the ranges of the first keys, up to those that stay, each with a comma after it.
 fn write_hot(text: &mut Vec<u8>, sizes: &DemoSizes) -> io::Result<()> {
     let (keys, others) = (sizes.hot_keys(), sizes.partitions - 1);
     for part in 1..sizes.partitions {
@@ -47,7 +48,8 @@ fn write_hot(text: &mut Vec<u8>, sizes: &DemoSizes) -> io::Result<()> {
     Ok(())
 }
 
-// Writes the ranges of the shares of the partitions. The share of partition 0 begins with this key.
+// Writes the ranges of the shares of the partitions. The share of partition 0 begins with the key
+// `first`.
 fn write_shares(text: &mut Vec<u8>, sizes: &DemoSizes, first: u64) -> io::Result<()> {
     let (share, last) = (sizes.share(), sizes.partitions - 1);
     for part in 0..last {

@@ -1,22 +1,20 @@
-// What an input to begin with is like.
+// What a sample input is like.
 ghost use Rattle.std.specs.Prelude.{◌≡◌, ◌≤◌, ◌<◌, ◌+◌, ◌*◌};
 
-/// What an input to begin with is like.
+/// What a sample input is like.
 #[derive(Clone, Copy, Debug, PartialEq, Eq)]
 pub struct DemoSizes {
-    /// How many partitions there are.
     pub partitions: u64,
-    /// How many root keys have rows: those from 0 on.
+    /// How many root keys have rows; they are counted from 0.
     pub roots: u64,
-    /// How many rows each of them has.
+    /// How many rows each of these root keys has.
     pub rows_per_root: u64,
-    /// How many jobs there are.
     pub jobs: u64,
-    /// How many jobs of a hundred are for root keys that move.
+    /// How many jobs of 100, on average, are drawn for root keys that move; the others are drawn
+    /// for all root keys with rows.
     pub hot: u64,
-    /// Whether the move has stages.
     pub stages: bool,
-    /// What the root keys of the jobs are drawn by.
+    /// The seed of the random numbers that choose the root keys of the jobs.
     pub seed: u64,
     pub ghost several: { 2 ≤ partitions },
     pub ghost few_partitions: { partitions ≤ 16 },
@@ -29,8 +27,8 @@ pub struct DemoSizes {
 impl DemoSizes {
     ghost use Rattle.sq_demo.specs.Sizes.{share_size, hot_keys_of, line_count};
 
-    /// How many root keys each partition has before the move, but for the last one, which has all that follow: as few as hold
-    /// those with rows, and eight at least.
+    /// How many root keys each partition but the last has before the move; the last one has all
+    /// that follow. It is the smallest number that covers the root keys with rows, and at least 8.
     pub(crate) fn share(&self) -> u64
         ensures share { result ≡ share_size self.now }
         ensures some { 8 ≤ result }
@@ -48,7 +46,7 @@ impl DemoSizes {
         self.share() / 8
     }
 
-    /// How many lines the whole input has.
+    /// How many lines the whole sample input has.
     pub fn line_count(&self) -> u64
         ensures { result ≡ line_count self.now }
     {

@@ -1,7 +1,7 @@
-// The texts of an input to begin with.
-ghost use Rattle.std.specs.Prelude.{◌≡◌, [], Some, IfOk};
+// The texts of a sample input.
+ghost use Rattle.std.specs.Prelude.{IfOk};
 ghost use Rattle.sq_plan.specs.PlanValue.{PlanValue};
-ghost use Rattle.sq_demo.specs.Demo.{IsPlanText, rows_text, WritesJobs};
+ghost use Rattle.sq_demo.specs.Texts.{IsPlanText};
 
 use crate::jobs::write_jobs;
 use crate::plans::{write_new, write_old};
@@ -10,12 +10,12 @@ use crate::sizes::DemoSizes;
 use sq_plan::{Plan, PlanFault};
 use std::alloc::Global;
 
-/// The texts of an input to begin with.
+/// The texts of a sample input.
 #[derive(Debug, Drop)]
 pub struct DemoTexts {
     /// The plan before the move.
     pub old: Vec<u8>,
-    /// The plan after it.
+    /// The plan after the move.
     pub new: Vec<u8>,
     /// The rows, as lines of a header.
     pub rows: Vec<u8>,
@@ -26,11 +26,12 @@ pub struct DemoTexts {
 impl DemoTexts {
     ghost use Rattle.sq_demo.specs.Texts.{IsDemo};
 
-    /// The texts of an input of these sizes. Before the move the partitions have root keys in their order, and the move gives
-    /// the first eighth of those of partition 0 to the others. Each plan is read before it is given; the only fault is that
-    /// memory ran out.
+    /// The texts of a sample input with these sizes. Before the move each partition owns a
+    /// contiguous share of the root keys, in the order of the partitions; the move gives the first
+    /// eighth of partition 0's share to the others. Each plan is read before it is returned. Fails
+    /// only if memory runs out.
     pub fn of(alloc: Global, sizes: &DemoSizes) -> Result<DemoTexts, PlanFault>
-        ensures { IfOk result (IsDemo sizes.now) }
+        ensures { IfOk result IsDemo }
     {
         let (old, plan) = old_plan(alloc, sizes)?;
         let new = new_plan(alloc, sizes)?;
@@ -57,7 +58,7 @@ fn old_plan(alloc: Global, sizes: &DemoSizes) -> Result<(Vec<u8>, Plan), PlanFau
     Ok((text, plan))
 }
 
-// The text of the plan after it.
+// The text of the plan after the move.
 fn new_plan(alloc: Global, sizes: &DemoSizes) -> Result<Vec<u8>, PlanFault>
     ensures { IfOk result (λ text. (plan : PlanValue) × IsPlanText plan text.items) }
 {
@@ -70,9 +71,7 @@ fn new_plan(alloc: Global, sizes: &DemoSizes) -> Result<Vec<u8>, PlanFault>
 }
 
 // The text of the rows.
-fn rows_of(alloc: Global, sizes: &DemoSizes) -> Result<Vec<u8>, PlanFault>
-    ensures { IfOk result (λ text. text.items ≡ rows_text sizes.now) }
-{
+fn rows_of(alloc: Global, sizes: &DemoSizes) -> Result<Vec<u8>, PlanFault> {
     let mut text = Vec::new(alloc);
     match write_rows(&mut text, sizes) {
         Ok(()) => Ok(text),
@@ -81,9 +80,7 @@ fn rows_of(alloc: Global, sizes: &DemoSizes) -> Result<Vec<u8>, PlanFault>
 }
 
 // The text of the sizes and the jobs.
-fn jobs_of(alloc: Global, sizes: &DemoSizes, old: &Plan) -> Result<Vec<u8>, PlanFault>
-    ensures { IfOk result (λ text. WritesJobs sizes.now old.now (Some []) (Some text.items)) }
-{
+fn jobs_of(alloc: Global, sizes: &DemoSizes, old: &Plan) -> Result<Vec<u8>, PlanFault> {
     let mut text = Vec::new(alloc);
     match write_jobs(&mut text, sizes, old) {
         Ok(()) => Ok(text),

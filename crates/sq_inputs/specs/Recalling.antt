@@ -2,10 +2,10 @@
 use Rattle.std.specs.Prelude.{ℕ, List, Option}
 use Rattle.sq_inputs.specs.declared.recalling.Recalling.{Recalling}
 
--- the reader behind it
+-- the inner reader
 abbrev pub recalling_inner : {R : Type 0} → Recalling R → R
 recalling_inner r = r.inner
 
--- what that one has left
+-- what the inner reader has left
 abbrev pub recalling_remaining : {R : Type 0} → (R → Option (List ℕ)) → Recalling R → Option (List ℕ)
 recalling_remaining remaining r = remaining r.inner

@@ -1,4 +1,4 @@
-// A reader with another one behind its first line.
+// A reader that inserts another one after its first line.
 ghost use Rattle.std.specs.Prelude.{◌≡◌, ◌<◌, length};
 ghost use Rattle.std.specs.Io.KnownBytes.{ReadConsumes};
 ghost use Rattle.std.specs.Io.{ReadsAtMost};
@@ -10,16 +10,17 @@ use std::cell::Cell;
 use std::io;
 use std::io::Read;
 
-/// One reader with another one behind its first line: it gives the first line, all of the other one, a line end where the
-/// last line of that has none, and then the rest. Where the first line has no end, nothing is behind it.
+/// A reader of `main` that inserts another one after its first line: it reads the first line, all
+/// of the other reader, a line end if the last line of that has none, and then the rest. If the
+/// first line has no end, nothing is inserted.
 #[derive(Drop)]
 pub struct Inserting<'a, M: Read, W: Read> {
     main: M,
     inserted: W,
     place: Place,
-    // How many lines of the other one were given.
+    // How many lines of the other reader were read.
     lines: usize,
-    // How many lines it has, for whoever wants to know.
+    // How many lines the other reader has, for anybody who asks.
     all_lines: &'a Cell<Option<usize>>,
 }
 
@@ -28,15 +29,15 @@ pub struct Inserting<'a, M: Read, W: Read> {
 pub(crate) enum Place {
     /// In the first line.
     FirstLine,
-    /// Behind the first line, in the other reader, at the start of a line of it or within one.
+    /// In the other reader, at the start of a line of it or within one.
     Inserted { at_start: bool },
-    /// Behind the other reader.
+    /// After the other reader.
     Rest,
 }
 
 impl<'a, M: Read, W: Read> Inserting<'a, M, W> {
-    /// A reader with another one behind its first line. How many lines the other one has goes into a cell, once all of them
-    /// were given.
+    /// A reader of `main` with `inserted` after its first line. `all_lines` gets the number of
+    /// lines of `inserted`, once all of them were read.
     pub fn new(main: M, inserted: W, all_lines: &'a Cell<Option<usize>>) -> Inserting<'a, M, W>
         ensures { inserting_remaining M.remaining W.remaining result
             ≡ inserted_text (M.remaining main) (W.remaining inserted) }
@@ -50,7 +51,8 @@ impl<'a, M: Read, W: Read> Inserting<'a, M, W> {
         }
     }
 
-    // Reads the next byte of the first line; what is behind that line isn't taken before the other reader.
+    // Reads the next byte of the first line, and nothing beyond that line, since the other reader
+    // comes first.
     fn read_first_line(&mut self, buf: &mut [u8]) -> io::Result<usize>
         requires some { 0 < length buf.old }
         requires place { self.old.place ≡ Place.FirstLine }
@@ -65,7 +67,8 @@ impl<'a, M: Read, W: Read> Inserting<'a, M, W> {
         Ok(count)
     }
 
-    // Reads on in the other reader, at the start of a line of it or within one, and behind it.
+    // Reads on in the other reader, at the start of a line of it or within one, and after its end
+    // in the rest.
     fn read_inserted(&mut self, at_start: bool, buf: &mut [u8]) -> io::Result<usize>
         requires some { 0 < length buf.old }
         requires place { self.old.place ≡ Place.Inserted at_start }

@@ -1,5 +1,5 @@
-//! An input that is put together: the plans and the rows of a move from files of their own, and the rest from a main input.
-//! And a reader that keeps the lines that it gave last.
+//! Assembles an input: the plans and the rows of a move from files of their own, and the rest from
+//! a main input. Also a reader that keeps the lines that it read last.
 #![tactic(auto)]
 
 mod inserting;

@@ -4,7 +4,7 @@ ghost use Rattle.std.specs.Prelude.{◌≤◌, length};
 /// The byte that ends a line.
 pub(crate) const LINE_END: u8 = 10;
 
-/// How many lines end in these bytes.
+/// How many line ends `bytes` have.
 pub(crate) fn lines_in(bytes: &[u8]) -> usize {
     let mut lines: usize = 0;
     for few in bytes.chunks(255) {
@@ -13,7 +13,8 @@ pub(crate) fn lines_in(bytes: &[u8]) -> usize {
     lines
 }
 
-// How many lines end in at most 255 bytes. All are looked at alike and counted in a byte, so that many are at once.
+// How many line ends there are in at most 255 bytes. Every byte is handled alike and the count is a
+// byte, so that the compiler can take many bytes at once.
 fn lines_in_few(bytes: &[u8]) -> u8
     requires { length bytes.now ≤ 255 }
     ensures { result ≤ length bytes.now }

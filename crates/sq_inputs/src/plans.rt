@@ -6,10 +6,11 @@ use std::alloc::{AllocError, Global};
 use std::io;
 use std::io::Read;
 
-/// As many bytes are read of a plan's file at most. No line of a plan can hold as many.
+/// The most bytes that are read of a plan's file. No line of a plan can hold as many.
 pub const PLAN_ROOM: u64 = 65_536;
 
-/// What a plan's file holds, up to [`PLAN_ROOM`] bytes. An error is a read that failed, or memory that ran out.
+/// The content of a plan's file, up to [`PLAN_ROOM`] bytes. Fails if a read does, or if memory runs
+/// out.
 pub fn plan_text<R: Read + Drop>(alloc: Global, file: R) -> io::Result<Vec<u8>>
     ensures { IfOk result (λ text. IfSome (R.remaining file) (λ bytes. text.items
         ≡ take PLAN_ROOM bytes)) }
@@ -20,7 +21,8 @@ pub fn plan_text<R: Read + Drop>(alloc: Global, file: R) -> io::Result<Vec<u8>>
     Ok(text)
 }
 
-/// The first two lines of a header, of the texts of both plans: each end of a line in a plan becomes a space.
+/// The first two lines of a header, from the texts of both plans, with each line end in a plan
+/// replaced by a space. Fails if memory runs out.
 pub fn plan_lines(alloc: Global, old: &[u8], new: &[u8]) -> Result<Vec<u8>, AllocError>
     ensures { IfOk result (λ lines. lines.items ≡ plan_lines old.now new.now) }
 {
@@ -33,7 +35,7 @@ pub fn plan_lines(alloc: Global, old: &[u8], new: &[u8]) -> Result<Vec<u8>, Allo
     Ok(lines)
 }
 
-// Appends a text, with a space in the place of each line end.
+// Appends a text, with a space in place of each line end.
 fn push_on_one_line(lines: &mut Vec<u8>, text: &[u8]) -> Result<(), AllocError>
     ensures { IfOk result (λ _. lines.new.items ≡ lines.old.items ++ on_one_line text.now) }
 {

@@ -1,4 +1,4 @@
-// A reader that keeps what it gave last.
+// A reader that keeps what it read last.
 ghost use Rattle.std.specs.Prelude.{◌≡◌};
 ghost use Rattle.sq_inputs.specs.Recalling.{recalling_remaining, recalling_inner};
 
@@ -7,29 +7,29 @@ use std::alloc::Global;
 use std::io;
 use std::io::Read;
 
-// No line that may be asked for is longer, and no read.
+// An upper bound on the length of a line that may be asked for, and of a read.
 const ROOM: usize = 262_144;
 
 // How many lines come first, each with a plan.
 const PLANS: usize = 2;
 
-/// A reader that keeps the lines which its last read touched, so that one who has read a line can ask for it again; and the
-/// first two lines, which hold the plans of a move.
+/// A reader that keeps the lines which its last read touched, so that a faulty line can be asked
+/// for again; and the first two lines, which hold the plans of a move.
 #[derive(Drop)]
 pub struct Recalling<R: Read> {
     inner: R,
-    // The last lines, the first of them from its beginning on.
+    // The last lines, the first of them from its beginning.
     kept: Vec<u8>,
     // How many of these bytes are whole lines, and how many lines those are.
     whole: usize,
     whole_lines: usize,
-    // How many lines are before them.
+    // How many lines come before them.
     lines_before: usize,
-    // Whether there was no room for them.
+    // Whether memory ran out for them, or they were too long.
     is_lost: bool,
-    // The first lines, as far as they came.
+    // The first lines, as far as they were read.
     plans: Vec<u8>,
-    // How many of them are still to end.
+    // How many of them haven't ended yet.
     plans_left: usize,
 }
 
@@ -47,7 +47,7 @@ pub enum Recalled<'a> {
 }
 
 impl<R: Read> Recalling<R> {
-    /// A reader that has given nothing yet.
+    /// A reader of `inner` that has read nothing yet.
     pub fn new(alloc: Global, inner: R) -> Recalling<R>
         ensures { recalling_remaining R.remaining result ≡ R.remaining inner }
     {
@@ -63,17 +63,18 @@ impl<R: Read> Recalling<R> {
         }
     }
 
-    /// The line of the old plan, the first of all, without its end; `None` where it hasn't ended, or there was no room for it.
+    /// The line of the old plan, the first line, without its end; `None` if it hasn't ended, is too
+    /// long to keep, or memory ran out for it.
     pub fn old_line(&self) -> Option<&[u8]> {
         self.plan_line(0)
     }
 
-    /// The line of the new plan, the second of all, in the same way.
+    /// The line of the new plan, the second line, without its end; `None` as for the old one.
     pub fn new_line(&self) -> Option<&[u8]> {
         self.plan_line(1)
     }
 
-    // The line of a plan behind so many lines.
+    // The line of a plan after `before` other lines.
     fn plan_line(&self, before: usize) -> Option<&[u8]> {
         let mut lines = self.plans.split_inclusive(|byte| *byte == LINE_END);
         match lines.nth(before)?.split_last() {
@@ -82,7 +83,7 @@ impl<R: Read> Recalling<R> {
         }
     }
 
-    /// The line with this number, from 1, where the last read touched it.
+    /// Line number `number`, from 1, if the last read touched it.
     pub fn line(&self, number: usize) -> Recalled<'_> {
         if self.is_lost || number <= self.lines_before {
             return Recalled::Lost;
@@ -97,7 +98,7 @@ impl<R: Read> Recalling<R> {
         }
     }
 
-    // Keeps what these bytes have of the lines of the plans.
+    // Keeps the part of `bytes` that belongs to the lines of the plans.
     fn keep_plans(&mut self, bytes: &[u8])
         ensures { recalling_inner self.new ≡ recalling_inner self.old }
     {
@@ -116,7 +117,7 @@ impl<R: Read> Recalling<R> {
         }
     }
 
-    // Drops the lines that were whole before, and keeps these bytes behind what is left.
+    // Drops the lines that were whole before, and keeps `bytes` after what is left.
     fn keep(&mut self, bytes: &[u8])
         ensures { recalling_inner self.new ≡ recalling_inner self.old }
     {

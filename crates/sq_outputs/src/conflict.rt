@@ -1,30 +1,29 @@
-// Files that a run can't write, since it reads them or writes them already.
+// Files that a run can't write, since it reads them or already writes them.
 ghost use Rattle.std.specs.Prelude.{◌↔◌, IsTrue, IfNone, IfSome};
 ghost use Rattle.sq_outputs.specs.Conflicts.{IsReadAt, IsWrittenAt, AreFree, IsConflict};
 
-/// A file that is to be written.
+/// A file to be written.
 #[derive(Debug, PartialEq, Eq, Drop)]
 pub struct Output<'a> {
     /// The option that names it.
     pub option: &'a str,
-    /// The name that it has there.
     pub name: &'a str,
-    /// Whether it is the file beside the one of this name, which is written first.
+    /// Whether it is the part file for `name`, which is written first.
     pub is_part: bool,
-    /// Where it is, in one spelling.
+    /// Its place, in one spelling.
     pub place: String,
 }
 
 /// Why a file can't be written.
 #[derive(Clone, Copy, Debug, PartialEq, Eq)]
 pub enum Conflict<'a> {
-    /// It is read too.
+    /// It is also read.
     IsRead(&'a Output<'a>),
-    /// An option before this one names it too.
+    /// An earlier option names it, too.
     NamedTwice(&'a Output<'a>),
 }
 
-// Whether this file is read.
+// Returns whether the file at `place` is read.
 fn is_read(read: &[String], place: &str) -> bool
     ensures { IsTrue result ↔ IsReadAt read.now place.now }
 {
@@ -36,7 +35,7 @@ fn is_read(read: &[String], place: &str) -> bool
     false
 }
 
-// Whether this file is to be written.
+// Returns whether the file at `place` is written.
 fn is_written(outputs: &[Output<'_>], place: &str) -> bool
     ensures { IsTrue result ↔ IsWrittenAt outputs.now place.now }
 {
@@ -48,8 +47,8 @@ fn is_written(outputs: &[Output<'_>], place: &str) -> bool
     false
 }
 
-/// The first of these files that is read too, or that one before it is. There is none where the run reads none of them, and
-/// each is another one.
+/// The first of `outputs` that is also read, or that is the same file as an earlier one; `None` if
+/// the run reads none of them and they are all different.
 pub fn conflict_among<'a>(outputs: &'a [Output<'a>], read: &[String]) -> Option<Conflict<'a>>
     ensures free { IfNone result (AreFree read.now outputs.now) }
     ensures taken { IfSome result (IsConflict read.now outputs.now) }

@@ -1,26 +1,28 @@
-// Where files are.
+// Access to files by name.
 ghost use Rattle.std.specs.Prelude.{[], ◌∷◌, is_ok, Option, List};
 ghost use Rattle.sq_outputs.specs.Calls.{FileCall, Written, Renamed, FolderSynced, Removed, Makes};
 
 use std::io;
 
-/// Where files are, by their names.
+/// Access to files by name.
 pub trait Folder {
-    // The calls that were made, with whether they succeeded, where that is known.
+    // The calls that were made, and whether each succeeded, if that is known.
     ghost calls: { Self → Option (List FileCall) };
 
-    /// Writes `text` into the file `name`, in place of what it holds, and waits until it is on the disk. The file gets the mode of
-    /// the file `like`, if that is there, before the text goes in. After an error it may hold a part of the text.
+    /// Replaces the content of the file `name` by `text`, and waits until it is on the disk. The
+    /// file gets the mode of the file `like`, if that exists, before the text is written. After an
+    /// error it may hold a part of the text.
     fn write(&mut self, name: &str, like: &str, text: &[u8]) -> io::Result<()>
         ensures { Makes (calls self.old) (calls self.new)
             (Written name.now like.now text.now (is_ok result) ∷ []) };
 
-    /// Has the file `from` take the place of the file `to`.
+    /// Renames the file `from` to `to`, which it replaces.
     fn rename(&mut self, from: &str, to: &str) -> io::Result<()>
         ensures { Makes (calls self.old) (calls self.new)
             (Renamed from.now to.now (is_ok result) ∷ []) };
 
-    /// Waits until the names in the folder of the file `name` are on the disk, if the system can do that.
+    /// Waits until the names in the folder of the file `name` are on the disk, if the system can do
+    /// that.
     fn sync_folder(&mut self, name: &str)
         ensures { Makes (calls self.old) (calls self.new) (FolderSynced name.now ∷ []) };
 

@@ -1,5 +1,5 @@
-//! Files that a run writes: each of them whole or not at all, and none over a file that it reads. And an output that may be a
-//! pipe.
+//! Files that a run writes: each whole or not at all, and never over a file that it reads; and an
+//! output that may be a pipe.
 #![tactic(auto)]
 
 mod conflict;

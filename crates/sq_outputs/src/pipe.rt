@@ -6,16 +6,17 @@ use std::cell::Cell;
 use std::io;
 use std::io::{ErrorKind, Write};
 
-/// A writer that may be a pipe, and notes that no one reads it any more.
+/// A writer that may be a pipe, and notes when its reader has closed it.
 #[derive(Drop)]
 pub struct PipeEnd<'a, W: Write> {
     inner: W,
-    // Whether no one reads it, for whoever wants to know.
+    // Whether its reader has closed it, for anybody who asks.
     is_closed: &'a Cell<bool>,
 }
 
 impl<'a, W: Write> PipeEnd<'a, W> {
-    /// A writer over another one. The cell gets `true` once a call fails because no one reads what is written.
+    /// A writer over `inner`. `is_closed` becomes true once a call fails because the reader has
+    /// closed the pipe.
     pub fn new(inner: W, is_closed: &'a Cell<bool>) -> PipeEnd<'a, W>
         ensures { piped_contents W.contents result ≡ W.contents inner }
     {

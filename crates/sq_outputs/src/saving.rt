@@ -8,19 +8,18 @@ use crate::folder::Folder;
 use std::alloc::{AllocError, Global};
 use std::io;
 
-/// A file that is to be written.
+/// A file to be written.
 #[derive(Drop)]
 pub struct NewFile<'a> {
-    /// Its name.
     name: &'a str,
-    /// The name of the file beside it, which is written first.
+    /// The name of its part file, beside it, which is written first.
     part: String,
-    /// What it is to hold.
+    /// The text that it will hold.
     text: &'a [u8],
 }
 
 impl<'a> NewFile<'a> {
-    /// The file `name`, which is to hold `text`.
+    /// The file `name`, which will hold `text`. Fails if memory runs out.
     pub fn new(alloc: Global, name: &'a str, text: &'a [u8]) -> Result<NewFile<'a>, AllocError>
         ensures name { IfOk result (λ file. file.name.now ≡ name.now) }
         ensures part { IfOk result (λ file. string_bytes file.part ≡ part_of name.now) }
@@ -34,22 +33,22 @@ impl<'a> NewFile<'a> {
 /// A file that can't be written, and why.
 #[derive(Debug, Drop)]
 pub struct Unsaved<'a> {
-    /// Its name.
     pub name: &'a str,
-    /// Why it can't be written.
     pub error: io::Error,
 }
 
-/// The name of the file beside the file `name`, into which a text goes first.
+/// The name of the part file for the file `name`, which gets the text first. Fails if memory runs
+/// out.
 pub fn part_name(alloc: Global, name: &str) -> Result<String, AllocError>
     ensures { IfOk result (λ part. string_bytes part ≡ part_of name.now) }
 {
     format!(in alloc; "{name}.squall-part")
 }
 
-/// Writes `files`, each whole or not at all. Each text goes into a file beside its own, with `.squall-part` after the name, and
-/// onto the disk; only then do these take their places, one after another. If a text can't be written, no file is replaced. If a
-/// file can't be replaced, those before it are and the others aren't. Either way no file is left beside them.
+/// Writes `files`, each whole or not at all. Each text goes into a part file beside its own, with
+/// `.squall-part` after the name, and onto the disk; only then do the part files replace their
+/// files, one after another. If a text can't be written, no file is replaced. If a file can't be
+/// replaced, those before it are and the others aren't. Either way no part file is left.
 pub fn save<'a, F: Folder>(folder: &mut F, files: &[NewFile<'a>]) -> Result<(), Unsaved<'a>>
     ensures saved { OnOk result
         (Makes (F.calls folder.old) (F.calls folder.new) (replacing files.now)) }
@@ -60,7 +59,7 @@ pub fn save<'a, F: Folder>(folder: &mut F, files: &[NewFile<'a>]) -> Result<(), 
     take_places(folder, files)
 }
 
-// Writes the text of each of these files into the one beside it. After an error no such file is left.
+// Writes the text of each file into its part file. After an error no part file is left.
 fn write_beside<'a, F: Folder>(folder: &mut F, files: &[NewFile<'a>]) -> Result<(), Unsaved<'a>>
     ensures saved { OnOk result
         (Makes (F.calls folder.old) (F.calls folder.new) (map (writes_beside true) files.now)) }
@@ -77,7 +76,7 @@ fn write_beside<'a, F: Folder>(folder: &mut F, files: &[NewFile<'a>]) -> Result<
     Ok(())
 }
 
-// Has the files beside these take their places, one after another. After an error no such file is left.
+// Replaces each file by its part file, one after another. After an error no part file is left.
 fn take_places<'a, F: Folder>(folder: &mut F, files: &[NewFile<'a>]) -> Result<(), Unsaved<'a>>
     ensures saved { OnOk result
         (Makes (F.calls folder.old) (F.calls folder.new) (flat_map placed_for_good files.now)) }
@@ -95,7 +94,7 @@ fn take_places<'a, F: Folder>(folder: &mut F, files: &[NewFile<'a>]) -> Result<(
     Ok(())
 }
 
-// Removes the files beside these.
+// Removes the part files.
 fn remove_beside<F: Folder>(folder: &mut F, files: &[NewFile<'_>])
     ensures { Makes (F.calls folder.old) (F.calls folder.new) (map removes_beside files.now) }
 {

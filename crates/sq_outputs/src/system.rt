@@ -9,19 +9,20 @@ use std::path::Path;
 use std::rt::Files;
 use std::{fs, io};
 
-// The names that lead to the standard streams.
+// The names of the standard streams.
 const STANDARD_INPUT: &str = "/dev/stdin";
 
 const STANDARD_OUTPUT: &str = "/dev/stdout";
 
-/// The files of the system. Nothing is known of what they hold. No file takes the place of a folder, a device or a pipe.
+/// The files of the system. Nothing is known of what they hold. No file replaces a folder, a device
+/// or a pipe.
 #[derive(Drop)]
 pub struct SystemFolder<'a, T> {
     rt: &'a T,
 }
 
 impl<'a, T> SystemFolder<'a, T> {
-    /// A folder behind this handle.
+    /// The files that `rt` reaches.
     pub fn new(rt: &'a T) -> SystemFolder<'a, T> {
         SystemFolder { rt }
     }
@@ -47,7 +48,7 @@ impl<T: Files> Folder for SystemFolder<'_, T> {
     }
 
     fn sync_folder(&mut self, name: &str) {
-        // Some systems and some folders don't allow it; the file has taken its place all the same.
+        // Some systems and some folders don't allow it; the file has been replaced anyway.
         let _ = sync_folder_of(self.rt, name);
     }
 
@@ -79,13 +80,13 @@ fn folder_of(file: Path<'_>) -> &str {
     }
 }
 
-// The error of a name under which there is something other than a file.
+// The error for a name that belongs to something other than a file.
 fn no_file() -> io::Error {
     io::Error::new(ErrorKind::AlreadyExists, "it is no file")
 }
 
-/// The name of the file that is written for `name`: that of the file to which a link leads, else `name` itself. An error is that
-/// there is no memory for it.
+/// The name of the file that is written for `name`: if that is a link, the file that it leads to,
+/// else `name` itself. Fails if memory runs out.
 pub fn file_to_write<T: Files + AllocGlobal>(rt: &T, name: &str) -> io::Result<String> {
     if !is_link(rt, name) {
         return Ok(String::from_str(rt.alloc(), name)?);
@@ -98,12 +99,12 @@ pub fn file_to_write<T: Files + AllocGlobal>(rt: &T, name: &str) -> io::Result<S
     }
 }
 
-/// Whether `name` is a link that leads to nothing.
+/// Returns whether `name` is a link that leads nowhere.
 pub fn leads_nowhere<T: Files>(rt: &T, name: &str) -> bool {
     is_link(rt, name) && fs::metadata(rt, name).is_err()
 }
 
-// Whether `name` is a link.
+// Returns whether `name` is a link.
 fn is_link<T: Files>(rt: &T, name: &str) -> bool {
     match fs::symlink_metadata(rt, name) {
         Ok(there) => there.is_symlink(),
@@ -111,7 +112,7 @@ fn is_link<T: Files>(rt: &T, name: &str) -> bool {
     }
 }
 
-/// Fails where no file `name` can be made: makes it, and removes it again.
+/// Fails if no file `name` can be made. Makes it, and removes it again.
 pub fn try_to_make<T: Files>(rt: &T, name: &str) -> io::Result<()> {
     fs::create(rt, name)?;
     fs::remove_file(rt, name)
@@ -122,8 +123,9 @@ pub fn write_device<T: Files>(rt: &T, name: &str, text: &[u8]) -> io::Result<()>
     fs::write(rt, name, text)
 }
 
-/// The place of the file of this name, in one spelling for all names that lead to it, by links or hard links too. Where it
-/// isn't there yet that is a place in its folder, and where its folder can't be found the name.
+/// The place of the file `name`, in one spelling for all names that lead to it, by links or hard
+/// links too. If the file doesn't exist, it is a place in its folder, and if its folder can't be
+/// found, the name itself. Fails if memory runs out.
 pub fn place_of<T: Files + AllocGlobal>(rt: &T, name: &str) -> io::Result<String> {
     match fs::metadata(rt, name) {
         Ok(there) => {
@@ -134,17 +136,17 @@ pub fn place_of<T: Files + AllocGlobal>(rt: &T, name: &str) -> io::Result<String
     }
 }
 
-/// The place of standard input, if it is a file.
+/// The place of standard input; `None` if it isn't a file.
 pub fn place_of_standard_input<T: Files + AllocGlobal>(rt: &T) -> io::Result<Option<String>> {
     place_of_stream(rt, STANDARD_INPUT)
 }
 
-/// The place of standard output, if it is a file.
+/// The place of standard output; `None` if it isn't a file.
 pub fn place_of_standard_output<T: Files + AllocGlobal>(rt: &T) -> io::Result<Option<String>> {
     place_of_stream(rt, STANDARD_OUTPUT)
 }
 
-// The place of the file that a standard stream is, if it is one.
+// The place of a standard stream; `None` if it isn't a file.
 fn place_of_stream<T: Files + AllocGlobal>(rt: &T, stream: &str) -> io::Result<Option<String>> {
     match fs::metadata(rt, stream) {
         Ok(there) if there.is_file() => Ok(Some(place_of(rt, stream)?)),
@@ -152,7 +154,7 @@ fn place_of_stream<T: Files + AllocGlobal>(rt: &T, stream: &str) -> io::Result<O
     }
 }
 
-/// Whether something has this name that is no file: a folder, a device or a pipe.
+/// Returns whether `name` is that of something other than a file: a folder, a device or a pipe.
 pub fn is_other_than_file<T: Files>(rt: &T, name: &str) -> bool {
     match fs::metadata(rt, name) {
         Ok(there) => !there.is_file(),
@@ -160,7 +162,7 @@ pub fn is_other_than_file<T: Files>(rt: &T, name: &str) -> bool {
     }
 }
 
-/// Whether a folder has this name.
+/// Returns whether `name` is that of a folder.
 pub fn is_folder<T: Files>(rt: &T, name: &str) -> bool {
     match fs::metadata(rt, name) {
         Ok(there) => there.is_dir(),
@@ -168,7 +170,7 @@ pub fn is_folder<T: Files>(rt: &T, name: &str) -> bool {
     }
 }
 
-// The place that a file of this name would have in its folder.
+// The place that a file with this name would have in its folder.
 fn place_in_folder<T: Files + AllocGlobal>(rt: &T, name: &str) -> io::Result<String> {
     let path = Path::new(name);
     let Some(file) = path.file_name() else {
@@ -181,7 +183,7 @@ fn place_in_folder<T: Files + AllocGlobal>(rt: &T, name: &str) -> io::Result<Str
     }
 }
 
-// The path of what is there, without links.
+// The path of what exists under `name`, without links.
 fn text_of_path<T: Files + AllocGlobal>(rt: &T, name: &str) -> io::Result<String> {
     let path = fs::canonicalize(rt, name)?;
     Ok(String::from_str(rt.alloc(), path.as_str())?)

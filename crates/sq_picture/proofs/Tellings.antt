@@ -9,7 +9,6 @@ use Rattle.sq_ranges.specs.ReconValue.{ReconValue}
 use Rattle.sq_world.specs.declared.telling.Told.TheVariants.{Written, NoMemory}
 use Rattle.sq_world.specs.Listing.{IsTold}
 use Rattle.sq_picture.specs.Json.{moves_data, TellsAsJson}
-use Rattle.sq_picture.specs.MovesSvg.{moves_svg, TellsAsSvg}
 
 -- nothing was written
 pub not_told : (tells : ReconValue → List ℕ → Type 0) (recon : ReconValue) (a : Option (List ℕ)) → IsTold tells recon a a NoMemory
@@ -18,7 +17,3 @@ not_told tells recon a = Appends-nil a
 -- a line of JSON was written
 pub told_as_json : (recon : ReconValue) (text : List ℕ) (a b : Option (List ℕ)) → text ≡ compact_text (moves_data recon) → read text ≡ Some (moves_data recon) → Appends a b (text ++ 10 ∷ []) → IsTold TellsAsJson recon a b Written
 told_as_json recon text a b compact back wrote = (text ++ 10 ∷ [], wrote, (text, record { compact = compact; reads_back = back }, refl))
-
--- a picture was written
-pub told_as_svg : (recon : ReconValue) (a b : Option (List ℕ)) → Appends a b (moves_svg recon) → IsTold TellsAsSvg recon a b Written
-told_as_svg recon a b wrote = (moves_svg recon, wrote, refl)

@@ -22,18 +22,20 @@ segment_data recon segment =
     (member (codes "lo") (number_data segment.lo) (member (codes "src") (number_data segment.src)
     (member (codes "stage") (number_data (stage_in recon segment)) no_members)))))
 
--- the whole: the ranges in key order, the segments in the order of their numbers, and how many stages there are
+-- the whole: the ranges in key order, the segments in the order of their numbers, and the number of
+-- stages
 abbrev pub moves_data : ReconValue → Data
 moves_data recon =
     object (member (codes "ranges") (array (items_of (map moved_range_data recon.ranges)))
     (member (codes "segments") (array (items_of (map (segment_data recon) recon.segments)))
     (member (codes "stages") (number_data (stages recon)) no_members)))
 
--- the text is the compact one of what moves, which has no line end, and reading it gives that value again
+-- the text is the compact one of what moves, which has no line end, and reading it returns that
+-- value again
 pub record SpellsMoves (recon : ReconValue) (text : List ℕ) : Type 0 where
   pub compact : text ≡ compact_text (moves_data recon)
   pub reads_back : read text ≡ Some (moves_data recon)
 
--- such a text, with a line end behind it
+-- such a text, with a line end after it
 abbrev pub TellsAsJson : ReconValue → List ℕ → Type 0
 TellsAsJson recon out = (text : List ℕ) × SpellsMoves recon text × (out ≡ text ++ 10 ∷ [])

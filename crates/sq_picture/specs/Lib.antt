@@ -1,4 +1,2 @@
 pub mod Json
-pub mod Svg
-pub mod MovesSvg
-pub mod TreeSvg
+pub mod Pictures

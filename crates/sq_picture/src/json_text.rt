@@ -10,14 +10,14 @@ use serde_json::{Value, json};
 use sq_ranges::{Range, Recon};
 use std::alloc::{AllocError, Global};
 
-// A reconfiguration range as JSON.
+// Returns a reconfiguration range as JSON.
 fn range_value(alloc: Global, range: Range) -> Result<Value, AllocError>
     ensures { IfOk result (λ value. view value ≡ moved_range_data range) }
 {
     json!(in alloc; {"dst": range.dst.number(), "hi": range.hi, "lo": range.lo, "src": range.src.number()})
 }
 
-// The ranges as JSON, one for one.
+// Returns `ranges` as JSON, one for one.
 fn ranges_value(alloc: Global, ranges: &[Range]) -> Result<Value, AllocError>
     ensures { IfOk result (λ value. view value
         ≡ array (items_of (map moved_range_data ranges.now))) }
@@ -29,7 +29,7 @@ fn ranges_value(alloc: Global, ranges: &[Range]) -> Result<Value, AllocError>
     Ok(Value::Array(values))
 }
 
-// A segment as JSON, with its stage.
+// Returns a segment as JSON, with its stage.
 fn segment_value(alloc: Global, recon: &Recon, segment: Range) -> Result<Value, AllocError>
     ensures { IfOk result (λ value. view value ≡ segment_data recon.now segment) }
 {
@@ -43,7 +43,7 @@ fn segment_value(alloc: Global, recon: &Recon, segment: Range) -> Result<Value, 
     })
 }
 
-// The segments as JSON, one for one.
+// Returns the segments as JSON, one for one.
 fn segments_value(alloc: Global, recon: &Recon) -> Result<Value, AllocError>
     ensures { IfOk result (λ value. view value
         ≡ array (items_of (map (segment_data recon.now) recon.now.segments))) }
@@ -56,7 +56,7 @@ fn segments_value(alloc: Global, recon: &Recon) -> Result<Value, AllocError>
     Ok(Value::Array(values))
 }
 
-// What moves as a JSON value.
+// Returns what moves as a JSON value.
 fn moves_value(alloc: Global, recon: &Recon) -> Result<Value, AllocError>
     ensures { IfOk result (λ value. view value ≡ moves_data recon.now) }
 {
@@ -66,8 +66,9 @@ fn moves_value(alloc: Global, recon: &Recon) -> Result<Value, AllocError>
     json!(in alloc; {"ranges": ranges, "segments": segments, "stages": stages})
 }
 
-/// What moves, in compact JSON: the ranges in key order, the segments in the order of their numbers, each with its stage, and
-/// how many stages there are. Reading the text gives this value again. The only fault is that memory ran out.
+/// Returns what moves in compact JSON: the ranges in key order, the segments in the order of their
+/// numbers, each with its stage, and the number of stages. Reading the text returns this value
+/// again. Fails only if memory runs out.
 pub fn moves_json(alloc: Global, recon: &Recon) -> Result<String, AllocError>
     ensures compact { IfOk result (λ text. string_bytes text
         ≡ compact_text (moves_data recon.now)) }

@@ -1,11 +1,10 @@
-//! What moves between two plans, as JSON and as a picture, and the tree of a segment as a picture.
+//! What moves between two plans, as JSON and as a picture.
 #![tactic(auto)]
 
 mod json_text;
 mod listing;
 mod moves_svg;
 mod svg;
-mod tree_svg;
 
 pub use json_text::moves_json;
 pub use listing::{AsJson, AsSvg};
@@ -14,4 +13,3 @@ pub use moves_svg::{
     write_numbers, write_open_segment, write_segment_end, write_top,
 };
 pub use svg::write_end;
-pub use tree_svg::write_tree_svg;

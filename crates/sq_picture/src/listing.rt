@@ -1,6 +1,6 @@
 // Ways to write what moves: as JSON, and as a picture.
 ghost use Rattle.sq_picture.specs.Json.{TellsAsJson};
-ghost use Rattle.sq_picture.specs.MovesSvg.{TellsAsSvg};
+ghost use Rattle.sq_picture.specs.Pictures.{IsPicture};
 
 use crate::json_text::moves_json;
 use crate::moves_svg::write_moves_svg;
@@ -10,12 +10,12 @@ use std::alloc::Global;
 use std::io;
 use std::io::Write;
 
-/// What moves, as JSON: one line, which is an object with the members `ranges`, the reconfiguration ranges in key order, each
-/// with `dst`, `hi`, `lo` and `src`; `segments`, in the order of their numbers, each with these and `stage`; and `stages`, how
-/// many there are.
+/// Writes what moves as one line of JSON, an object with the members `ranges`, the reconfiguration
+/// ranges in key order, each with `dst`, `hi`, `lo` and `src`; `segments`, in the order of their
+/// numbers, each with these and `stage`; and `stages`, the number of stages.
 pub struct AsJson;
 
-/// What moves, as a picture, in SVG, as [`write_moves_svg`] draws it.
+/// Writes what moves as an SVG picture, as [`write_moves_svg`] draws it.
 pub struct AsSvg;
 
 impl Telling for AsJson {
@@ -33,10 +33,14 @@ impl Telling for AsJson {
 }
 
 impl Telling for AsSvg {
-    ghost tells = { λ _. TellsAsSvg };
+    ghost tells = { λ _. IsPicture };
 
-    fn tell<W: Write>(&self, _alloc: Global, writer: &mut W, recon: &Recon) -> io::Result<Told> {
-        write_moves_svg(writer, recon)?;
+    fn tell<W: Write>(&self, alloc: Global, writer: &mut W, recon: &Recon) -> io::Result<Told> {
+        let mut picture = Vec::new(alloc);
+        if write_moves_svg(&mut picture, recon).is_err() {
+            return Ok(Told::NoMemory);
+        }
+        writer.write_all(&picture)?;
         Ok(Told::Written)
     }
 }

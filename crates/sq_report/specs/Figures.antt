@@ -8,7 +8,7 @@ use Rattle.sq_report.specs.Notes.{told}
 use Rattle.sq_report.specs.Counts.{link_count}
 use Rattle.sq_report.specs.Measures.{link_measure}
 
--- its stage, what is counted of it, and the rows and the bytes of its families
+-- its stage, its counts, and the rows and the bytes of its families
 abbrev pub link_figures : ℕ → List StoreValue → GatheredLink → LinkFigures
 link_figures stage stores link = record {
   stage = stage;

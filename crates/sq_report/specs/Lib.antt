@@ -3,4 +3,3 @@ pub mod Counts
 pub mod Measures
 pub mod Figures
 pub mod SummaryValue
-pub mod Tables

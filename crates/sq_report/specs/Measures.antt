@@ -14,14 +14,15 @@ abbrev pub measure_of : Measure → FamilyValue → ℕ
 measure_of Rows family = length (rows_of family)
 measure_of Bytes family = rows_size (rows_of family)
 
--- the same of the families that a store has of the root keys that a note covers, and of those in a chunk
+-- the same of the families of a store with root keys that a note covers, and of those in a chunk
 abbrev pub stored_measure : Measure → StoreValue → Note → ℕ
 stored_measure measure store note = sum_by (measure_of measure) (families_between store note.lo note.hi)
 
 abbrev pub carried_measure : Measure → ChunkValue → ℕ
 carried_measure measure chunk = sum_by (measure_of measure) chunk.families
 
--- the same of what moved along a link: of the root keys that its notes cover, at the destination or under way
+-- the same of what moved along a link: of the root keys that its notes cover, at the destination or
+-- under way
 abbrev pub link_measure : Measure → List StoreValue → GatheredLink → ℕ
 link_measure measure stores link =
     option_map_or (λ store. sum_by (stored_measure measure store) link.notes) (slice_get stores link.dst) 0

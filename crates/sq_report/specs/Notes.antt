@@ -3,7 +3,7 @@ use Rattle.std.specs.Prelude.{ℕ, ◌-◌, ◌^◌, min, length}
 use Rattle.sq_store.specs.StoreValue.{StoreValue, families_between}
 use Rattle.sq_chunk.specs.declared.chunk.Note.{Note}
 
--- as much of a count as a number holds
+-- a count, or the largest 64-bit number if it doesn't fit
 abbrev pub told : ℕ → ℕ
 told count = min count (2 ^ 64 - 1)
 
@@ -11,6 +11,6 @@ told count = min count (2 ^ 64 - 1)
 abbrev pub covered_keys : Note → ℕ
 covered_keys note = note.hi - note.lo
 
--- how many families a store has of the root keys that a note covers
+-- how many families a store has with root keys that a note covers
 abbrev pub stored_in : StoreValue → Note → ℕ
 stored_in store note = length (families_between store note.lo note.hi)

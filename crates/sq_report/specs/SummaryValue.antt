@@ -1,4 +1,4 @@
--- What is counted over the stages of a run.
+-- The counts over the stages of a run.
 use Rattle.std.specs.Prelude.{ℕ, max, List, [], length, map, slice_get, slice_index_or}
 use Rattle.std.specs.List.{range_with_len}
 use Rattle.std.specs.Option.{option_map_or}
@@ -7,7 +7,7 @@ use Rattle.sq_report.specs.declared.counts.LinkCount.{LinkCount}
 use Rattle.sq_report.specs.declared.counts.PartCount.{PartCount}
 use Rattle.sq_report.specs.Counts.{counted}
 
--- by link what moved along it, and by partition how jobs ended there
+-- for each link what moved along it, and for each partition how jobs ended there
 pub record SummaryValue : Type 0 where
   pub links : List LinkCount
   pub parts : List PartCount
@@ -15,7 +15,7 @@ pub record SummaryValue : Type 0 where
 abbrev pub none_yet : PartCount
 none_yet = record { committed = 0; aborted = 0 }
 
--- the count of a partition, with the receipts of its node
+-- the counts of a partition, with the receipts of its node
 abbrev pub count_after : List PartCount → List NodeState → ℕ → PartCount
 count_after parts nodes part =
     counted (slice_index_or parts part none_yet) (option_map_or (λ node. node.receipts) (slice_get nodes part) [])

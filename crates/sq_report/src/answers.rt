@@ -1,4 +1,4 @@
-// When jobs are answered, by whom, and which.
+// When jobs are answered, by which partition, and which jobs.
 use crate::wait_marks::WaitBegins;
 use sq_node::Node;
 use sq_summary::{Event, Happened, TimedAnswer};
@@ -8,8 +8,9 @@ use std::sync::atomic::{AtomicBool, AtomicU8, AtomicU64, Ordering};
 // The partition of a place that isn't taken.
 const NO_PART: u8 = u8::MAX;
 
-/// Marks of answers, set by many threads. A gate doesn't hear which job was answered: each mark gets its job once the
-/// stage has ended, since the receipts of a node are in the order of its marks.
+/// Marks of answers, set by many threads. A gate doesn't learn which job was answered: the marks
+/// get their jobs once the stage has ended, since the receipts of a node are in the order of its
+/// marks.
 #[derive(Drop)]
 pub(crate) struct AnswerMarks {
     marks: Vec<AnswerMark>,
@@ -27,7 +28,7 @@ struct AnswerMark {
 }
 
 impl AnswerMark {
-    // One that isn't set.
+    // A mark that isn't set.
     fn new() -> AnswerMark {
         AnswerMark {
             micros: AtomicU64::new(0),
@@ -37,7 +38,7 @@ impl AnswerMark {
         }
     }
 
-    // The answer to a job that was posted at this time, where waits began as these say.
+    // The answer to a job that was posted at `posted`; `begins` says when waits began.
     fn answer(&self, posted: u64, begins: &WaitBegins) -> TimedAnswer {
         let part = self.part.load(Ordering::SeqCst);
         let id = self.id.load(Ordering::SeqCst);
@@ -57,7 +58,7 @@ impl AnswerMark {
 }
 
 impl AnswerMarks {
-    /// None of so many that may come.
+    /// Room for `places` marks, none set yet.
     pub(crate) fn new(alloc: Global, places: usize) -> Result<AnswerMarks, AllocError> {
         let mut marks = Vec::new(alloc);
         for _place in 0..places {
@@ -70,7 +71,7 @@ impl AnswerMarks {
         })
     }
 
-    /// Marks an answer that a partition gives at this time. No other thread gets its place.
+    /// Marks an answer of partition `part` at `micros`. No other thread gets its place.
     pub(crate) fn mark(&self, micros: u64, part: u8, has_waited: bool) {
         let place = self.count.fetch_add(1, Ordering::SeqCst);
         if let Some(mark) = self.marks.get(place as usize) {
@@ -80,7 +81,8 @@ impl AnswerMarks {
         }
     }
 
-    /// Gives the marks of a stage their jobs, by its nodes, which have the receipts of this stage alone.
+    /// Gives the marks of a stage their jobs, by its nodes, which hold the receipts of this stage
+    /// alone.
     pub(crate) fn name(&self, nodes: &[Node]) {
         let count = self.count.load(Ordering::SeqCst);
         let first = self.named.swap(count, Ordering::SeqCst);
@@ -89,7 +91,7 @@ impl AnswerMarks {
         }
     }
 
-    // Gives a node's marks their jobs, from this place on.
+    // Gives a node's marks their jobs, from place `first` on.
     fn name_by(&self, node: &Node, first: usize) {
         let part = node.part().number();
         let mut receipts = node.receipts().iter();
@@ -102,7 +104,8 @@ impl AnswerMarks {
         }
     }
 
-    /// The answers to jobs that were posted at this time, in any order, where waits began as these say.
+    /// The answers to jobs that were posted at `posted`, in any order; `begins` says when waits
+    /// began. Fails if memory runs out.
     pub(crate) fn answers(
         &self,
         alloc: Global,
@@ -117,7 +120,8 @@ impl AnswerMarks {
         Ok(answers)
     }
 
-    /// Adds an event for each answer, by its time since the beginning.
+    /// Adds an event for each answer, with the microseconds since `began`. Fails if memory runs
+    /// out.
     pub(crate) fn add_to(
         &self,
         events: &mut Vec<Event>,

@@ -2,16 +2,16 @@
 use std::sync::atomic::{AtomicU64, Ordering};
 use std::time::{Clock, Instant};
 
-/// Measures the time since it was started.
+/// A stopwatch, which measures the time since it was started.
 #[derive(Drop)]
 pub struct Stopwatch<'a, C> {
     clock: &'a C,
-    /// When it was started. `None` where the clock couldn't be read.
+    /// When it was started; `None` if the clock couldn't be read.
     start: Option<Instant>,
 }
 
 impl<'a, C: Clock> Stopwatch<'a, C> {
-    /// One that starts now.
+    /// A stopwatch that starts now.
     pub fn start(clock: &'a C) -> Stopwatch<'a, C> {
         Stopwatch {
             clock,
@@ -19,7 +19,7 @@ impl<'a, C: Clock> Stopwatch<'a, C> {
         }
     }
 
-    /// How many microseconds have gone by; 0 where the clock can't be read.
+    /// The microseconds since it was started; 0 if the clock can't be read.
     pub fn micros(&self) -> u64 {
         match (self.start, Instant::now(self.clock)) {
             (Some(start), Ok(now)) => {
@@ -31,7 +31,7 @@ impl<'a, C: Clock> Stopwatch<'a, C> {
     }
 }
 
-// The beginning of a span that isn't running.
+// Stands for the beginning of a span that isn't running.
 const STOPPED: u64 = u64::MAX;
 
 /// Adds up the time between each beginning and the end that follows.
@@ -42,7 +42,7 @@ pub(crate) struct Elapsed {
 }
 
 impl Elapsed {
-    /// One that has taken no time.
+    /// A total of 0, with no span running.
     pub(crate) fn new() -> Elapsed {
         Elapsed {
             began: AtomicU64::new(STOPPED),
@@ -50,19 +50,19 @@ impl Elapsed {
         }
     }
 
-    /// It begins at this time.
+    /// Begins a span at `micros`.
     pub(crate) fn begin(&self, micros: u64) {
         self.began.store(micros, Ordering::SeqCst);
     }
 
-    /// It ends at this time, if it is running.
+    /// Ends the span at `micros`, if one is running.
     pub(crate) fn end(&self, micros: u64) {
         let began = self.began.swap(STOPPED, Ordering::SeqCst);
         self.total
             .fetch_add(micros.saturating_sub(began), Ordering::SeqCst);
     }
 
-    /// Its microseconds in all.
+    /// The total, in microseconds.
     pub(crate) fn total(&self) -> u64 {
         self.total.load(Ordering::SeqCst)
     }

@@ -1,4 +1,4 @@
-// What is counted of a link, and of a partition.
+// The counts of a link, and of a partition.
 ghost use Rattle.std.specs.Prelude.{◌≡◌};
 ghost use Rattle.sq_report.specs.Notes.{told};
 ghost use Rattle.sq_report.specs.Counts.{families_covered, link_count, counted};
@@ -8,7 +8,7 @@ use sq_gather::ClosedLink;
 use sq_live::count_commits;
 use sq_node::Receipt;
 use sq_plan::PartId;
-use sq_runs::RunStore;
+use sq_slab::SlabStore;
 
 /// What moved along a link.
 #[derive(Clone, Copy, Debug, PartialEq, Eq)]
@@ -19,7 +19,7 @@ pub struct LinkCount {
     pub dst: PartId,
     /// How many root keys its chunks cover, with families or without.
     pub keys: u64,
-    /// How many families these root keys have, at its destination and in its chunks under way.
+    /// How many families these root keys have, at the destination and in chunks under way.
     pub families: u64,
     /// How many chunks were cut for it.
     pub chunks: u64,
@@ -41,7 +41,8 @@ impl PartCount {
         aborted: 0,
     };
 
-    /// These counts, with the jobs of these receipts added. A count that no number holds stays at the greatest.
+    /// These counts, with the jobs of `receipts` added. A count stays at the largest 64-bit number
+    /// if it doesn't fit.
     pub(crate) fn with(self, receipts: &[Receipt]) -> PartCount
         ensures { result ≡ counted self receipts.now }
     {
@@ -54,8 +55,9 @@ impl PartCount {
     }
 }
 
-/// What moved along a link, where the partitions have these stores. A count that no number holds stays at the greatest.
-pub(crate) fn count_link(stores: &[RunStore], link: &ClosedLink) -> LinkCount
+/// What moved along `link`; `stores` are those of the partitions. A count stays at the largest
+/// 64-bit number if it doesn't fit.
+pub(crate) fn count_link(stores: &[SlabStore], link: &ClosedLink) -> LinkCount
     ensures { result ≡ link_count stores.now link.now }
 {
     LinkCount {
@@ -67,8 +69,8 @@ pub(crate) fn count_link(stores: &[RunStore], link: &ClosedLink) -> LinkCount
     }
 }
 
-// How many families the destination of a link has of the root keys that its notes cover.
-fn count_loaded(stores: &[RunStore], link: &ClosedLink) -> u64
+// How many families the destination of a link has with root keys that its notes cover.
+fn count_loaded(stores: &[SlabStore], link: &ClosedLink) -> u64
     ensures { result ≡ told (families_covered stores.now link.now) }
 {
     match stores.get(usize::from(link.dst.number())) {

@@ -1,17 +1,17 @@
-// The figures of a run, which are counted meanwhile.
+// The figures of a run, counted while it goes on.
 ghost use Rattle.std.specs.Prelude.{◌≡◌, ◌++◌, map, OnOk};
 ghost use Rattle.sq_report.specs.Figures.{link_figures};
 
 use crate::counts::{LinkCount, count_link};
 use crate::measure::Measure;
 use sq_gather::{ClosedLink, Gathered};
-use sq_runs::RunStore;
+use sq_slab::SlabStore;
 use sq_summary::LinkFigures;
 use std::alloc::{AllocError, Global};
 use std::sync::atomic::{AtomicBool, Ordering};
 use std::sync::{Mutex, Wait};
 
-/// What moved along each link so far, and whether memory sufficed for all of it.
+/// What has moved along each link so far, and whether memory sufficed for all of it.
 #[derive(Drop)]
 pub(crate) struct KeptLinks {
     links: Mutex<Vec<LinkFigures>>,
@@ -35,12 +35,12 @@ impl KeptLinks {
         }
     }
 
-    /// Whether there was memory for all.
+    /// Returns whether memory sufficed for all of it.
     pub(crate) fn is_whole(&self) -> bool {
         self.is_whole.load(Ordering::SeqCst)
     }
 
-    /// What moved along each link, stage by stage.
+    /// What moved along each link, stage by stage. Fails if memory runs out.
     pub(crate) fn links<R: Wait>(&self, rt: &R) -> Result<Vec<LinkFigures>, AllocError> {
         self.links.lock(rt).clone()
     }
@@ -57,8 +57,8 @@ fn add_links(links: &mut Vec<LinkFigures>, g: &Gathered) -> Result<(), AllocErro
     Ok(())
 }
 
-// What moved along a link in a stage, where the partitions have these stores.
-fn link_figures(stage: u64, stores: &[RunStore], link: &ClosedLink) -> LinkFigures
+// What moved along a link in a stage; `stores` are those of the partitions.
+fn link_figures(stage: u64, stores: &[SlabStore], link: &ClosedLink) -> LinkFigures
     ensures { result ≡ link_figures stage stores.now link.now }
 {
     let LinkCount {

@@ -10,7 +10,7 @@ use std::io::Write;
 use std::sync::atomic::{AtomicBool, Ordering};
 use std::sync::{Mutex, Wait};
 
-/// A summary that is counted during a run, and whether there was memory for all that was to be counted.
+/// A summary that is counted during a run, and whether memory sufficed to count all.
 #[derive(Drop)]
 pub(crate) struct Kept {
     summary: Mutex<Summary>,
@@ -18,7 +18,6 @@ pub(crate) struct Kept {
 }
 
 impl Kept {
-    /// An empty summary.
     pub(crate) fn new(alloc: Global) -> Kept {
         Kept {
             summary: Mutex::new(Summary::new(alloc)),
@@ -38,7 +37,7 @@ impl Kept {
         self.note(added);
     }
 
-    /// Writes the summary, and before it whether memory ran out before all was counted.
+    /// Writes the summary, and before it a line if memory ran out before all was counted.
     pub(crate) fn write<R: Wait, O: Write>(
         &self,
         rt: &R,
@@ -52,7 +51,7 @@ impl Kept {
         write_summary(writer, &summary, waited)
     }
 
-    /// How jobs ended at each partition.
+    /// How jobs ended at each partition. Fails if memory runs out.
     pub(crate) fn parts<R: Wait>(
         &self,
         rt: &R,
@@ -66,12 +65,12 @@ impl Kept {
         Ok(parts)
     }
 
-    /// Whether there was memory for all that was to be counted.
+    /// Returns whether memory sufficed to count all.
     pub(crate) fn is_whole(&self) -> bool {
         self.is_whole.load(Ordering::SeqCst)
     }
 
-    // Keeps in mind whether there was memory for what was to be added.
+    // Records whether memory sufficed.
     fn note(&self, added: Result<(), AllocError>) {
         if added.is_err() {
             self.is_whole.store(false, Ordering::SeqCst);

@@ -1,5 +1,6 @@
-//! What is written of live runs besides their line: counts by link and by partition, the time that they took, when jobs
-//! were answered and segments complete, what the jobs were answered, and the rows at the end.
+//! Reports on a live run besides its line: what moved along each link, how jobs ended at each
+//! partition, the time that the run took, when jobs were answered and segments complete, the
+//! answers of the jobs, and the rows at the end.
 #![tactic(auto)]
 
 mod answers;

@@ -7,10 +7,10 @@ ghost use Rattle.sq_report.specs.Measures.{measure_of, stored_measure, carried_m
 use crate::notes::first;
 use sq_chunk::{Chunk, Note};
 use sq_gather::ClosedLink;
-use sq_runs::RunStore;
 use sq_schema::Family;
+use sq_slab::SlabStore;
 
-/// What is summed up over families.
+/// What is summed over families.
 #[derive(Clone, Copy, Debug, PartialEq, Eq)]
 pub(crate) enum Measure {
     Rows,
@@ -28,9 +28,9 @@ impl Measure {
         }
     }
 
-    // The measure of the families of a store from one root key on and below another. A sum that no number holds stays
-    // at the greatest, as in each of these.
-    fn between(self, store: &RunStore, lo: u64, hi: u64) -> u64
+    // The measure of the families of `store` with root keys from `lo` up to but not including `hi`.
+    // Here and below a sum stays at the largest 64-bit number if it doesn't fit.
+    fn between(self, store: &SlabStore, lo: u64, hi: u64) -> u64
         ensures { result ≡ told (sum_by (measure_of self) (families_between store.now lo hi)) }
     {
         let mut at = lo;
@@ -42,8 +42,8 @@ impl Measure {
         sum
     }
 
-    // The measure of the families that a store has of the root keys that notes cover.
-    fn stored(self, store: &RunStore, notes: &[Note]) -> u64
+    // The measure of the families of `store` with root keys that `notes` cover.
+    fn stored(self, store: &SlabStore, notes: &[Note]) -> u64
         ensures { result ≡ told (sum_by (stored_measure self store.now) notes.now) }
     {
         let mut sum: u64 = 0;
@@ -75,9 +75,9 @@ impl Measure {
         sum
     }
 
-    /// The measure of the families of the root keys that the notes of a link cover: at its destination, where the
-    /// partitions have these stores, and in its chunks under way.
-    pub(crate) fn of_link(self, stores: &[RunStore], link: &ClosedLink) -> u64
+    /// The measure of the families with root keys that the notes of a link cover: those at its
+    /// destination, whose store is among `stores`, and those in its chunks under way.
+    pub(crate) fn of_link(self, stores: &[SlabStore], link: &ClosedLink) -> u64
         ensures { result ≡ told (link_measure self stores.now link.now) }
     {
         let at_destination = match stores.get(usize::from(link.dst.number())) {

@@ -4,11 +4,12 @@ ghost use Rattle.sq_store.specs.Prelude.{families_between, FirstIs};
 ghost use Rattle.sq_report.specs.Notes.{told, covered_keys, stored_in};
 
 use sq_chunk::{Chunk, Note};
-use sq_runs::RunStore;
 use sq_schema::Family;
+use sq_slab::SlabStore;
 use sq_store::FamilyStore;
 
-/// How many root keys notes cover. A count that no number holds stays at the greatest, as in each of these.
+/// How many root keys `notes` cover. Here and below a count stays at the largest 64-bit number if
+/// it doesn't fit.
 pub(crate) fn count_keys(notes: &[Note]) -> u64
     ensures { result ≡ told (sum_by covered_keys notes.now) }
 {
@@ -19,8 +20,8 @@ pub(crate) fn count_keys(notes: &[Note]) -> u64
     count
 }
 
-/// How many families a store has of the root keys that notes cover.
-pub(crate) fn count_stored(store: &RunStore, notes: &[Note]) -> u64
+/// How many families `store` has with root keys that `notes` cover.
+pub(crate) fn count_stored(store: &SlabStore, notes: &[Note]) -> u64
     ensures { result ≡ told (sum_by (stored_in store.now) notes.now) }
 {
     let mut count: u64 = 0;
@@ -30,8 +31,8 @@ pub(crate) fn count_stored(store: &RunStore, notes: &[Note]) -> u64
     count
 }
 
-// How many families a store has from one root key on and below another.
-fn count_between(store: &RunStore, lo: u64, hi: u64) -> u64
+// How many families `store` has with root keys from `lo` up to but not including `hi`.
+fn count_between(store: &SlabStore, lo: u64, hi: u64) -> u64
     ensures { result ≡ length (families_between store.now lo hi) }
 {
     let mut at = lo;
@@ -43,8 +44,8 @@ fn count_between(store: &RunStore, lo: u64, hi: u64) -> u64
     count
 }
 
-/// The first family of a store from one root key on and below another.
-pub(crate) fn first(store: &RunStore, lo: u64, hi: u64) -> Option<&Family>
+/// The first family of `store` with a root key from `lo` up to but not including `hi`.
+pub(crate) fn first(store: &SlabStore, lo: u64, hi: u64) -> Option<&Family>
     ensures { FirstIs store.now lo hi (option_copied result) }
 {
     let family = store.walk(lo)?;

@@ -1,4 +1,4 @@
-// A watch that says afterwards what a run did.
+// A watch that records what a run does.
 ghost use Rattle.std.specs.Prelude.{◌≡◌, ◌↔◌, IsTrue, codes, nat_eq};
 ghost use Rattle.std.specs.List.{ends_with};
 
@@ -14,7 +14,7 @@ use sq_driver::{Gate, NodeStep, WorkerEvent};
 use sq_gather::Gathered;
 use sq_live::{MAX_JOBS, Watch};
 use sq_node::Node;
-use sq_ranges::SEGMENT_LIMIT;
+use sq_ranges::{Opening, SEGMENT_LIMIT};
 use sq_summary::{
     FiguresForm, PartFigures, RunFigures, Times, figures_json, moments_of, write_csv,
     write_figures, write_svg, write_times,
@@ -31,14 +31,14 @@ use std::time::Clock;
 pub struct Records {
     pub timeline: bool,
     pub figures: bool,
-    /// For what the jobs are answered.
+    /// For the answers of the jobs.
     pub replies: bool,
     /// For the rows at the end.
     pub rows: bool,
 }
 
-/// A watch that passes all on to another one, keeps count for a summary, and keeps what else it is to record. The other
-/// one decides whether a worker continues.
+/// A watch that forwards everything to another one, counts for a summary, and records what else it
+/// is asked to. The other one decides whether a worker continues.
 #[derive(Drop)]
 pub struct RecordingWatch<'a, R, W> {
     rt: &'a R,
@@ -57,7 +57,7 @@ pub struct RecordingWatch<'a, R, W> {
     rows: Option<KeptRows>,
 }
 
-/// Whether a timeline is a table or a chart.
+/// The format of a timeline.
 #[derive(Clone, Copy, Debug, PartialEq, Eq)]
 pub enum TimelineForm {
     /// Comma-separated values: [`write_csv`].
@@ -67,7 +67,7 @@ pub enum TimelineForm {
 }
 
 impl TimelineForm {
-    /// The form of a file of this name: comma-separated values where it ends in `.csv`, and else a chart.
+    /// The format for the file `name`: comma-separated values if it ends in `.csv`, else a chart.
     pub fn of_file(name: &str) -> TimelineForm
         ensures { (result ≡ TimelineForm.Csv) ↔ IsTrue (ends_with nat_eq name.now (codes ".csv")) }
     {
@@ -80,8 +80,8 @@ impl TimelineForm {
 }
 
 impl<'a, R: Wait + Clock, W: Watch> RecordingWatch<'a, R, W> {
-    /// A new recorder that forwards to another watch. The time of reading begins now. It is refused only where there is
-    /// no memory for it.
+    /// A new recorder that forwards to `watch`. The time of reading begins now. Fails only if
+    /// memory runs out.
     pub fn new(
         rt: &'a R,
         alloc: Global,
@@ -110,15 +110,17 @@ impl<'a, R: Wait + Clock, W: Watch> RecordingWatch<'a, R, W> {
         })
     }
 
-    /// Writes the summary: [`write_summary`](crate::write_summary), and a line of the times. Where memory ran out before all was
-    /// counted, it says so first. An error is the writer's, or that there is no memory.
+    /// Writes the summary, [`write_summary`](crate::write_summary), and a line of the times. If
+    /// memory ran out before all was counted, a line before them says so. Fails if the writer does,
+    /// or if memory runs out.
     pub fn write_summary<O: Write>(&self, alloc: Global, writer: &mut O) -> io::Result<()> {
         let waited = self.waits.counts(alloc)?;
         self.summary.write(self.rt, writer, &waited)?;
         write_times(writer, self.times())
     }
 
-    /// Writes the timeline in a form; nothing where there is none. An error is the writer's, or that there is no memory.
+    /// Writes the timeline in the format `form`, or nothing if none is recorded. Fails if the
+    /// writer does, or if memory runs out.
     pub fn write_timeline<O: Write>(
         &self,
         alloc: Global,
@@ -138,8 +140,8 @@ impl<'a, R: Wait + Clock, W: Watch> RecordingWatch<'a, R, W> {
         }
     }
 
-    /// Writes the figures of the run in a form, with a line end behind; nothing where they aren't recorded. An error is the writer's,
-    /// or that there is no memory.
+    /// Writes the figures of the run in the format `form`, with a line end after them, or nothing
+    /// if they aren't recorded. Fails if the writer does, or if memory runs out.
     pub fn write_figures<O: Write>(
         &self,
         alloc: Global,
@@ -159,7 +161,7 @@ impl<'a, R: Wait + Clock, W: Watch> RecordingWatch<'a, R, W> {
         }
     }
 
-    // The figures of the run, by what was kept of its links and of its answers.
+    // The figures of the run, from what was recorded of its links and its answers.
     fn figures(
         &self,
         alloc: Global,
@@ -183,8 +185,9 @@ impl<'a, R: Wait + Clock, W: Watch> RecordingWatch<'a, R, W> {
         })
     }
 
-    /// Writes what each job was answered, a line for each in the order in which they were posted, and gives how many weren't
-    /// answered; nothing where that isn't recorded. An error is the writer's, or that there was no memory.
+    /// Writes the answer of each job, one line each, in the order in which the jobs were posted,
+    /// and returns how many weren't answered. Writes nothing and returns 0 if answers aren't
+    /// recorded. Fails if the writer does, or if memory ran out.
     pub fn write_replies<O: Write>(&self, writer: &mut O) -> io::Result<u64> {
         match &self.replies {
             Some(replies) => replies.write(self.rt, writer),
@@ -192,8 +195,8 @@ impl<'a, R: Wait + Clock, W: Watch> RecordingWatch<'a, R, W> {
         }
     }
 
-    /// Writes the rows at the end, as lines of a header by rising key; nothing where they aren't recorded. An error is
-    /// the writer's, or that there was no memory.
+    /// Writes the rows at the end, as lines of a header by rising key, or nothing if they aren't
+    /// recorded. Fails if the writer does, or if memory ran out.
     pub fn write_rows<O: Write>(&self, writer: &mut O) -> io::Result<()> {
         match &self.rows {
             Some(rows) => rows.write(self.rt, writer),
@@ -280,6 +283,10 @@ impl<R: Wait + Clock + Sync, W: Watch> Watch for RecordingWatch<'_, R, W> {
         }
         self.watch.gathers(gathered);
         self.audits.begin(self.clock.micros());
+    }
+
+    fn leaves(&self, left: Gathered, opening: Opening, jobs: Vec<Job>) {
+        self.watch.leaves(left, opening, jobs);
     }
 
     fn ends(&self) {

@@ -9,7 +9,7 @@ use std::io::{ErrorKind, Write};
 use std::sync::atomic::{AtomicBool, Ordering};
 use std::sync::{Mutex, Wait};
 
-/// What the jobs of a run are answered, and whether there was memory for all of it.
+/// The answers of a run's jobs, and whether memory sufficed for all of them.
 #[derive(Drop)]
 pub(crate) struct KeptReplies {
     replies: Mutex<Replies>,
@@ -25,7 +25,7 @@ impl KeptReplies {
         }
     }
 
-    /// Takes jobs that are posted.
+    /// Records jobs that are posted.
     pub(crate) fn post<R: Wait>(&self, rt: &R, jobs: &[Job]) {
         let mut replies = self.replies.lock(rt);
         for job in jobs {
@@ -33,14 +33,14 @@ impl KeptReplies {
         }
     }
 
-    /// Takes the answers of receipts.
+    /// Records the answers in receipts.
     pub(crate) fn take<R: Wait>(&self, rt: &R, receipts: &[Receipt]) {
         let taken = self.replies.lock(rt).take(receipts);
         self.note(taken);
     }
 
-    /// Writes the line of each job that was answered, and gives how many weren't. An error is the writer's, or that there was
-    /// no memory for all.
+    /// Writes the line of each job that was answered, and returns how many weren't. Fails if the
+    /// writer does, or if memory ran out for some of them.
     pub(crate) fn write<R: Wait, O: Write>(&self, rt: &R, writer: &mut O) -> io::Result<u64> {
         if !self.is_whole.load(Ordering::SeqCst) {
             return Err(io::Error::from(ErrorKind::OutOfMemory));
@@ -51,7 +51,7 @@ impl KeptReplies {
         }
     }
 
-    // Keeps in mind whether there was memory for what was to be taken.
+    // Records whether memory sufficed.
     fn note(&self, taken: Result<(), AllocError>) {
         if taken.is_err() {
             self.is_whole.store(false, Ordering::SeqCst);
@@ -59,7 +59,7 @@ impl KeptReplies {
     }
 }
 
-/// The text of the rows that there were when a stage had ended; `None` where there was no memory for it.
+/// The text of the rows at the end of a stage; `None` if memory ran out for it.
 #[derive(Drop)]
 pub(crate) struct KeptRows {
     text: Mutex<Option<Vec<u8>>>,
@@ -73,14 +73,15 @@ impl KeptRows {
         }
     }
 
-    /// Keeps the rows of what was gathered, in place of those before.
+    /// Keeps the rows of what was gathered, and drops those kept before.
     pub(crate) fn keep<R: Wait>(&self, rt: &R, alloc: Global, g: &Gathered) {
         let text = rows_text(alloc, g).ok();
         let mut kept = self.text.lock(rt);
         *kept = text;
     }
 
-    /// Writes the rows that were kept last. An error is the writer's, or that there was no memory for them.
+    /// Writes the rows that were kept last. Fails if the writer does, or if memory ran out for
+    /// them.
     pub(crate) fn write<R: Wait, O: Write>(&self, rt: &R, writer: &mut O) -> io::Result<()> {
         match &*self.text.lock(rt) {
             Some(text) => writer.write_all(text),

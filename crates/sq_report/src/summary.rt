@@ -1,4 +1,4 @@
-// What is counted over the stages of a run.
+// Counts over the stages of a run.
 ghost use Rattle.std.specs.Prelude.{◌≡◌, [], ◌++◌, map, IfOk, OnOk, OnErr};
 ghost use Rattle.std.specs.List.{range_with_len};
 ghost use Rattle.sq_report.specs.Counts.{link_count};
@@ -7,12 +7,12 @@ ghost use Rattle.sq_report.specs.SummaryValue.{count_after, counts_after};
 use crate::counts::{LinkCount, PartCount, count_link};
 use sq_gather::{ClosedLink, Gathered};
 use sq_node::Node;
-use sq_runs::RunStore;
+use sq_slab::SlabStore;
 use std::alloc::{AllocError, Global};
 use std::marker::Model;
 
-/// What is counted over the stages of a run: what moved along each link, and how jobs ended at each partition. To a
-/// contract it is a `SummaryValue`.
+/// Counts over the stages of a run: what moved along each link, and how jobs ended at each
+/// partition. Contracts see a `SummaryValue`.
 #[derive(Debug, Drop)]
 pub struct Summary {
     links: Vec<LinkCount>,
@@ -28,7 +28,6 @@ impl Model for Summary {
 }
 
 impl Summary {
-    /// An empty summary.
     pub fn new(alloc: Global) -> Summary
         ensures { result ≡ record { links = []; parts = [] } }
     {
@@ -38,8 +37,8 @@ impl Summary {
         }
     }
 
-    /// Adds the receipts of the nodes of a stage, which are in the order of their partitions: a node has those of its own
-    /// stage alone. Where there is no memory, nothing is added.
+    /// Adds the receipts of the nodes of a stage, which are in the order of their partitions; a
+    /// node has those of its own stage alone. Fails, and adds nothing, if memory runs out.
     pub fn add_nodes(&mut self, nodes: &[Node]) -> Result<(), AllocError>
         ensures ok { OnOk result (self.new
             ≡ record self.old { parts = counts_after self.old.parts nodes.now }) }
@@ -49,7 +48,8 @@ impl Summary {
         Ok(())
     }
 
-    /// Adds what moved along the links of a stage, by what was gathered of it. Where there is no memory, nothing is added.
+    /// Adds what moved along the links of a stage, by what was gathered of it. Fails, and adds
+    /// nothing, if memory runs out.
     pub fn add_links(&mut self, g: &Gathered) -> Result<(), AllocError>
         ensures ok { OnOk result (self.new
             ≡ record self.old {
@@ -77,7 +77,7 @@ impl Summary {
     }
 }
 
-// What is counted of each partition, with the receipts of its node.
+// The counts of each partition, with the receipts of its node.
 fn count_parts(parts: &Vec<PartCount>, nodes: &[Node]) -> Result<Vec<PartCount>, AllocError>
     ensures { IfOk result (λ counts. counts.items ≡ counts_after parts.now.items nodes.now) }
 {
@@ -88,7 +88,7 @@ fn count_parts(parts: &Vec<PartCount>, nodes: &[Node]) -> Result<Vec<PartCount>,
     Ok(counts)
 }
 
-// What is counted of a partition, with the receipts of its node, if there is one.
+// The counts of a partition, with the receipts of its node, if there is one.
 fn count_part(parts: &[PartCount], nodes: &[Node], part: usize) -> PartCount
     ensures { result ≡ count_after parts.now nodes.now part }
 {
@@ -99,8 +99,8 @@ fn count_part(parts: &[PartCount], nodes: &[Node], part: usize) -> PartCount
     }
 }
 
-// What moved along each link, where the partitions have these stores.
-fn count_links(stores: &[RunStore], links: &Vec<ClosedLink>) -> Result<Vec<LinkCount>, AllocError>
+// What moved along each link; `stores` are those of the partitions.
+fn count_links(stores: &[SlabStore], links: &Vec<ClosedLink>) -> Result<Vec<LinkCount>, AllocError>
     ensures { IfOk result (λ counts. counts.items ≡ map (link_count stores.now) links.now.items) }
 {
     let mut counts = Vec::new(*links.allocator());

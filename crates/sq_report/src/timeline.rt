@@ -1,4 +1,4 @@
-// When jobs begin to wait and are answered, and segments complete.
+// When jobs begin to wait and are answered, and when segments complete.
 use crate::answers::AnswerMarks;
 use crate::clock::Stopwatch;
 use crate::wait_marks::WaitMarks;
@@ -9,8 +9,9 @@ use std::alloc::{AllocError, Global};
 use std::sync::atomic::{AtomicU64, Ordering};
 use std::time::Clock;
 
-/// Marks when jobs begin to wait and are answered, segments complete and stages begin, for many threads. It takes no memory meanwhile: it
-/// has places for as many as were asked for, and one more than that is left out.
+/// Marks when jobs begin to wait and are answered, when segments complete and when stages begin,
+/// for many threads. It allocates nothing while it marks: marks beyond the number of places it was
+/// made with are left out.
 #[derive(Drop)]
 pub struct Timeline<'a, C> {
     clock: Stopwatch<'a, C>,
@@ -28,8 +29,8 @@ pub struct Timeline<'a, C> {
 }
 
 impl<'a, C: Clock> Timeline<'a, C> {
-    /// An empty one, with places for so many jobs and segments, and for as many stages as segments. It is refused only
-    /// where there is no memory for them.
+    /// An empty timeline, with places for `jobs` jobs and `segments` segments, and for as many
+    /// stages as segments. Fails only if memory runs out.
     pub fn new(
         alloc: Global,
         clock: &'a C,
@@ -49,26 +50,28 @@ impl<'a, C: Clock> Timeline<'a, C> {
         })
     }
 
-    /// It begins now, for so many jobs and segments.
+    /// Records that the run begins now, with `jobs` jobs and `segments` segments.
     pub fn begin(&self, jobs: u64, segments: u64) {
         self.jobs.store(jobs, Ordering::SeqCst);
         self.segments.store(segments, Ordering::SeqCst);
         self.began.store(self.clock.micros(), Ordering::SeqCst);
     }
 
-    /// A stage begins now. All jobs are posted by the first one.
+    /// Records that a stage begins now. All jobs are posted by the first one.
     pub fn begin_stage(&self) {
         self.stages.mark(self.clock.micros());
     }
 
-    /// A stage has ended, and left these nodes, which have the receipts of this stage alone.
+    /// Records that a stage has ended, and left `nodes`, which hold the receipts of this stage
+    /// alone.
     pub fn end_stage(&self, nodes: &[Node]) {
         self.ended.store(self.clock.micros(), Ordering::SeqCst);
         self.answered.name(nodes);
     }
 
-    /// Marks a job that was answered or begins to wait, or a segment that is complete. Other events of worker `who` are none
-    /// of these. Only a node answers jobs, or has one that waits: then `who` is its partition.
+    /// Marks a job that was answered or begins to wait, or a segment that is complete; other events
+    /// of worker `who` aren't marked. Only a node answers jobs, or has one that waits: then `who`
+    /// is its partition.
     pub fn record(&self, who: u64, event: WorkerEvent) {
         match event {
             WorkerEvent::Answered(step) => {
@@ -82,7 +85,8 @@ impl<'a, C: Clock> Timeline<'a, C> {
         }
     }
 
-    /// What was marked, in the order of time, each by its time since the timeline began.
+    /// What was marked, in the order of time, each with the microseconds since the timeline began.
+    /// Fails if memory runs out.
     pub fn events(&self, alloc: Global) -> Result<Vec<Event>, AllocError> {
         let mut events = Vec::new(alloc);
         let began = self.began.load(Ordering::SeqCst);
@@ -94,18 +98,18 @@ impl<'a, C: Clock> Timeline<'a, C> {
         Ok(events)
     }
 
-    /// The answers of jobs, in any order.
+    /// The answers of jobs, in any order. Fails if memory runs out.
     pub fn answers(&self, alloc: Global) -> Result<Vec<TimedAnswer>, AllocError> {
         let begins = self.waits.begins(alloc)?;
         self.answered.answers(alloc, self.stages.first(), &begins)
     }
 
-    /// When each stage began, by its time since the timeline began.
+    /// When each stage began, in microseconds since the timeline began. Fails if memory runs out.
     pub fn stage_starts(&self, alloc: Global) -> Result<Vec<StageStart>, AllocError> {
         self.stages.starts(alloc, self.began.load(Ordering::SeqCst))
     }
 
-    /// The end: its time, and all jobs and segments that there are.
+    /// The end of the run: its time, and the numbers of all jobs and all segments.
     pub fn all(&self) -> Moment {
         let began = self.began.load(Ordering::SeqCst);
         Moment {
@@ -117,12 +121,12 @@ impl<'a, C: Clock> Timeline<'a, C> {
     }
 }
 
-// The partition of the node of number `who`.
+// The partition of node `who`.
 fn part_of(who: u64) -> u8 {
     u8::try_from(who).unwrap_or(u8::MAX)
 }
 
-// The times of what happened, in any order.
+// The times of events, in any order.
 #[derive(Drop)]
 struct Marks {
     times: Vec<AtomicU64>,
@@ -130,7 +134,7 @@ struct Marks {
 }
 
 impl Marks {
-    // None of so many that may come.
+    // Room for `places` marks, none set yet.
     fn new(alloc: Global, places: usize) -> Result<Marks, AllocError> {
         let mut times = Vec::new(alloc);
         for _place in 0..places {
@@ -142,7 +146,7 @@ impl Marks {
         })
     }
 
-    // Marks this time. No other thread gets its place.
+    // Marks an event at `micros`. No other thread gets its place.
     fn mark(&self, micros: u64) {
         let place = self.count.fetch_add(1, Ordering::SeqCst);
         if let Some(time) = self.times.get(place as usize) {
@@ -150,7 +154,7 @@ impl Marks {
         }
     }
 
-    // The time that was marked first; 0 where none was.
+    // The time of the first mark; 0 if there is none.
     fn first(&self) -> u64 {
         match self.times.first() {
             Some(time) => time.load(Ordering::SeqCst),
@@ -158,7 +162,7 @@ impl Marks {
         }
     }
 
-    // Adds an event of a complete segment for each time that was marked, counted from the beginning.
+    // Adds an event of a complete segment for each mark, with the microseconds since `began`.
     fn add_to(&self, events: &mut Vec<Event>, began: u64) -> Result<(), AllocError> {
         let count = self.count.load(Ordering::SeqCst) as usize;
         for time in self.times.iter().take(count) {
@@ -171,7 +175,7 @@ impl Marks {
         Ok(())
     }
 
-    // The starts of stages, in their order, for each time that was marked, counted from the beginning.
+    // The starts of stages, in their order, one for each mark, with the microseconds since `began`.
     fn starts(&self, alloc: Global, began: u64) -> Result<Vec<StageStart>, AllocError> {
         let count = self.count.load(Ordering::SeqCst) as usize;
         let mut starts = Vec::new(alloc);

@@ -20,7 +20,7 @@ struct WaitMark {
 }
 
 impl WaitMark {
-    // One that isn't set.
+    // A mark that isn't set.
     fn new() -> WaitMark {
         WaitMark {
             micros: AtomicU64::new(0),
@@ -31,7 +31,7 @@ impl WaitMark {
 }
 
 impl WaitMarks {
-    /// No marks, with places for so many.
+    /// Room for `places` marks, none set yet.
     pub(crate) fn new(alloc: Global, places: usize) -> Result<WaitMarks, AllocError> {
         let mut marks = Vec::new(alloc);
         for _place in 0..places {
@@ -43,7 +43,8 @@ impl WaitMarks {
         })
     }
 
-    /// Marks that a job of this id begins to wait at a partition at this time. No other thread gets its place.
+    /// Marks that the job `id` begins to wait at partition `part` at `micros`. No other thread gets
+    /// its place.
     pub(crate) fn mark(&self, micros: u64, part: u8, id: u64) {
         let place = self.count.fetch_add(1, Ordering::SeqCst);
         if let Some(mark) = self.marks.get(place as usize) {
@@ -53,8 +54,8 @@ impl WaitMarks {
         }
     }
 
-    /// When each job that waited began to, at each partition. Of a job that waited there in more than one stage it is the last
-    /// time, since it was answered after that.
+    /// When each job that waited began to, at each partition. If a job waited there in more than
+    /// one stage, the last time counts, since it was answered after that. Fails if memory runs out.
     pub(crate) fn begins(&self, alloc: Global) -> Result<WaitBegins, AllocError> {
         let count = self.count.load(Ordering::SeqCst) as usize;
         let mut begins = BTreeMap::new(alloc);
@@ -74,14 +75,15 @@ pub(crate) struct WaitBegins {
 }
 
 impl WaitBegins {
-    /// For how many microseconds a job had waited that was answered at this time. One that has no mark, for want of a place,
-    /// counts as if it had waited since it was posted.
+    /// For how many microseconds the job had waited that was answered at `answered`. A job whose
+    /// mark had no place counts as if it had waited since `posted`.
     pub(crate) fn waited(&self, part: u8, id: u64, answered: u64, posted: u64) -> u64 {
         time_waited(self.begins.get(&(part, id)).copied(), answered, posted)
     }
 }
 
-// For how many microseconds a job had waited that was answered at this time, by when it began to.
+// For how many microseconds a job had waited that began to at `began` and was answered at
+// `answered`.
 fn time_waited(began: Option<u64>, answered: u64, posted: u64) -> u64
     ensures { result ≡ answered - unwrap_or began posted }
 {

@@ -4,15 +4,15 @@ use sq_pull::MAX_OWNERS;
 use std::alloc::{AllocError, Global};
 use std::sync::atomic::{AtomicU64, Ordering};
 
-/// Counts, by partition, the jobs that were answered after they had waited there: a node reports their answer in the
-/// step in which it takes up a transaction that waits.
+/// Counts, by partition, the jobs that were answered after they had waited there: a node reports
+/// their answer in the step in which it resumes a waiting transaction.
 #[derive(Drop)]
 pub(crate) struct Waits {
     parts: Vec<AtomicU64>,
 }
 
 impl Waits {
-    /// None, of as many partitions as there may be.
+    /// A zero count for each possible partition.
     pub(crate) fn new(alloc: Global) -> Result<Waits, AllocError> {
         let mut parts = Vec::new(alloc);
         for _part in 0..MAX_OWNERS {
@@ -21,7 +21,8 @@ impl Waits {
         Ok(Waits { parts })
     }
 
-    /// Hears what worker `who` reports. Only a node answers jobs: then `who` is its partition.
+    /// Counts an event of worker `who`, if it is such an answer. Only a node answers jobs: then
+    /// `who` is its partition.
     pub(crate) fn hear(&self, who: u64, event: WorkerEvent) {
         if event != WorkerEvent::Answered(NodeStep::Resume) {
             return;
@@ -31,7 +32,7 @@ impl Waits {
         }
     }
 
-    /// How many there are, by partition.
+    /// The counts, by partition. Fails if memory runs out.
     pub(crate) fn counts(&self, alloc: Global) -> Result<Vec<u64>, AllocError> {
         let mut counts = Vec::new(alloc);
         for waited in &self.parts {

@@ -1,4 +1,4 @@
--- What the jobs of a run were answered.
+-- The answers of a run's jobs.
 use Rattle.std.specs.Prelude.{◌≡◌, ℕ, ◌==◌, nat_eq, not, List, [], Option, is_some, option_map, find, count_by}
 use Rattle.std.specs.Map.{lookup}
 use Rattle.std.specs.Option.{option_map_or, option_or}
@@ -7,7 +7,8 @@ use Rattle.sq_model.specs.declared.answer.Answer.TheVariants.{Replied}
 use Rattle.sq_text.specs.Texts.{answer_line}
 use Rattle.sq_node_model.specs.NodeValue.{ReceiptValue}
 
--- the ids of jobs, in the order in which they are posted, and what jobs were answered, each by its id
+-- the ids of jobs, in the order in which they are posted, and the answers, each by the id of its
+-- job
 pub record RepliesValue : Type 0 where
   pub ids : List ℕ
   pub told : List (ℕ × Answer)
@@ -16,7 +17,7 @@ pub record RepliesValue : Type 0 where
 abbrev pub told_of : List (ℕ × Answer) → ℕ → Option Answer
 told_of told id = lookup (nat_eq id) told
 
--- the line of it; none where there is no answer
+-- the line of that answer; no line if there is no answer
 abbrev pub reply_lines : List (ℕ × Answer) → ℕ → List ℕ
 reply_lines told id = option_map_or answer_line (told_of told id) []
 
@@ -24,7 +25,7 @@ reply_lines told id = option_map_or answer_line (told_of told id) []
 abbrev pub unanswered_count : RepliesValue → ℕ
 unanswered_count r = count_by (λ id. not (is_some (told_of r.told id))) r.ids
 
--- what a receipt answers
+-- the answer in a receipt
 abbrev pub receipt_answer : ReceiptValue → Answer
 receipt_answer receipt = Replied receipt.id receipt.reply
 
@@ -32,7 +33,7 @@ receipt_answer receipt = Replied receipt.id receipt.reply
 abbrev pub first_answer : List ReceiptValue → ℕ → Option Answer
 first_answer receipts id = option_map receipt_answer (find (λ receipt. receipt.id == id) receipts)
 
--- once receipts are taken, a job that had no answer has the first one in them
+-- after receipts are recorded, a job that had no answer has the first one in them
 pub record IsToldAfter (old : RepliesValue) (receipts : List ReceiptValue) (new : RepliesValue) : Type 0 where
   pub ids : new.ids ≡ old.ids
   pub told : (id : ℕ) → told_of new.told id ≡ option_or (told_of old.told id) (first_answer receipts id)

@@ -1,4 +1,4 @@
--- The families that stand when a run ends, wherever they are, and the text of their rows.
+-- The families that exist when a run ends, wherever they are, and the text of their rows.
 use Rattle.std.specs.Prelude.{ℕ, List, ◌++◌, length, Option}
 use Rattle.std.specs.List.{flat_map, range_with_len}
 use Rattle.std.specs.List.Sorted.{IsPermutation, IsNonDecreasingBy}
@@ -16,24 +16,25 @@ use Rattle.sq_results.specs.RowLines.{root_lines}
 abbrev pub carried : List ChunkValue → List FamilyValue
 carried chunks = flat_map (λ (chunk : ChunkValue). chunk.families) chunks
 
--- those that a run in threads left: in stores, and in chunks under way
+-- the families that a run in threads left: in stores, and in chunks under way
 abbrev pub gathered_families : GatheredValue → List FamilyValue
 gathered_families g =
     flat_map families_in g.stores
     ++ flat_map (λ (link : GatheredLink). carried link.under_way) g.links
 
--- those of a world in stores
+-- the families in the stores of a world
 abbrev pub stored_families : WorldValue → List FamilyValue
 stored_families w = flat_map (λ (core : CoreValue). families_in core.store) w.cores
 
--- those of a world in chunks under way between two partitions, and from one partition to each
+-- the families in the chunks of a world that are under way between two partitions, and from one
+-- partition to any
 abbrev pub link_families : WorldValue → ℕ → ℕ → List FamilyValue
 link_families w src dst = carried (way_of w (link_index w src dst))
 
 abbrev pub source_families : WorldValue → ℕ → List FamilyValue
 source_families w src = flat_map (link_families w src) (range_with_len 0 (length w.cores))
 
--- those of a world: in stores, and in chunks under way
+-- the families of a world: in stores, and in chunks under way
 abbrev pub world_families : WorldValue → List FamilyValue
 world_families w =
     stored_families w ++ flat_map (source_families w) (range_with_len 0 (length w.cores))

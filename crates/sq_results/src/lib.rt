@@ -1,4 +1,4 @@
-//! What a run leaves, as texts: its rows, as a header takes them, and what its jobs were answered.
+//! Writes what a run leaves: its rows, in the lines of a header, and the answers of its jobs.
 #![tactic(auto)]
 
 mod replies;

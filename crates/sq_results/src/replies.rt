@@ -1,4 +1,4 @@
-// What the jobs of a run were answered.
+// The answers of a run's jobs.
 ghost use Rattle.std.specs.Prelude.{◌≡◌, ◌++◌, ◌∷◌, [], is_some, IfOk, OnOk};
 ghost use Rattle.std.specs.List.{flat_map};
 ghost use Rattle.std.specs.Io.KnownBytes.{Appends};
@@ -12,7 +12,7 @@ use std::collections::HashMap;
 use std::io::Write;
 use std::marker::Model;
 
-/// The ids of jobs, in the order in which they are posted, and what they were answered. To a contract it is a
+/// The ids of jobs, in the order in which they are posted, and the answers. Contracts see a
 /// `RepliesValue`.
 #[derive(Drop)]
 pub struct Replies {
@@ -40,7 +40,7 @@ impl Replies {
         }
     }
 
-    /// Takes a job that is posted, by its `id`, after those before.
+    /// Adds the posted job `id`, after those before. Fails if memory runs out.
     pub fn post(&mut self, id: u64) -> Result<(), AllocError>
         ensures { OnOk result (self.new ≡ record self.old { ids = self.old.ids ++ id ∷ [] }) }
     {
@@ -48,7 +48,8 @@ impl Replies {
         Ok(())
     }
 
-    /// Takes the answers of receipts. Of several with one id the first counts.
+    /// Records the answers in receipts. Of several with the same id the first counts. Fails if
+    /// memory runs out.
     pub fn take(&mut self, receipts: &[Receipt]) -> Result<(), AllocError>
         ensures { OnOk result (IsToldAfter self.old receipts.now self.new) }
     {
@@ -58,7 +59,7 @@ impl Replies {
         Ok(())
     }
 
-    // Takes the answer of a receipt, unless one with its id was taken.
+    // Records the answer of a receipt, unless one with its id was recorded.
     fn take_one(&mut self, receipt: &Receipt) -> Result<(), AllocError>
         ensures { OnOk result (IsToldAfter self.old (receipt.now ∷ []) self.new) }
     {
@@ -73,7 +74,8 @@ impl Replies {
         Ok(())
     }
 
-    /// Writes a line for each job that was answered, in the order in which they were posted, and returns how many weren't.
+    /// Writes a line for each job that was answered, in the order in which the jobs were posted,
+    /// and returns how many weren't answered. Fails if a write does.
     pub fn write<W: Write>(&self, writer: &mut W) -> Result<u64, WriteFault>
         ensures lines { OnOk result (Appends (W.contents writer.old) (W.contents writer.new)
             (flat_map (reply_lines self.now.told) self.now.ids)) }
@@ -88,7 +90,7 @@ impl Replies {
         Ok(unanswered)
     }
 
-    // Writes what the job with this id was answered, and gives whether it was.
+    // Writes the answer of the job `id`, and returns whether it has one.
     fn write_reply<W: Write>(&self, writer: &mut W, id: u64) -> Result<bool, WriteFault>
         ensures lines { OnOk result (Appends (W.contents writer.old) (W.contents writer.new)
             (reply_lines self.now.told id)) }

@@ -10,7 +10,7 @@ use sq_schema::{Family, Row, RowKey};
 use std::io;
 use std::io::Write;
 
-// The lower-case digit of this value.
+// The lower-case hexadecimal digit of `value`.
 fn hex_digit(value: u8) -> u8
     requires { value < 16 }
     ensures { result ≡ digit_glyph false value }
@@ -22,7 +22,7 @@ fn hex_digit(value: u8) -> u8
     }
 }
 
-// Writes the digits of bytes, two a byte.
+// Writes the hexadecimal digits of bytes, two for each.
 fn write_hex<W: Write>(writer: &mut W, bytes: &[u8]) -> io::Result<()>
     ensures { OnOk result (Appends (W.contents writer.old) (W.contents writer.new)
         (flat_map hex_byte_text bytes.now)) }
@@ -45,7 +45,7 @@ fn write_note<W: Write>(writer: &mut W, note: &[u8]) -> io::Result<()>
     }
 }
 
-// Writes the line of a row of this root key.
+// Writes the line of a row of the root key `root`.
 fn write_row<W: Write>(writer: &mut W, root: u64, key: RowKey, row: &Row) -> io::Result<()>
     ensures { OnOk result (Appends (W.contents writer.old) (W.contents writer.new)
         (row_line root (key, row.now))) }
@@ -69,7 +69,7 @@ fn write_family<W: Write>(writer: &mut W, family: &Family) -> io::Result<()>
     Ok(())
 }
 
-/// Writes the lines of the rows of families, in their order. An error is a write that failed.
+/// Writes the lines of the rows of families, in their order. Fails if a write does.
 pub(crate) fn write_families<W: Write>(writer: &mut W, families: &[&Family]) -> io::Result<()>
     ensures { OnOk result (Appends (W.contents writer.old) (W.contents writer.new)
         (flat_map root_lines (lent_values families.now))) }

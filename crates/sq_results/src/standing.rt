@@ -1,4 +1,4 @@
-// The families that stand when a run ends, wherever they are.
+// The families that exist when a run ends, wherever they are.
 ghost use Rattle.std.specs.Prelude.{◌≡◌, ◌≤◌, ◌++◌, length, IfOk, OnOk};
 ghost use Rattle.std.specs.List.{flat_map, range_with_len};
 ghost use Rattle.sq_store.specs.Prelude.{families_in};
@@ -8,15 +8,15 @@ ghost use Rattle.sq_results.specs.Standing.{carried, gathered_families, stored_f
 use crate::row_lines::write_families;
 use sq_chunk::Chunk;
 use sq_gather::Gathered;
-use sq_runs::RunStore;
 use sq_schema::Family;
+use sq_slab::SlabStore;
 use sq_state::World;
 use std::alloc::{AllocError, Global};
 use std::io;
 use std::io::Write;
 
-/// Writes all rows that stand in a world, as lines of a header, by rising root key and then by key: those in stores, and
-/// those in chunks under way. An error is the writer's, or that there is no memory.
+/// Writes all rows of a world, as lines of a header, by rising root key and then by key: those in
+/// stores, and those in chunks under way. Fails if the writer does, or if memory runs out.
 pub fn write_world_rows<W: Write>(alloc: Global, writer: &mut W, world: &World) -> io::Result<()>
     ensures { OnOk result (WritesRows (world_families world.now)
         (W.contents writer.old) (W.contents writer.new)) }
@@ -27,7 +27,7 @@ pub fn write_world_rows<W: Write>(alloc: Global, writer: &mut W, world: &World) 
     write_sorted(writer, families)
 }
 
-/// The same of what was gathered of a run.
+/// Writes all rows of what was gathered of a run, in the same way.
 pub fn write_gathered_rows<W: Write>(alloc: Global, writer: &mut W, g: &Gathered) -> io::Result<()>
     ensures { OnOk result (WritesRows (gathered_families g.now)
         (W.contents writer.old) (W.contents writer.new)) }
@@ -42,11 +42,11 @@ pub fn write_gathered_rows<W: Write>(alloc: Global, writer: &mut W, g: &Gathered
     write_sorted(writer, families)
 }
 
-/// The same of the stores of partitions.
+/// Writes all rows of the partitions' stores, in the same way.
 pub fn write_stored_rows<W: Write>(
     alloc: Global,
     writer: &mut W,
-    stores: &[RunStore],
+    stores: &[SlabStore],
 ) -> io::Result<()>
     ensures { OnOk result (WritesRows (flat_map families_in stores.now)
         (W.contents writer.old) (W.contents writer.new)) }
@@ -67,7 +67,7 @@ fn write_sorted<W: Write>(writer: &mut W, mut families: Vec<&Family>) -> io::Res
     write_families(writer, &families)
 }
 
-fn add_store<'a>(families: &mut Vec<&'a Family>, store: &'a RunStore) -> Result<(), AllocError>
+fn add_store<'a>(families: &mut Vec<&'a Family>, store: &'a SlabStore) -> Result<(), AllocError>
     ensures { OnOk result (lent_values families.new.items
         ≡ lent_values families.old.items ++ families_in store.now) }
 {
@@ -97,7 +97,7 @@ fn add_chunk<'a>(families: &mut Vec<&'a Family>, chunk: &'a Chunk) -> Result<(),
     Ok(())
 }
 
-// Adds the families in the stores of a world, and gives how many partitions it has.
+// Adds the families in the stores of a world, and returns how many partitions it has.
 fn add_stores<'a>(families: &mut Vec<&'a Family>, world: &'a World) -> Result<u64, AllocError>
     ensures added { OnOk result (lent_values families.new.items
         ≡ lent_values families.old.items ++ stored_families world.now) }
@@ -114,7 +114,7 @@ fn add_stores<'a>(families: &mut Vec<&'a Family>, world: &'a World) -> Result<u6
     Ok(part)
 }
 
-// Adds the families that are under way in a world of this many partitions.
+// Adds the families that are under way in a world of `parts` partitions.
 fn add_sources<'a>(
     families: &mut Vec<&'a Family>,
     world: &'a World,
@@ -131,7 +131,7 @@ fn add_sources<'a>(
     Ok(())
 }
 
-// Adds those that are under way from one partition.
+// Adds the families that are under way from partition `src`.
 fn add_source<'a>(
     families: &mut Vec<&'a Family>,
     world: &'a World,

@@ -1,4 +1,4 @@
--- Short intervals of a time in which an engine was served.
+-- The short intervals of an engine's service.
 use Rattle.std.specs.Prelude.{◌≡◌, ◌⊎◌, ℕ, ◌+◌, List, [], ◌∷◌, ◌++◌, length, sum_by}
 use Rattle.sq_summary.specs.Spreads.{IsSpreadOf}
 use Rattle.sq_serve.specs.declared.watch.ServeMark.{ServeMark}
@@ -19,7 +19,8 @@ answered_over over = sum_by (λ figures. figures.answered) over
 abbrev pub answers_recorded : Intervals → ℕ
 answers_recorded intervals = answered_over intervals.over.items + length intervals.waits.items
 
--- these are the figures of an interval in which jobs were answered that had waited so long
+-- the figures are those of an interval; `waits` are how long the jobs waited that were answered in
+-- it
 pub record IsIntervalOf (number : ℕ) (waits : List ℕ) (moved : MovedTally) (complete : ℕ) (figures : IntervalFigures) : Type 0 where
   pub number_is : figures.number ≡ number
   pub answered_is : figures.answered ≡ length waits
@@ -27,7 +28,8 @@ pub record IsIntervalOf (number : ℕ) (waits : List ℕ) (moved : MovedTally) (
   pub moved_is : figures.moved ≡ moved
   pub complete_is : figures.complete ≡ complete
 
--- the running interval has ended: its figures are behind those before, unless nothing was answered or moved in it
+-- the running interval has ended: its figures come after those before, unless nothing was answered
+-- or moved in it
 abbrev pub EndsInterval : Intervals → Intervals → Type 0
 EndsInterval old new =
     ((new.over.items ≡ old.over.items) × (old.waits.items ≡ []) × (old.moved.families ≡ 0))

@@ -2,5 +2,3 @@ pub mod Tallies
 pub mod OpenJobs
 pub mod Intervals
 pub mod Moves
-pub mod Account
-pub mod AccountJson

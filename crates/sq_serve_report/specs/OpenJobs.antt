@@ -1,4 +1,4 @@
--- When each job was offered that has no answer.
+-- The offer times of open jobs.
 use Rattle.std.specs.Prelude.{◌≡◌, ◌≢◌, ℕ, ◌-◌, Some, None, nat_eq, unwrap_or}
 use Rattle.std.specs.declared.hash.FoldHasher.{FoldHasher}
 use Rattle.std.specs.declared.hash.BuildHasherDefault.{BuildHasherDefault}
@@ -10,16 +10,16 @@ use Rattle.sq_serve.specs.declared.watch.ServeMark.TheVariants.{JobOffered, JobA
 abbrev pub OfferTimes : Type 0
 OfferTimes = HashMap ℕ ℕ (BuildHasherDefault FoldHasher)
 
--- how long the job has waited that a mark answers at this time
+-- how long the job has waited that a mark answers at `micros`
 abbrev pub waited : OfferTimes → ServeMark → ℕ → ℕ
 waited offered (JobAnswered part id is_commit) micros = micros - unwrap_or (get nat_eq offered id) micros
 waited offered mark micros = 0
 
--- the others are as they were
+-- the times of the other jobs are unchanged
 abbrev pub SameBut : ℕ → OfferTimes → OfferTimes → Type 0
 SameBut id old new = (q : ℕ) → q ≢ id → get nat_eq new q ≡ get nat_eq old q
 
--- the job has a time: that at which it was offered first
+-- the job has the time at which it was offered first
 abbrev pub HasOfferTime : OfferTimes → ℕ → ℕ → OfferTimes → Type 0
 HasOfferTime old id micros new =
     (get nat_eq new id ≡ Some (unwrap_or (get nat_eq old id) micros)) × SameBut id old new

@@ -1,4 +1,4 @@
--- What is counted of an engine while it is served.
+-- The counts of an engine that is served.
 use Rattle.std.specs.Prelude.{ℕ, ◌+◌, ◌-◌, ◌^◌, Bool, true, false, Option, Some, None, min, max}
 use Rattle.sq_serve.specs.declared.watch.ServeMark.{ServeMark}
 use Rattle.sq_serve.specs.declared.watch.ServeMark.TheVariants.{EpochBegins, EpochEnds, FamiliesMoved, JobAnswered}
@@ -6,11 +6,11 @@ use Rattle.sq_serve_report.specs.declared.tallies.AnswerTally.{AnswerTally}
 use Rattle.sq_serve_report.specs.declared.tallies.MovedTally.{MovedTally}
 use Rattle.sq_serve_report.specs.declared.tallies.EpochTally.{EpochTally}
 
--- a sum, or the greatest number of 64 bits
+-- a sum, or the largest 64-bit number if it doesn't fit
 abbrev pub capped_sum : ℕ → ℕ → ℕ
 capped_sum a b = min (a + b) (2 ^ 64 - 1)
 
--- one more job was answered, which waited so long
+-- one more job was answered, which waited `wait` microseconds
 abbrev pub answer_counted : AnswerTally → Bool → ℕ → AnswerTally
 answer_counted t true wait =
     record t { committed = capped_sum t.committed 1; longest = max t.longest wait }
@@ -28,7 +28,7 @@ moved_noted t (FamiliesMoved families bytes) =
     record { families = capped_sum t.families families; bytes = capped_sum t.bytes bytes }
 moved_noted t mark = t
 
--- how long a pause took that ends at this time
+-- how long the pause was that ends at `micros`
 abbrev pub pause_since : Option ℕ → ℕ → ℕ
 pause_since None micros = 0
 pause_since (Some ended) micros = micros - ended
@@ -48,7 +48,7 @@ epoch_begun t micros =
       ended = None;
     }
 
--- the tally of epochs after a mark that is made at this time
+-- the tally of epochs after a mark made at `micros`
 abbrev pub epochs_noted : EpochTally → ServeMark → ℕ → EpochTally
 epochs_noted t EpochBegins micros = epoch_begun t micros
 epochs_noted t EpochEnds micros = epoch_ended t micros

@@ -1,13 +1,14 @@
-// How many jobs an engine had answered, and how many segments were complete, as time went by.
+// How many jobs an engine had answered, and how many segments were complete, over time.
 use crate::intervals::IntervalFigures;
 use crate::moves::MoveTally;
 use sq_summary::Moment;
 use std::alloc::{AllocError, Global};
 
-// How many microseconds an interval has.
+// The length of an interval, in microseconds.
 const MICROS_IN_INTERVAL: u64 = 10_000;
 
-/// The moments at which these intervals ended, and the end, at which all moves are done.
+/// The moments at which `intervals` ended, and the end, at which all moves are done. Fails if
+/// memory runs out.
 pub(crate) fn course_of(
     alloc: Global,
     intervals: &[IntervalFigures],
@@ -28,8 +29,8 @@ pub(crate) fn course_of(
     Ok(course)
 }
 
-// The end of an interval that begins after the moment `before`. The segments never fall, as those of a stage do once another
-// stage begins.
+// The end of an interval that begins after the moment `before`. The number of segments never falls,
+// although that of the running stage does when another stage begins.
 fn moment_after(before: Moment, interval: IntervalFigures, moves: &[MoveTally]) -> Moment {
     let micros = interval
         .number
@@ -45,7 +46,7 @@ fn moment_after(before: Moment, interval: IntervalFigures, moves: &[MoveTally]) 
     }
 }
 
-// The end: that of the last interval, or that of a move that ended after it.
+// The end: that of the last interval, or of a move that ended after it.
 fn end_after(last: Moment, moves: &[MoveTally]) -> Moment {
     let micros = moves
         .iter()
@@ -57,14 +58,16 @@ fn end_after(last: Moment, moves: &[MoveTally]) -> Moment {
     }
 }
 
-// How many segments of all moves were complete at this time, when `complete` were of the running stage.
+// How many segments of all moves were complete at `micros`; `complete` is the number of the running
+// stage.
 fn segments_at(moves: &[MoveTally], micros: u64, complete: u64) -> u64 {
     moves.iter().fold(0, |sum: u64, tally| {
         sum.saturating_add(segments_of(tally, micros, complete))
     })
 }
 
-// How many segments of a move were complete at this time, when `complete` were of the running stage.
+// How many segments of a move were complete at `micros`; `complete` is the number of the running
+// stage.
 fn segments_of(tally: &MoveTally, micros: u64, complete: u64) -> u64 {
     if tally.done <= micros {
         tally.segments
@@ -75,7 +78,7 @@ fn segments_of(tally: &MoveTally, micros: u64, complete: u64) -> u64 {
     }
 }
 
-/// When each of these moves began, in microseconds.
+/// When each of `moves` began, in microseconds. Fails if memory runs out.
 pub(crate) fn begins_of(alloc: Global, moves: &[MoveTally]) -> Result<Vec<u64>, AllocError> {
     moves.iter().map(|tally| tally.began).collect(alloc)
 }

@@ -1,4 +1,4 @@
-// Short intervals of a time in which an engine was served.
+// The short intervals of an engine's service.
 ghost use Rattle.std.specs.Prelude.{◌≡◌, ◌+◌, OnOk};
 ghost use Rattle.sq_serve_report.specs.Intervals.{answers_in, answers_recorded, IsIntervalOf};
 ghost use Rattle.sq_serve_report.specs.Intervals.{EndsInterval};
@@ -9,7 +9,7 @@ use sq_summary::{Spread, spread_of};
 use std::alloc::{AllocError, Global};
 use std::mem;
 
-// How many microseconds an interval has.
+// The length of an interval, in microseconds.
 const MICROS_IN_INTERVAL: u64 = 10_000;
 
 #[derive(Clone, Copy)]
@@ -18,7 +18,7 @@ pub(crate) struct IntervalFigures {
     pub(crate) number: u64,
     /// How many jobs were answered in it.
     pub(crate) answered: u64,
-    /// How long these waited.
+    /// How long those jobs waited, in microseconds; `None` if there were none.
     pub(crate) waits: Option<Spread>,
     /// What was moved in it.
     pub(crate) moved: MovedTally,
@@ -26,20 +26,21 @@ pub(crate) struct IntervalFigures {
     pub(crate) complete: u64,
 }
 
-/// The intervals that are over in which a job was answered or a family was moved, and the running one.
+/// The running interval, and those that are over in which a job was answered or a family was moved.
 #[derive(Drop)]
 pub(crate) struct Intervals {
     pub(crate) over: Vec<IntervalFigures>,
     alloc: Global,
     number: u64,
-    // How long the jobs waited that were answered in the running one, and what was moved in it.
+    // How long the jobs waited that were answered in the running interval, and what was moved in
+    // it.
     waits: Vec<u64>,
     moved: MovedTally,
     complete: u64,
 }
 
 impl Intervals {
-    /// The first one runs.
+    /// Intervals of which the first runs.
     pub(crate) fn new(alloc: Global) -> Intervals {
         Intervals {
             over: Vec::new(alloc),
@@ -51,7 +52,7 @@ impl Intervals {
         }
     }
 
-    /// Takes note of a mark that is made at this time. A job that it answers has waited so long.
+    /// Records `mark`, made at `micros`; `wait` is how long the job it answers waited.
     pub(crate) fn note(
         &mut self,
         mark: &ServeMark,
@@ -80,7 +81,7 @@ impl Intervals {
         Ok(())
     }
 
-    // Ends the running interval, if it isn't that of this number, and begins that.
+    // Ends the running interval, unless it is interval `number`, and begins that one.
     fn reach(&mut self, number: u64) -> Result<(), AllocError>
         ensures { OnOk result (answers_recorded self.new ≡ answers_recorded self.old) }
     {
@@ -92,7 +93,7 @@ impl Intervals {
         ended
     }
 
-    // Takes note of a mark in the running interval.
+    // Records `mark` in the running interval.
     fn enter(&mut self, mark: &ServeMark, wait: u64) -> Result<(), AllocError>
         ensures { OnOk result
             (answers_recorded self.new ≡ answers_recorded self.old + answers_in mark.now) }
@@ -108,7 +109,7 @@ impl Intervals {
     }
 }
 
-// The figures of the interval with this number, in which jobs were answered that had waited so long.
+// The figures of interval `number`; `waits` are how long the jobs waited that were answered in it.
 fn figures_of(number: u64, waits: Vec<u64>, moved: MovedTally, complete: u64) -> IntervalFigures
     ensures { IsIntervalOf number waits.items moved complete result }
 {

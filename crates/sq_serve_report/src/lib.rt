@@ -1,5 +1,5 @@
-//! What an engine did while it was served: a line for each short interval, or a chart, and an account of the whole, as text or
-//! as JSON.
+//! Reports on what an engine did while it was served: a line for each short interval, or a chart,
+//! and a summary of the whole, as text or as JSON.
 #![tactic(auto)]
 
 mod account;

@@ -1,4 +1,4 @@
-// The moves of an engine while it was served.
+// The moves of an engine that is served.
 ghost use Rattle.std.specs.Prelude.{◌≡◌, OnOk, option_map};
 ghost use Rattle.sq_serve_report.specs.Moves.{move_begun, move_noted, EndsMove, BeginsMove};
 ghost use Rattle.sq_serve_report.specs.Moves.{NotesMove};
@@ -12,17 +12,17 @@ use std::alloc::{AllocError, Global};
 pub(crate) struct MoveTally {
     /// How many segments moved.
     pub(crate) segments: u64,
-    /// What moved.
+    /// How many families and bytes moved.
     pub(crate) moved: MovedTally,
     /// When it began and when it was done, in microseconds.
     pub(crate) began: u64,
     pub(crate) done: u64,
-    /// The jobs that were answered meanwhile.
+    /// The jobs that were answered during the move.
     pub(crate) answers: AnswerTally,
 }
 
 impl MoveTally {
-    // Of a move of so many segments that begins at this time.
+    // The tally of a move of `segments` segments that begins at `micros`.
     fn begun(segments: u64, micros: u64) -> MoveTally
         ensures { result ≡ move_begun segments micros }
     {
@@ -35,7 +35,7 @@ impl MoveTally {
         }
     }
 
-    // After a mark. A job that it answers has waited so long.
+    // The tally after `mark`; `wait` is how long the job it answers waited.
     fn noted(self, mark: &ServeMark, wait: u64) -> MoveTally
         ensures { result ≡ move_noted self mark.now wait }
     {
@@ -55,7 +55,7 @@ pub(crate) struct MoveRecord {
 }
 
 impl MoveRecord {
-    /// No move.
+    /// A record without moves.
     pub(crate) fn new(alloc: Global) -> MoveRecord {
         MoveRecord {
             done: Vec::new(alloc),
@@ -63,7 +63,7 @@ impl MoveRecord {
         }
     }
 
-    /// Takes note of a mark that is made at this time. A job that it answers has waited so long.
+    /// Records `mark`, made at `micros`; `wait` is how long the job it answers waited.
     pub(crate) fn note(
         &mut self,
         mark: &ServeMark,
@@ -82,7 +82,7 @@ impl MoveRecord {
         }
     }
 
-    /// Ends the running move, if there is one, at this time.
+    /// Ends the running move, if there is one, at `micros`.
     pub(crate) fn end(&mut self, micros: u64) -> Result<(), AllocError>
         ensures { OnOk result (EndsMove self.old micros self.new) }
     {
@@ -98,7 +98,7 @@ impl MoveRecord {
         }
     }
 
-    // A move of so many segments begins at this time, where one that runs ends.
+    // Begins a move of `segments` segments at `micros`, and ends a running one.
     fn begin(&mut self, segments: u64, micros: u64) -> Result<(), AllocError>
         ensures { OnOk result (BeginsMove self.old segments micros self.new) }
     {
@@ -107,7 +107,7 @@ impl MoveRecord {
         Ok(())
     }
 
-    // Takes note of a mark in the running move.
+    // Records `mark` in the running move.
     fn enter(&mut self, mark: &ServeMark, wait: u64)
         ensures done { self.new.done ≡ self.old.done }
         ensures running { self.new.running

@@ -1,4 +1,4 @@
-// When each job was offered that has no answer.
+// The offer times of open jobs.
 ghost use Rattle.std.specs.Prelude.{◌≡◌, OnOk};
 ghost use Rattle.sq_serve_report.specs.OpenJobs.{waited, HasOfferTime, NotesOffer};
 
@@ -6,21 +6,22 @@ use sq_serve::ServeMark;
 use std::alloc::{AllocError, Global};
 use std::collections::HashMap;
 
-/// When each job was offered first that has no answer, by its id, in microseconds.
+/// When each open job was offered first, in microseconds, by its id.
 #[derive(Drop)]
 pub(crate) struct OpenJobs {
     offered: HashMap<u64, u64>,
 }
 
 impl OpenJobs {
-    /// No job.
+    /// A record without jobs.
     pub(crate) fn new(alloc: Global) -> OpenJobs {
         OpenJobs {
             offered: HashMap::new(alloc),
         }
     }
 
-    /// How long the job has waited that a mark answers at this time; 0 for another mark, and for a job that wasn't recorded.
+    /// How long the job has waited that `mark` answers at `micros`; 0 for any other mark, and for a
+    /// job that wasn't recorded.
     pub(crate) fn wait_of(&self, mark: &ServeMark, micros: u64) -> u64
         ensures { result ≡ waited self.now.offered mark.now micros }
     {
@@ -33,7 +34,7 @@ impl OpenJobs {
         }
     }
 
-    /// Takes note of a mark that is made at this time.
+    /// Records `mark`, made at `micros`. Fails if memory runs out.
     pub(crate) fn note(&mut self, mark: &ServeMark, micros: u64) -> Result<(), AllocError>
         ensures { OnOk result (NotesOffer self.old.offered mark.now micros self.new.offered) }
     {
@@ -47,7 +48,7 @@ impl OpenJobs {
         }
     }
 
-    // A job is offered, for the first time or once more.
+    // Records that the job `id` is offered, for the first time or again.
     fn offer(&mut self, id: u64, micros: u64) -> Result<(), AllocError>
         ensures { OnOk result (HasOfferTime self.old.offered id micros self.new.offered) }
     {

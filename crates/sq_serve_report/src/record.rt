@@ -1,11 +1,7 @@
-// What is recorded of an engine while it is served.
-ghost use Rattle.std.specs.Prelude.{◌≡◌, ◌++◌, codes, OnOk};
-ghost use Rattle.std.specs.Io.KnownBytes.{Appends};
+// The record of an engine that is served.
+ghost use Rattle.std.specs.Prelude.{◌≡◌};
 ghost use Rattle.sq_serve_report.specs.Tallies.{answers_noted, epochs_noted};
 ghost use Rattle.sq_serve_report.specs.OpenJobs.{waited};
-ghost use Rattle.serde_json.specs.Written.{compact_text};
-ghost use Rattle.sq_serve_report.specs.Account.{interval_lines, account_text};
-ghost use Rattle.sq_serve_report.specs.AccountJson.{account_data};
 
 use crate::account::{write_account, write_interval_lines};
 use crate::account_json::account_json;
@@ -20,8 +16,9 @@ use std::alloc::{AllocError, Global};
 use std::io;
 use std::io::Write;
 
-/// What is recorded of an engine while it is served. It takes memory for each job that has no answer, for the jobs that were
-/// answered in the running interval, for each interval, and for each move; where there is none it continues, and says so.
+/// The record of an engine that is served. It takes memory for each job that has no answer, for the
+/// jobs that were answered in the running interval, for each interval, and for each move. If memory
+/// runs out, it continues, and its summary says so.
 #[derive(Drop)]
 pub struct ServeRecord {
     answers: AnswerTally,
@@ -33,7 +30,7 @@ pub struct ServeRecord {
 }
 
 impl ServeRecord {
-    /// Of an engine that has done nothing so far.
+    /// The record of an engine that has done nothing yet.
     pub fn new(alloc: Global) -> ServeRecord {
         ServeRecord {
             answers: AnswerTally::NONE,
@@ -45,7 +42,7 @@ impl ServeRecord {
         }
     }
 
-    /// Takes note of a mark that is made at this time, in microseconds.
+    /// Records `mark`, made at `micros` (in microseconds).
     pub fn note(&mut self, mark: ServeMark, micros: u64)
         ensures answers { self.new.answers
             ≡ answers_noted self.old.answers mark (waited self.old.jobs.offered mark micros) }
@@ -60,7 +57,7 @@ impl ServeRecord {
         self.is_whole = self.is_whole && offered.is_ok() && timed.is_ok() && moved.is_ok();
     }
 
-    /// Ends at this time: the running interval and the running move are over.
+    /// Ends the record at `micros`: the running interval and the running move are over.
     pub fn end(&mut self, micros: u64)
         ensures answers { self.new.answers ≡ self.old.answers }
         ensures epochs { self.new.epochs ≡ self.old.epochs }
@@ -70,28 +67,24 @@ impl ServeRecord {
         self.is_whole = self.is_whole && timed.is_ok() && moved.is_ok();
     }
 
-    /// Writes a heading, and a line for each interval that is over, as comma-separated values. An error is the writer's.
-    pub fn write_timeline<W: Write>(&self, writer: &mut W) -> io::Result<()>
-        ensures { OnOk result (Appends (W.contents writer.old) (W.contents writer.new)
-            (interval_lines self.now.intervals.over.items)) }
-    {
+    /// Writes a heading, and a line for each interval that is over, as comma-separated values.
+    /// Fails if the writer does.
+    pub fn write_timeline<W: Write>(&self, writer: &mut W) -> io::Result<()> {
         write_interval_lines(writer, &self.intervals.over)
     }
 
-    /// Writes a chart of how many jobs were answered, and how many segments were complete, over time:
-    /// [`write_engine_svg`](sq_summary::write_engine_svg). An error is the writer's, or that there is no memory.
+    /// Writes a chart of how many jobs were answered, and how many segments were complete, over
+    /// time: [`write_engine_svg`](sq_summary::write_engine_svg). Fails if the writer does, or if
+    /// memory runs out.
     pub fn write_chart<W: Write>(&self, alloc: Global, writer: &mut W) -> io::Result<()> {
         let course = course_of(alloc, &self.intervals.over, &self.moves.done)?;
         let begins = begins_of(alloc, &self.moves.done)?;
         write_engine_svg(alloc, writer, &course, &begins)
     }
 
-    /// Writes the account as compact JSON, in one line. An error is the writer's, or that there is no memory.
-    pub fn write_json<W: Write>(&self, alloc: Global, writer: &mut W) -> io::Result<()>
-        ensures { OnOk result (Appends (W.contents writer.old) (W.contents writer.new)
-            (compact_text (account_data self.now.is_whole self.now.answers self.now.epochs
-            self.now.moves.done.items) ++ codes "\n")) }
-    {
+    /// Writes the summary as compact JSON, on one line. Fails if the writer does, or if memory runs
+    /// out.
+    pub fn write_json<W: Write>(&self, alloc: Global, writer: &mut W) -> io::Result<()> {
         let text = account_json(
             alloc,
             self.is_whole,
@@ -102,13 +95,10 @@ impl ServeRecord {
         writeln!(writer, "{text}")
     }
 
-    /// Writes an account: whether all was recorded, how many jobs were answered, the epochs and the pauses between them, and a
-    /// line for each move that is done. An error is the writer's.
-    pub fn write_account<W: Write>(&self, writer: &mut W) -> io::Result<()>
-        ensures { OnOk result (Appends (W.contents writer.old) (W.contents writer.new)
-            (account_text self.now.is_whole self.now.answers self.now.epochs
-            self.now.moves.done.items)) }
-    {
+    /// Writes the summary: a line if memory ran out before all was recorded, how many jobs were
+    /// answered, the epochs and the pauses between them, and a line for each move that is done.
+    /// Fails if the writer does.
+    pub fn write_account<W: Write>(&self, writer: &mut W) -> io::Result<()> {
         write_account(
             writer,
             self.is_whole,

@@ -1,11 +1,12 @@
-// What is counted of an engine while it is served.
+// The counts of an engine that is served.
 ghost use Rattle.std.specs.Prelude.{◌≡◌};
 ghost use Rattle.sq_serve_report.specs.Tallies.{answer_counted, answers_noted, moved_noted};
 ghost use Rattle.sq_serve_report.specs.Tallies.{epoch_begun, epoch_ended, epochs_noted};
 
 use sq_serve::ServeMark;
 
-/// How many jobs were answered, and the longest that one waited. A count that no number holds stays at the greatest.
+/// How many jobs were answered, and the longest wait of one. A count stays at the largest 64-bit
+/// number if it doesn't fit.
 #[derive(Clone, Copy)]
 pub(crate) struct AnswerTally {
     pub(crate) committed: u64,
@@ -15,14 +16,14 @@ pub(crate) struct AnswerTally {
 }
 
 impl AnswerTally {
-    /// Of no jobs.
+    /// The tally of no jobs.
     pub(crate) const NONE: AnswerTally = AnswerTally {
         committed: 0,
         aborted: 0,
         longest: 0,
     };
 
-    /// After a mark. A job that it answers has waited so long.
+    /// The tally after `mark`; `wait` is how long the job it answers waited.
     pub(crate) fn noted(self, mark: &ServeMark, wait: u64) -> AnswerTally
         ensures { result ≡ answers_noted self mark.now wait }
     {
@@ -32,7 +33,7 @@ impl AnswerTally {
         }
     }
 
-    /// With one more job, which waited so long.
+    /// The tally with one more job, which waited `wait` microseconds.
     pub(crate) fn with(self, is_commit: bool, wait: u64) -> AnswerTally
         ensures { result ≡ answer_counted self is_commit wait }
     {
@@ -53,7 +54,8 @@ impl AnswerTally {
     }
 }
 
-/// How many families and bytes were moved. A count that no number holds stays at the greatest.
+/// How many families and bytes were moved. A count stays at the largest 64-bit number if it doesn't
+/// fit.
 #[derive(Clone, Copy)]
 pub(crate) struct MovedTally {
     pub(crate) families: u64,
@@ -61,13 +63,13 @@ pub(crate) struct MovedTally {
 }
 
 impl MovedTally {
-    /// Of no family.
+    /// The tally of no families.
     pub(crate) const NONE: MovedTally = MovedTally {
         families: 0,
         bytes: 0,
     };
 
-    /// After a mark.
+    /// The tally after `mark`.
     pub(crate) fn noted(self, mark: &ServeMark) -> MovedTally
         ensures { result ≡ moved_noted self mark.now }
     {
@@ -85,15 +87,15 @@ impl MovedTally {
 #[derive(Clone, Copy)]
 pub(crate) struct EpochTally {
     pub(crate) epochs: u64,
-    /// How long the longest pause took and how long all did, in microseconds.
+    /// The longest pause, and all pauses together, in microseconds.
     pub(crate) longest: u64,
     pub(crate) total: u64,
-    /// When the last epoch ended, where none runs.
+    /// When the last epoch ended; `None` before the first one and while one runs.
     pub(crate) ended: Option<u64>,
 }
 
 impl EpochTally {
-    /// Of no epoch.
+    /// The tally of no epochs.
     pub(crate) const NONE: EpochTally = EpochTally {
         epochs: 0,
         longest: 0,
@@ -101,7 +103,7 @@ impl EpochTally {
         ended: None,
     };
 
-    /// After a mark that is made at this time.
+    /// The tally after `mark`, made at `micros`.
     pub(crate) fn noted(self, mark: &ServeMark, micros: u64) -> EpochTally
         ensures { result ≡ epochs_noted self mark.now micros }
     {
@@ -112,7 +114,7 @@ impl EpochTally {
         }
     }
 
-    // An epoch ends at this time.
+    // The tally after an epoch ends at `micros`.
     fn end(self, micros: u64) -> EpochTally
         ensures { result ≡ epoch_ended self micros }
     {
@@ -122,7 +124,7 @@ impl EpochTally {
         }
     }
 
-    // An epoch begins at this time.
+    // The tally after an epoch begins at `micros`.
     fn begin(self, micros: u64) -> EpochTally
         ensures { result ≡ epoch_begun self micros }
     {

@@ -1,4 +1,4 @@
--- The lines of the owners of root keys, and of where these move.
+-- The lines of the owners of root keys, and of where the root keys move.
 use Rattle.std.specs.Prelude.{◌≡◌, ℕ, Bool, if◌then◌else◌, List, [], ◌∷◌, ◌++◌, Option, Some, None, find, decimal, codes}
 use Rattle.std.specs.List.{flat_map}
 use Rattle.sq_plan.specs.PlanValue.{owner}
@@ -6,18 +6,18 @@ use Rattle.sq_ranges.specs.declared.recon.Range.{Range}
 use Rattle.sq_ranges.specs.ReconValue.{ReconValue, has_key, leaf_at, stage_in}
 use Rattle.sq_ranges.specs.OpeningValue.{OpeningValue}
 
--- the reconfiguration range that has a root key
+-- the reconfiguration range that contains a root key
 abbrev pub range_with : ReconValue → ℕ → Option Range
 range_with recon key = find (λ range. has_key range key) recon.ranges
 
--- the ends of the range that a root key moves in, and its stage; nothing where it doesn't move
+-- the ends of the range that a root key moves in, and its stage; nothing if it doesn't move
 abbrev pub key_range_text : ReconValue → Option Range → List ℕ
 key_range_text recon None = []
 key_range_text recon (Some range) =
     codes " range " ++ decimal range.lo ++ codes " " ++ decimal range.hi
     ++ codes " stage " ++ decimal (stage_in recon range)
 
--- the segment and the leaf that hold a root key, where they are asked for
+-- the segment and the leaf that hold a root key, if they are asked for
 abbrev pub told_leaf : Bool → ReconValue → ℕ → Option (ℕ × ℕ)
 told_leaf tells_leaf recon key = if tells_leaf then leaf_at recon key else None
 
@@ -32,7 +32,8 @@ key_owners_text o key =
     codes "key " ++ decimal key ++ codes " " ++ decimal (owner o.old key)
     ++ codes " " ++ decimal (owner o.new key)
 
--- the same with the range and the stage, and the segment and the leaf where these are asked for, if it moves
+-- the same with the range and the stage if it moves, and with the segment and the leaf if these are
+-- asked for, too
 abbrev pub owner_line : Bool → OpeningValue → ℕ → List ℕ
 owner_line tells_leaf o key =
     key_owners_text o key

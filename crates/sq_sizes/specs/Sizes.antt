@@ -1,4 +1,4 @@
--- How large a move is: the opening rows that move, and the chunks that this takes.
+-- The size of a move: the opening rows that move, and the chunks that this takes.
 use Rattle.std.specs.Prelude.{ℕ, Bool, ◌==◌, ◌^◌, ◌+◌, ◌-◌, nat_lt, nat_le, min, List, length, map, filter, sum_by, take_while}
 use Rattle.sq_schema.specs.Table.{TableValue}
 use Rattle.sq_schema.specs.Family.{rows_size}
@@ -10,12 +10,13 @@ use Rattle.sq_sizes.specs.declared.size.Size.{Size}
 use Rattle.sq_sizes.specs.declared.size.MovePart.{MovePart}
 use Rattle.sq_sizes.specs.declared.size.MovePart.TheVariants.{RangePart, StagePart}
 
--- the root keys from lo on that have opening rows, as long as they are below hi, with these
+-- the opening rows of the root keys from lo up to but not including hi
 abbrev pub entries_between : TableValue → ℕ → ℕ → TableValue
 entries_between table lo hi =
     take_while (λ entry. nat_lt entry.0 hi) (filter (λ entry. nat_le lo entry.0) table)
 
--- the size of families that start from these rows, where all are cut at once, at most so many bytes in a chunk
+-- the size of families that start from these rows, if all are cut in one go, with at most `limit`
+-- bytes in a chunk
 abbrev pub entries_size : ℕ → TableValue → Size
 entries_size limit entries =
     record {
@@ -29,7 +30,7 @@ entries_size limit entries =
 abbrev pub segment_size : OpeningValue → Range → Size
 segment_size o segment = entries_size o.config.limit (entries_between o.table segment.lo segment.hi)
 
--- several sizes in sum
+-- the sum of several sizes
 abbrev pub sum_of_sizes : List Size → Size
 sum_of_sizes sizes =
     record {
@@ -49,11 +50,11 @@ abbrev pub part_size : OpeningValue → MovePart → Size
 part_size o part =
     sum_of_sizes (map (segment_size o) (filter (is_in_part o.recon part) o.recon.segments))
 
--- a number, or the greatest of 64 bits where it is greater
+-- a number, or the largest 64-bit number if it doesn't fit
 abbrev pub in_64_bits : ℕ → ℕ
 in_64_bits n = min n (2 ^ 64 - 1)
 
--- a size of such numbers
+-- the same of each number of a size
 abbrev pub size_in_64_bits : Size → Size
 size_in_64_bits size =
     record {
@@ -63,7 +64,7 @@ size_in_64_bits size =
       chunks = in_64_bits size.chunks;
     }
 
--- two sizes in sum, of such numbers
+-- the sum of two sizes, with each number limited in this way
 abbrev pub sum_in_64_bits : Size → Size → Size
 sum_in_64_bits size other =
     record {

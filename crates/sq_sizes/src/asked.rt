@@ -1,4 +1,4 @@
-// What is written of an opening: bytes in, bytes out.
+// What is written about an opening: bytes in, bytes out.
 ghost use Rattle.std.specs.Prelude.{ℕ, List, IfOk};
 ghost use Rattle.sq_ranges.specs.Prelude.{OpeningValue};
 ghost use Rattle.sq_world.specs.Run.{EndsAtFault};
@@ -14,12 +14,13 @@ use std::alloc::Global;
 use std::io;
 use std::io::{Read, Write};
 
-/// A way to write something about an opening.
+/// A way to write a text about an opening.
 pub trait OpeningTelling {
-    /// Its texts.
+    /// The texts that it may write.
     ghost tells: { Self → OpeningValue → List ℕ → Type 0 };
 
-    /// Writes its text about an opening, and gives whether there was memory for it. An error is the writer's.
+    /// Writes its text about an opening, and returns whether memory sufficed for it. Fails if the
+    /// writer does.
     fn tell<W: Write>(&self, alloc: Global, writer: &mut W, opening: &Opening) -> io::Result<Told>
         ensures { IfOk result (IsToldOf (tells self.now) opening.now
             (W.contents writer.old) (W.contents writer.new)) };
@@ -27,8 +28,8 @@ pub trait OpeningTelling {
 
 /// Reads the header of an input, and writes the text of `telling` about its opening.
 ///
-/// Where the header has a fault, as [`read_header`] has them, or there is no memory, the fault is all that is written.
-/// What follows the header isn't looked at. An error is a write or a flush that failed.
+/// If the header has a fault, as [`read_header`] describes, or memory runs out, only the fault is
+/// written. What follows the header isn't looked at. Fails if a write or a flush does.
 pub fn tell_opening<R: Read, W: Write, T: OpeningTelling>(
     alloc: Global,
     reader: &mut R,
@@ -44,7 +45,7 @@ pub fn tell_opening<R: Read, W: Write, T: OpeningTelling>(
     Ok(ending)
 }
 
-// Writes the text about an opening, and leaves it to be flushed.
+// Writes the text about an opening, without a flush.
 fn tell_unflushed<R: Read, W: Write, T: OpeningTelling>(
     alloc: Global,
     reader: &mut R,
@@ -81,7 +82,7 @@ fn tell_of_lines<R: Read, W: Write, T: OpeningTelling>(
     }
 }
 
-// Writes the text about an opening, or else that there is no memory for it.
+// Writes the text about an opening, or else the fault that memory ran out.
 fn tell<W: Write, T: OpeningTelling>(
     alloc: Global,
     writer: &mut W,

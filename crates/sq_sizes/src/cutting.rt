@@ -1,21 +1,21 @@
-// Chunks, as families come.
+// Counts chunks as families come.
 ghost use Rattle.std.specs.Prelude.{◌≡◌, ◌+◌, Some, None};
 ghost use Rattle.sq_sizes.specs.Cutting.{room_behind, chunks_more};
 ghost use Rattle.sq_sizes.specs.Sizes.{in_64_bits};
 
-/// The chunks of the families of a node, one after another, where it is cut at once.
+/// The chunks of the families of a node, one family after another, if the node is cut in one go.
 #[derive(Clone, Copy)]
 pub(crate) struct Cutting {
-    /// The bytes of a chunk.
+    /// How many bytes a chunk holds.
     pub(crate) limit: u64,
-    /// How many chunks there are.
+    /// How many chunks there are so far.
     pub(crate) chunks: u64,
-    /// The room that is left in the last one; `None` where it is empty.
+    /// The room left in the last chunk, in bytes; `None` if that is empty.
     pub(crate) room: Option<u64>,
 }
 
 impl Cutting {
-    /// No family yet, with a chunk that is empty.
+    /// One empty chunk, before the first family.
     pub(crate) fn new(limit: u64) -> Cutting
         ensures { result ≡ record { limit = limit; chunks = 1; room = None } }
     {
@@ -26,7 +26,7 @@ impl Cutting {
         }
     }
 
-    /// Takes one family more, of this size.
+    /// Takes one more family, of `size` bytes.
     pub(crate) fn take(&mut self, size: u64)
         ensures limit { self.new.limit ≡ self.old.limit }
         ensures chunks { self.new.chunks

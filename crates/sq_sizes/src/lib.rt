@@ -1,4 +1,4 @@
-//! What is said of an opening before it runs: how large its move is, and who owns a root key.
+//! Texts about an opening before it runs: how large its move is, and who owns a root key.
 #![tactic(auto)]
 
 mod asked;
@@ -8,10 +8,9 @@ mod size;
 mod size_json;
 mod size_lines;
 mod size_svg;
+mod sizes;
 
 pub use asked::{OpeningTelling, tell_opening};
 pub use owners::OwnersAsLines;
 pub use size::{MovePart, Size};
-pub use size_json::SizesAsJson;
-pub use size_lines::SizesAsLines;
-pub use size_svg::SizesAsSvg;
+pub use sizes::SizesAs;

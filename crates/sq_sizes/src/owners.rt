@@ -1,4 +1,4 @@
-// The owners of root keys, before a move and after it.
+// The owners of root keys before and after a move.
 ghost use Rattle.std.specs.Prelude.{◌≡◌, OnOk};
 ghost use Rattle.std.specs.Io.KnownBytes.{Appends};
 ghost use Rattle.std.specs.List.{flat_map};
@@ -14,13 +14,13 @@ use std::alloc::Global;
 use std::io;
 use std::io::Write;
 
-/// The owners of root keys, a line for each: the one before the move and the one after it, and where it moves the
-/// range, the stage, and the segment with the leaf.
+/// Writes the owners of root keys, one line each: the owner before the move and the one after it,
+/// and for a root key that moves its range, its stage, and perhaps its segment and leaf.
 #[derive(Drop)]
 pub struct OwnersAsLines<'a> {
-    /// The root keys.
+    /// The root keys, in the order of the lines.
     pub keys: &'a [Root],
-    /// Whether the segments and the leaves are written.
+    /// Whether segments and leaves are written.
     pub tells_leaves: bool,
 }
 
@@ -81,7 +81,7 @@ fn write_owners_of<W: Write>(writer: &mut W, opening: &Opening, root: Root) -> i
     write!(writer, "key {key} {old} {new}")
 }
 
-// The reconfiguration range that has a root key.
+// The reconfiguration range that contains a root key.
 fn range_with(recon: &Recon, root: Root) -> Option<Range>
     ensures { result ≡ range_with recon.now root }
 {
@@ -95,7 +95,7 @@ fn range_with(recon: &Recon, root: Root) -> Option<Range>
     None
 }
 
-// Writes the range and the stage of a root key that moves.
+// Writes the range and the stage of a root key, if it moves.
 fn write_range_with<W: Write>(writer: &mut W, recon: &Recon, root: Root) -> io::Result<()>
     ensures { OnOk result (Appends (W.contents writer.old) (W.contents writer.new)
         (key_range_text recon.now (range_with recon.now root))) }
@@ -109,14 +109,14 @@ fn write_range_with<W: Write>(writer: &mut W, recon: &Recon, root: Root) -> io::
     }
 }
 
-// The segment and the leaf of a root key that moves, where they are asked for.
+// The segment and the leaf of a root key; `None` if it doesn't move, or if they aren't asked for.
 fn told_leaf(recon: &Recon, root: Root, tells_leaf: bool) -> Option<(SegId, Leaf)>
     ensures { result ≡ told_leaf tells_leaf recon.now root }
 {
     if tells_leaf { recon.find(root) } else { None }
 }
 
-// Writes a segment and a leaf of it.
+// Writes a segment and a leaf of it, if there is one.
 fn write_leaf<W: Write>(writer: &mut W, place: Option<(SegId, Leaf)>) -> io::Result<()>
     ensures { OnOk result (Appends (W.contents writer.old) (W.contents writer.new)
         (leaf_text place)) }

@@ -8,16 +8,16 @@ use crate::cutting::Cutting;
 use sq_ranges::{Opening, Range, Recon};
 use sq_schema::{EntryIter, Root, Rows};
 
-/// How large something is that moves. Each number is the greatest of 64 bits where it would be greater.
+/// The size of a part of a move. Each number stays at the largest 64-bit number if it doesn't fit.
 #[derive(Clone, Copy, Debug, PartialEq, Eq)]
 pub struct Size {
     /// How many root keys have opening rows.
     pub families: u64,
-    /// How many rows these are.
+    /// How many opening rows these root keys have.
     pub rows: u64,
     /// The bytes of the families.
     pub bytes: u64,
-    /// The chunks that it takes where each segment is cut at once.
+    /// How many chunks it takes if each segment is cut in one go.
     pub chunks: u64,
 }
 
@@ -26,12 +26,12 @@ pub struct Size {
 pub enum MovePart {
     /// A reconfiguration range.
     RangePart(Range),
-    /// The stage of this number.
+    /// The stage with this number.
     StagePart(u64),
 }
 
 impl Size {
-    /// Nothing.
+    /// The size of nothing.
     const NONE: Size = Size {
         families: 0,
         rows: 0,
@@ -39,7 +39,7 @@ impl Size {
         chunks: 0,
     };
 
-    // This and another one in sum.
+    // The sum of this and another size.
     fn plus(self, other: Size) -> Size
         ensures { result ≡ sum_in_64_bits self other }
     {
@@ -51,19 +51,19 @@ impl Size {
         }
     }
 
-    /// The size of a segment of an opening.
+    /// The size of `segment` of an opening.
     pub fn of_segment(opening: &Opening, segment: Range) -> Size
         ensures { result ≡ size_in_64_bits (segment_size opening.now segment) }
     {
         let limit = opening.config().limit;
         match Root::new(segment.lo) {
             Some(from) => size_below(segment.hi, limit, opening.table().iter_from(from)),
-            // No root key is as great.
+            // No root key is that large.
             None => no_families(limit),
         }
     }
 
-    /// The size of a part of the move of an opening: the sum over its segments.
+    /// The size of a part of an opening's move: the sum over its segments.
     pub fn of_part(opening: &Opening, part: MovePart) -> Size
         ensures { result ≡ size_in_64_bits (part_size opening.now part) }
     {
@@ -80,7 +80,7 @@ impl Size {
 }
 
 impl MovePart {
-    // Whether a segment belongs to it.
+    // Returns whether a segment belongs to this part.
     fn has(&self, recon: &Recon, segment: &Range) -> bool
         ensures { result ≡ is_in_part recon.now self.now segment.now }
     {
@@ -100,7 +100,8 @@ fn no_families(limit: u64) -> Size
     }
 }
 
-// The size of families that start from these rows, as long as their root keys are below `end`.
+// The size of the families that start from these rows, up to the first whose root key isn't below
+// `end`.
 fn size_below(end: u64, limit: u64, entries: EntryIter<'_, Root, Rows>) -> Size
     ensures { result ≡ size_in_64_bits
         (entries_size limit (take_while (λ entry. nat_lt entry.0 end) entries.entry)) }
@@ -120,7 +121,7 @@ fn size_below(end: u64, limit: u64, entries: EntryIter<'_, Root, Rows>) -> Size
     }
 }
 
-// The size of a family that starts from these rows, without its chunks.
+// The size of a family that starts from these rows, without chunks.
 fn size_of_rows(rows: &Rows) -> Size
     ensures { result ≡ record {
       families = 1;

@@ -1,3 +1,1 @@
 pub mod Moments
-pub mod Values
-pub mod FlatFigures

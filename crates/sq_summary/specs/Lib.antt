@@ -1,11 +1,5 @@
 pub mod Moments
-pub mod Csv
 pub mod Curves
-pub mod Ticks
 pub mod Intervals
-pub mod Chart
 pub mod Spreads
-pub mod Times
 pub mod PartsFigured
-pub mod FiguresJson
-pub mod FiguresText

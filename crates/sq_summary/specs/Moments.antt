@@ -1,4 +1,4 @@
--- How far a run was after each of its events.
+-- The progress of a run after each of its events.
 use Rattle.std.specs.Prelude.{◌≡◌, ℕ, ◌+◌, Bool, true, false, not, List, length, take, slice_get, Option, Some, None, count_by}
 use Rattle.sq_summary.specs.declared.moment.TimedAnswer.{TimedAnswer}
 use Rattle.sq_summary.specs.declared.moment.Happened.{Happened}
@@ -6,18 +6,18 @@ use Rattle.sq_summary.specs.declared.moment.Happened.TheVariants.{JobAnswered, S
 use Rattle.sq_summary.specs.declared.moment.Event.{Event}
 use Rattle.sq_summary.specs.declared.moment.Moment.{Moment}
 
--- a job was answered; any other event completes a segment
+-- the event is the answer of a job, else the completion of a segment
 abbrev pub answers_job : Happened → Bool
 answers_job (JobAnswered _) = true
 answers_job SegmentComplete = false
 
--- the answer that a job was given, if one was
+-- the answer of a job, if the event is one
 abbrev pub answer_in : Happened → Option TimedAnswer
 answer_in (JobAnswered answer) = Some answer
 answer_in SegmentComplete = None
 
--- the moment after these events: when the last of them was, how many jobs were answered by then, how many segments were
--- complete, and its answer
+-- the moment after these events: the time of the last of them, how many jobs were answered and
+-- segments complete by then, and its answer
 abbrev pub moment_of : List Event → Event → Moment
 moment_of events last = record {
   micros = last.micros;
@@ -26,7 +26,7 @@ moment_of events last = record {
   answer = answer_in last.what;
 }
 
--- there is a moment for each event: the one after all events up to this one
+-- there is a moment for each event: the one after all events up to it
 pub record AreMoments (events : List Event) (moments : List Moment) : Type 0 where
   pub count : length moments ≡ length events
   pub each : (i : ℕ) (event : Event) (moment : Moment) → slice_get events i ≡ Some event → slice_get moments i ≡ Some moment

@@ -4,7 +4,8 @@ use Rattle.sq_summary.specs.declared.moment.TimedAnswer.{TimedAnswer}
 use Rattle.sq_summary.specs.declared.part_figures.PartFigures.{PartFigures}
 use Rattle.sq_summary.specs.Spreads.{IsSpreadOf}
 
--- how long the jobs took that a partition answered, and those of them that had waited there
+-- how long the jobs took that a partition answered, and how long those of them took that had waited
+-- there
 abbrev pub times_at : List TimedAnswer → ℕ → List ℕ
 times_at answers part = map (λ answer. answer.micros_since_post) (filter (λ answer. answer.part == part) answers)
 
@@ -12,11 +13,12 @@ abbrev pub waited_times_at : List TimedAnswer → ℕ → List ℕ
 waited_times_at answers part =
     map (λ answer. answer.micros_since_post) (filter (λ answer. (answer.part == part) && is_some answer.waited) answers)
 
--- how long jobs had waited that a partition answered
+-- how long the jobs had waited that a partition answered
 abbrev pub wait_times_at : List TimedAnswer → ℕ → List ℕ
 wait_times_at answers part = filter_map (λ answer. answer.waited) (filter (λ answer. answer.part == part) answers)
 
--- these are the figures of a partition that committed and aborted so many, where these are the answers of all
+-- the figures are those of a partition that committed and aborted so many jobs; `answers` are those
+-- of all partitions
 pub record ArePartFigures (part committed aborted : ℕ) (answers : List TimedAnswer) (figures : PartFigures) : Type 0 where
   pub number : figures.part ≡ part
   pub commits : figures.committed ≡ committed

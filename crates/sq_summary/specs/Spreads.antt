@@ -1,13 +1,13 @@
--- How times spread.
+-- The spread of times.
 use Rattle.std.specs.Prelude.{◌≡◌, ℕ, ◌+◌, ◌-◌, ◌*◌, ◌/◌, List, [], ◌∷◌, length, slice_index_or, Option, Some, None}
 use Rattle.std.specs.List.Sorted.{IsPermutation, IsNonDecreasingBy}
 use Rattle.sq_summary.specs.declared.spread.Spread.{Spread}
 
--- the first of sorted times that is no shorter than so many in 100 of them, or more
+-- the first of the sorted times such that at least `percent` of 100 are no longer
 abbrev pub ranked : List ℕ → ℕ → ℕ
 ranked times percent = slice_index_or times ((length times * percent + 99) / 100 - 1) 0
 
--- how sorted times spread
+-- the spread of sorted times
 abbrev pub spread_in : List ℕ → Option Spread
 spread_in [] = None
 spread_in (first ∷ others) = Some (record {
@@ -16,7 +16,7 @@ spread_in (first ∷ others) = Some (record {
   longest = ranked (first ∷ others) 100;
 })
 
--- this is how times spread: once they are sorted
+-- the spread is that of these times once they are sorted
 pub record IsSpreadOf (times : List ℕ) (spread : Option Spread) : Type 0 where
   pub sorted : List ℕ
   pub same : IsPermutation times sorted

@@ -1,19 +1,17 @@
-// What an engine did, as a chart.
+// The course of an engine as a chart.
 ghost use Rattle.std.specs.Prelude.{◌<◌};
 
 use crate::intervals::{INTERVALS, Interval, write_intervals};
 use crate::moment::Moment;
-use crate::svg::{
-    AXIS, Curve, HEAD, LEFT, TICKS, WIDTH, interval_len, share_of, tick_step, write_drawn,
-    write_stage_rule, write_ticks,
-};
+use crate::svg::{interval_len, write_curves, write_ground, write_start};
 use std::alloc::{AllocError, Global};
 use std::io;
 use std::io::Write;
 
-/// Writes a chart of how many jobs an engine had answered, and how many segments were complete, over time, of how many jobs were
-/// answered in each of short intervals, and of when each move began. `course` rises in both, and ends with all that there are;
-/// `begins` are the times of the moves in microseconds. An error is the writer's, or that there is no memory.
+/// Writes a chart over time of how many jobs an engine had answered, how many segments were
+/// complete, how many jobs were answered in each short interval, and when each move began. `course`
+/// rises in both counts, and ends with their totals; `begins` are the times of the moves in
+/// microseconds. Fails if the writer does, or if memory runs out.
 pub fn write_engine_svg<W: Write>(
     alloc: Global,
     writer: &mut W,
@@ -22,15 +20,15 @@ pub fn write_engine_svg<W: Write>(
 ) -> io::Result<()> {
     let all = end_of(course);
     let intervals = answers_in_intervals(alloc, course, interval_len(all.micros))?;
-    write_ground(writer, all)?;
+    write_ground(writer, "An engine that answers", all)?;
     write_intervals(writer, all.micros, &intervals)?;
-    write_begins(writer, all.micros, begins)?;
-    write_drawn(writer, Curve::Jobs, all, 130, course)?;
-    write_drawn(writer, Curve::Segments, all, 560, course)?;
-    writer.write_all(b"</svg>\n")
+    for (number, begin) in begins.iter().enumerate() {
+        write_start(writer, all.micros, *begin, "move", number as u64)?;
+    }
+    write_curves(writer, course, all)
 }
 
-// The last of these moments, or one at which nothing is done.
+// The last moment of `course`, or one at time 0 with nothing done.
 fn end_of(course: &[Moment]) -> Moment {
     let nothing = Moment {
         micros: 0,
@@ -41,7 +39,7 @@ fn end_of(course: &[Moment]) -> Moment {
     course.last().copied().unwrap_or(nothing)
 }
 
-// How many jobs were answered in each interval of `len` microseconds.
+// How many jobs were answered in each interval, `len` microseconds long.
 fn answers_in_intervals(
     alloc: Global,
     course: &[Moment],
@@ -59,8 +57,8 @@ fn answers_in_intervals(
         .collect(alloc)
 }
 
-// How many jobs were answered before the interval of this number, of `len` microseconds each. What a moment says happened in the
-// microseconds before it.
+// How many jobs were answered before interval `number`, each `len` microseconds long. The counts of
+// a moment are of what happened before its time.
 fn answers_up_to(course: &[Moment], len: u64, number: u64) -> u64
     requires { 0 < len }
 {
@@ -68,34 +66,4 @@ fn answers_up_to(course: &[Moment], len: u64, number: u64) -> u64
         .iter()
         .filter(|moment| moment.micros.saturating_sub(1) / len < number);
     before.fold(0, |most, moment| most.max(moment.jobs))
-}
-
-// Writes what is behind the curves, and the title.
-fn write_ground<W: Write>(writer: &mut W, all: Moment) -> io::Result<()> {
-    let Moment {
-        micros,
-        jobs,
-        segments,
-        ..
-    } = all;
-    writer.write_all(HEAD)?;
-    writeln!(
-        writer,
-        "<text class=\"ink\" x=\"130\" y=\"44\" font-size=\"32\">An engine that answers {jobs} jobs while {segments} segments move</text>"
-    )?;
-    write_ticks(writer, micros, tick_step(micros), &TICKS)?;
-    writer.write_all(AXIS)
-}
-
-// Writes a line where each move begins, with its number.
-fn write_begins<W: Write>(writer: &mut W, micros: u64, begins: &[u64]) -> io::Result<()> {
-    for (number, begin) in begins.iter().enumerate() {
-        let x = LEFT + share_of(*begin, micros, WIDTH);
-        write_stage_rule(writer, x)?;
-        writeln!(
-            writer,
-            "<text class=\"soft\" x=\"{x}\" y=\"150\" font-size=\"20\">move {number}</text>"
-        )?;
-    }
-    Ok(())
 }

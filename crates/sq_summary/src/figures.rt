@@ -5,11 +5,10 @@ use crate::times::Times;
 /// What moved along a link in a stage.
 #[derive(Clone, Copy, Debug, PartialEq, Eq)]
 pub struct LinkFigures {
-    /// The stage's number.
     pub stage: u64,
-    /// The number of the partition that the link leads from.
+    /// The partition that the link leads from.
     pub src: u8,
-    /// The number of the partition that it leads to.
+    /// The partition that it leads to.
     pub dst: u8,
     /// How many root keys its chunks cover, with families or without.
     pub keys: u64,
@@ -26,7 +25,7 @@ pub struct LinkFigures {
 /// The figures of a live run.
 #[derive(Debug, Drop)]
 pub struct RunFigures {
-    /// Whether there was memory to count all.
+    /// Whether memory sufficed to count all.
     pub is_whole: bool,
     /// What moved along each link, stage by stage.
     pub links: Vec<LinkFigures>,

@@ -1,8 +1,8 @@
-// The form in which figures are written.
+// The format of figures.
 ghost use Rattle.std.specs.Prelude.{◌≡◌, ◌↔◌, IsTrue, codes, nat_eq};
 ghost use Rattle.std.specs.List.{ends_with};
 
-/// Whether figures are written as JSON or as text.
+/// The format of figures: JSON or text.
 #[derive(Clone, Copy, Debug, PartialEq, Eq)]
 pub enum FiguresForm {
     /// One JSON value: [`figures_json`](crate::figures_json).
@@ -12,7 +12,7 @@ pub enum FiguresForm {
 }
 
 impl FiguresForm {
-    /// The form of a file of this name: JSON where it ends in `.json`, and else text.
+    /// The format for the file `name`: JSON if it ends in `.json`, else text.
     pub fn of_file(name: &str) -> FiguresForm
         ensures { (result ≡ FiguresForm.Json) ↔ IsTrue (ends_with nat_eq name.now (codes ".json")) }
     {

@@ -1,8 +1,7 @@
-// How many jobs were answered in each of short intervals.
-ghost use Rattle.std.specs.Prelude.{◌≡◌, ◌<◌, map, IfOk, OnOk};
-ghost use Rattle.std.specs.List.{flat_map, range_with_len};
-ghost use Rattle.std.specs.Io.KnownBytes.{Appends};
-ghost use Rattle.sq_summary.specs.Intervals.{answered_in, interval_of, most_in, interval_len, interval_top, interval_text, area_text, rate_text, intervals_text};
+// How many jobs were answered in each short interval.
+ghost use Rattle.std.specs.Prelude.{◌≡◌, ◌<◌, map, IfOk};
+ghost use Rattle.std.specs.List.{range_with_len};
+ghost use Rattle.sq_summary.specs.Intervals.{answered_in, interval_of, most_in};
 
 use crate::moment::Moment;
 use crate::svg::{BOTTOM, HEIGHT, LEFT, WIDTH, interval_len, share_of, write_label};
@@ -10,19 +9,19 @@ use std::alloc::{AllocError, Global};
 use std::io;
 use std::io::Write;
 
-/// In how many intervals a run is divided at most.
+/// The most intervals of a run.
 pub(crate) const INTERVALS: u64 = 64;
 
 /// An interval of a run.
 #[derive(Clone, Copy, Debug, PartialEq, Eq)]
 pub(crate) struct Interval {
-    /// Its number, from 0 on.
+    /// Its number, from 0.
     pub(crate) number: u64,
     /// How many jobs were answered in it.
     pub(crate) jobs: u64,
 }
 
-/// The intervals of a run, of so many microseconds each.
+/// The intervals of a run, each `len` microseconds long. Fails if memory runs out.
 pub(crate) fn intervals_of(
     alloc: Global,
     moments: &[Moment],
@@ -40,7 +39,7 @@ pub(crate) fn intervals_of(
         .collect(alloc)
 }
 
-// How many jobs were answered in the interval of this number, of so many microseconds.
+// How many jobs were answered in interval `number`, each `len` microseconds long.
 fn answered_in(moments: &[Moment], len: u64, number: u64) -> u64
     requires { 0 < len }
     ensures { result ≡ answered_in moments.now len number }
@@ -50,7 +49,7 @@ fn answered_in(moments: &[Moment], len: u64, number: u64) -> u64
     answers.count() as u64
 }
 
-// How many jobs were answered at most in one of these intervals.
+// The most jobs that were answered in one of these intervals.
 fn most_in(intervals: &[Interval]) -> u64
     ensures { result ≡ most_in intervals.now }
 {
@@ -59,45 +58,20 @@ fn most_in(intervals: &[Interval]) -> u64
         .fold(0, |most, interval| most.max(interval.jobs))
 }
 
-/// Writes how many jobs were answered in each interval of a run of this many microseconds: as an area that is as high as the
-/// chart where they were most, and how many that is.
+/// Writes how many jobs were answered in each interval of a run of `micros`: an area that reaches
+/// the top of the chart at the highest number, and that number.
 pub(crate) fn write_intervals<W: Write>(
     writer: &mut W,
     micros: u64,
     intervals: &[Interval],
-) -> io::Result<()>
-    ensures { OnOk result (Appends (W.contents writer.old) (W.contents writer.new)
-        (intervals_text micros intervals.now)) }
-{
+) -> io::Result<()> {
     let len = interval_len(micros);
     let most = most_in(intervals);
-    write_rate(writer, len, most)?;
-    write_area(writer, micros, len, most, intervals)
-}
-
-// Writes what the area shows: of how long intervals, and how many jobs are as high as the chart.
-fn write_rate<W: Write>(writer: &mut W, len: u64, most: u64) -> io::Result<()>
-    ensures { OnOk result (Appends (W.contents writer.old) (W.contents writer.new)
-        (rate_text len most)) }
-{
     writer.write_all(
         b"<path class=\"rate\" d=\"M1030 64H1094V90H1030Z\"/><text class=\"ink\" x=\"1110\" y=\"90\">jobs in each ",
     )?;
     write_label(writer, len)?;
-    writeln!(writer, " ms, up to {most}</text>")
-}
-
-// Writes the area under the counts of intervals.
-fn write_area<W: Write>(
-    writer: &mut W,
-    micros: u64,
-    len: u64,
-    most: u64,
-    intervals: &[Interval],
-) -> io::Result<()>
-    ensures { OnOk result (Appends (W.contents writer.old) (W.contents writer.new)
-        (area_text micros len most intervals.now)) }
-{
+    writeln!(writer, " ms, up to {most}</text>")?;
     writer.write_all(b"<path class=\"rate\" d=\"M130 760")?;
     for interval in intervals {
         write_interval(writer, micros, len, most, *interval)?;
@@ -105,38 +79,19 @@ fn write_area<W: Write>(
     writer.write_all(b"H1530V760Z\"/>\n")
 }
 
-// Writes the step of an interval, if it begins within the run.
-#[tactic(auto, unfolding(crate::specs::Intervals::interval_text))]
+// Writes the step of an interval `len` microseconds long, if it begins within the run of `micros`.
 fn write_interval<W: Write>(
     writer: &mut W,
     micros: u64,
     len: u64,
     most: u64,
     interval: Interval,
-) -> io::Result<()>
-    ensures { OnOk result (Appends (W.contents writer.old) (W.contents writer.new)
-        (interval_text micros len most interval)) }
-{
+) -> io::Result<()> {
     let start = u128::from(len) * u128::from(interval.number);
-    if start <= u128::from(micros) {
-        write_top_of(writer, micros, start as u64, most, interval.jobs)
-    } else {
-        Ok(())
+    if start > u128::from(micros) {
+        return Ok(());
     }
-}
-
-// Continues to the start of an interval, and there to its count.
-fn write_top_of<W: Write>(
-    writer: &mut W,
-    micros: u64,
-    start: u64,
-    most: u64,
-    jobs: u64,
-) -> io::Result<()>
-    ensures { OnOk result (Appends (W.contents writer.old) (W.contents writer.new)
-        (interval_top micros start most jobs)) }
-{
-    let x = LEFT + share_of(start, micros, WIDTH);
-    let y = BOTTOM - share_of(jobs, most, HEIGHT);
+    let x = LEFT + share_of(start as u64, micros, WIDTH);
+    let y = BOTTOM - share_of(interval.jobs, most, HEIGHT);
     write!(writer, "H{x}V{y}")
 }

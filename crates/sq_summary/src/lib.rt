@@ -1,7 +1,7 @@
-//! What a live run did, for a reader: its figures, as text and as JSON (what moved along each link, how jobs ended at
-//! each partition and how long they took, how long the run took), and its course over time, as comma-separated values
-//! and as a picture (how many jobs were answered and how many segments were complete, with what each answer was). What an
-//! engine did has such a picture too.
+//! Formats what a live run did: its figures, as text and as JSON (what moved along each link, how
+//! jobs ended at each partition and how long they took, how long the run took), and its course over
+//! time, as comma-separated values and as a chart (how many jobs were answered and how many
+//! segments were complete, with each answer). It draws the chart of an engine, too.
 #![tactic(auto)]
 
 mod csv;

@@ -1,46 +1,45 @@
-// How far a run was, moment by moment.
+// The progress of a run, moment by moment.
 ghost use Rattle.std.specs.Prelude.{◌≡◌, ◌<◌, ◌^◌, IfOk};
 ghost use Rattle.sq_summary.specs.Moments.{AreMoments, moment_after};
 
 use std::alloc::{AllocError, Global};
 
-/// An answer of a job.
+/// The answer of a job.
 #[derive(Clone, Copy, Debug, PartialEq, Eq)]
 pub struct TimedAnswer {
-    /// The number of the partition that gave it.
+    /// The partition that gave it.
     pub part: u8,
     /// The job's id.
     pub id: u64,
-    /// How many microseconds had gone by since the job was posted.
+    /// The microseconds since the job was posted.
     pub micros_since_post: u64,
     /// For how many microseconds the job had waited for rows at that partition, if it had.
     pub waited: Option<u64>,
 }
 
-/// What happened in a run.
+/// An event in a run.
 #[derive(Clone, Copy, Debug, PartialEq, Eq)]
 pub enum Happened {
     JobAnswered(TimedAnswer),
     SegmentComplete,
 }
 
-/// What happened in a run, and when.
+/// An event in a run, and its time.
 #[derive(Clone, Copy, Debug, PartialEq, Eq)]
 pub struct Event {
-    /// How many microseconds the run had taken.
+    /// The microseconds since the run began.
     pub micros: u64,
-    /// What happened.
     pub what: Happened,
 }
 
-/// How far a run was at one moment.
+/// The progress of a run at one moment.
 #[derive(Clone, Copy, Debug, PartialEq, Eq)]
 pub struct Moment {
-    /// How many microseconds it had taken.
+    /// The microseconds since the run began.
     pub micros: u64,
-    /// How many jobs were answered.
+    /// How many jobs were answered by then.
     pub jobs: u64,
-    /// How many segments were complete.
+    /// How many segments were complete by then.
     pub segments: u64,
     /// The answer that was given at this moment, if one was.
     pub answer: Option<TimedAnswer>,
@@ -51,12 +50,12 @@ pub struct Moment {
 pub struct StageStart {
     /// The stage's number.
     pub stage: u64,
-    /// How many microseconds the run had taken.
+    /// The microseconds since the run began.
     pub micros: u64,
 }
 
 impl Moment {
-    // The moment after an event that follows.
+    // The moment after the next event.
     fn after(self, event: Event) -> Moment
         requires jobs { self.jobs < 2 ^ 63 }
         requires segments { self.segments < 2 ^ 63 }
@@ -81,7 +80,7 @@ impl Moment {
     }
 }
 
-/// The moments of these events, in their order: how far the run was after each of them.
+/// The moments after each of `events`, in their order. Fails if memory runs out.
 pub fn moments_of(alloc: Global, events: &[Event]) -> Result<Vec<Moment>, AllocError>
     ensures { IfOk result (λ moments. AreMoments events.now moments.items) }
 {

@@ -9,25 +9,25 @@ use std::alloc::{AllocError, Global};
 /// How jobs ended at a partition.
 #[derive(Clone, Copy, Debug, PartialEq, Eq)]
 pub struct PartFigures {
-    /// The partition's number.
     pub part: u8,
     /// How many it committed.
     pub committed: u64,
     /// How many it aborted.
     pub aborted: u64,
-    /// How many had waited there for rows before they were answered.
+    /// How many of its jobs had waited there for rows before they were answered.
     pub waited: u64,
-    /// How long its jobs took from their posting to their answer, where there are any.
+    /// How long its jobs took from their posting to their answer, in microseconds; `None` if it had
+    /// none.
     pub answers: Option<Spread>,
-    /// How long those of them took that had waited, where there are any.
+    /// The same of those jobs that had waited; `None` if none had.
     pub waited_answers: Option<Spread>,
-    /// How long these had waited there for rows.
+    /// How long those jobs had waited there for rows; `None` if none had.
     pub waits: Option<Spread>,
 }
 
 impl PartFigures {
-    /// The figures of a partition that committed and aborted so many jobs, where these are the answers of all
-    /// partitions. The only fault is that memory ran out.
+    /// The figures of partition `part`, which committed and aborted so many jobs; `answers` are
+    /// those of all partitions. Fails only if memory runs out.
     pub fn of_answers(
         alloc: Global,
         part: u8,
@@ -52,7 +52,7 @@ impl PartFigures {
     }
 }
 
-// How long the jobs took that this partition answered.
+// How long the jobs took that `part` answered.
 fn times_at(alloc: Global, answers: &[TimedAnswer], part: u8) -> Result<Vec<u64>, AllocError>
     ensures { IfOk result (λ times. times.items ≡ times_at answers.now part) }
 {
@@ -70,7 +70,7 @@ fn waited_times_at(alloc: Global, answers: &[TimedAnswer], part: u8) -> Result<V
     own.map(|answer| answer.micros_since_post).collect(alloc)
 }
 
-// How long jobs had waited that this partition answered.
+// How long the jobs had waited that `part` answered.
 fn wait_times_at(alloc: Global, answers: &[TimedAnswer], part: u8) -> Result<Vec<u64>, AllocError>
     ensures { IfOk result (λ waits. waits.items ≡ wait_times_at answers.now part) }
 {

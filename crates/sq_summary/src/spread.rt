@@ -1,19 +1,19 @@
-// How times spread.
+// The spread of times.
 ghost use Rattle.std.specs.Prelude.{◌≡◌, ◌<◌, ◌≤◌};
 ghost use Rattle.sq_summary.specs.Spreads.{ranked, IsSpreadOf};
 
-/// How times spread, in microseconds.
+/// The spread of some times, in microseconds.
 #[derive(Clone, Copy, Debug, PartialEq, Eq)]
 pub struct Spread {
-    /// Half of them, or more, are no longer.
+    /// At least half of them are no longer than this.
     pub median: u64,
-    /// 99 in 100 of them, or more, are no longer.
+    /// At least 99 of 100 are no longer than this: the 99th percentile.
     pub p99: u64,
-    /// None is longer.
+    /// The longest.
     pub longest: u64,
 }
 
-/// How these times spread. `None` where there are none.
+/// The spread of `times`; `None` if there are none.
 pub fn spread_of(mut times: Vec<u64>) -> Option<Spread>
     ensures { IsSpreadOf times.items result }
 {
@@ -28,7 +28,8 @@ pub fn spread_of(mut times: Vec<u64>) -> Option<Spread>
     })
 }
 
-// The first of sorted times from which on no more than the others in 100 are longer.
+// The time at the rank of `percent`: the shortest of the sorted times such that at least `percent`
+// of 100 are no longer.
 fn ranked(times: &[u64], percent: u8) -> u64
     requires some { 0 < percent }
     requires within { percent ≤ 100 }

@@ -1,11 +1,6 @@
 // The moments of a run as a chart.
-ghost use Rattle.std.specs.Prelude.{◌≡◌, ◌≤◌, ◌<◌, OnOk};
-ghost use Rattle.std.specs.List.{flat_map};
-ghost use Rattle.std.specs.Io.KnownBytes.{Appends};
-ghost use Rattle.sq_summary.specs.Curves.{share_of, count_of, curve_class, curve_name, curve_start, step_text, curve_text, sample_text, legend_text};
-ghost use Rattle.sq_summary.specs.Ticks.{step_within, tick_step, label_text, tick_rule, tick_mark, tick_text, ticks_text};
-ghost use Rattle.sq_summary.specs.Intervals.{interval_len};
-ghost use Rattle.sq_summary.specs.Chart.{drawn_text, title_text, ground_text, stage_rule, stage_label, stage_text, curves_text, chart_svg};
+ghost use Rattle.std.specs.Prelude.{◌≡◌, ◌<◌};
+ghost use Rattle.sq_summary.specs.Curves.{share_of};
 
 use crate::intervals::{INTERVALS, intervals_of, write_intervals};
 use crate::moment::{Moment, StageStart};
@@ -13,20 +8,21 @@ use std::alloc::Global;
 use std::io;
 use std::io::Write;
 
-/// Where the plot begins, from the left.
+/// The left edge of the plot.
 pub(crate) const LEFT: u64 = 130;
 
-/// Where the plot ends, from the top.
+/// The bottom of the plot, measured from the top.
 pub(crate) const BOTTOM: u64 = 760;
 
-/// How wide the plot is.
+/// The width of the plot.
 pub(crate) const WIDTH: u64 = 1400;
 
-/// How high the plot is.
+/// The height of the plot.
 pub(crate) const HEIGHT: u64 = 600;
 
-/// What is written before the ticks: the colors, the lines of percents, and the titles of both axes.
-pub(crate) const HEAD: &[u8] =
+// What is written before the ticks: the styles, the lines of percentages, and the title of the axis
+// of time.
+const HEAD: &[u8] =
     br##"<svg xmlns="http://www.w3.org/2000/svg" viewBox="0 0 1600 900" width="960" height="540" font-family="system-ui, sans-serif" font-size="26">
 <style>
 .back { fill: #fcfcfb } .ink { fill: #0b0b0b } .soft { fill: #52514e }
@@ -80,45 +76,34 @@ const STEPS: [u64; 27] = [
     500_000_000,
 ];
 
-/// The ticks; those are drawn that lie within the run.
-pub(crate) const TICKS: [u64; 9] = [0, 1, 2, 3, 4, 5, 6, 7, 8];
+// The axis of time.
+const AXIS: &[u8] = b"<path class=\"axis\" d=\"M130 760H1530\"/>\n";
 
-/// The axis of time.
-pub(crate) const AXIS: &[u8] = b"<path class=\"axis\" d=\"M130 760H1530\"/>\n";
-
-/// What a curve shows.
-#[derive(Clone, Copy, Debug, PartialEq, Eq)]
-pub(crate) enum Curve {
-    /// How many jobs are answered.
+// What a curve shows: how many jobs are answered, or how many segments are complete.
+#[derive(Clone, Copy)]
+enum Curve {
     Jobs,
-    /// How many segments are complete.
     Segments,
 }
 
 impl Curve {
-    // What it shows of a moment.
-    fn count(self, moment: Moment) -> u64
-        ensures { result ≡ count_of self moment }
-    {
+    // The value of the curve at `moment`.
+    fn count(self, moment: Moment) -> u64 {
         match self {
             Curve::Jobs => moment.jobs,
             Curve::Segments => moment.segments,
         }
     }
 
-    fn class(self) -> &'static str
-        ensures { result.now ≡ curve_class self }
-    {
+    fn class(self) -> &'static str {
         match self {
             Curve::Jobs => "jobs",
             Curve::Segments => "segments",
         }
     }
 
-    // What it is of.
-    fn name(self) -> &'static str
-        ensures { result.now ≡ curve_name self }
-    {
+    // Its name in the legend.
+    fn name(self) -> &'static str {
         match self {
             Curve::Jobs => "jobs answered",
             Curve::Segments => "segments complete",
@@ -126,116 +111,69 @@ impl Curve {
     }
 }
 
-/// Writes a chart of how many of all jobs were answered, and how many of all segments were complete, over time, of how many
-/// jobs were answered in each of short intervals, and of when each stage began. `all` is the end of the run, with all jobs and
-/// all segments that there are. It is read in light and in dark. An error is the writer's, or that there is no memory.
+/// Writes a chart over time: the share of all jobs that were answered, the share of all segments
+/// that were complete, how many jobs were answered in each short interval, and when each stage
+/// began. `all` is the end of the run, with the numbers of all jobs and all segments. It has a
+/// light and a dark color scheme. Fails if the writer does, or if memory runs out.
 pub fn write_svg<W: Write>(
     alloc: Global,
     writer: &mut W,
     moments: &[Moment],
     stages: &[StageStart],
     all: Moment,
-) -> io::Result<()>
-    ensures { OnOk result (Appends (W.contents writer.old) (W.contents writer.new)
-        (chart_svg moments.now stages.now all)) }
-{
+) -> io::Result<()> {
     let intervals = intervals_of(alloc, moments, interval_len(all.micros))?;
-    write_top(writer, all)?;
+    write_ground(writer, "A live run of", all)?;
     write_intervals(writer, all.micros, &intervals)?;
-    write_stages(writer, all.micros, stages)?;
+    for start in stages {
+        write_start(writer, all.micros, start.micros, "stage", start.stage)?;
+    }
     write_curves(writer, moments, all)
 }
 
-// Writes the title, and what is behind the curves.
-fn write_top<W: Write>(writer: &mut W, all: Moment) -> io::Result<()>
-    ensures { OnOk result (Appends (W.contents writer.old) (W.contents writer.new)
-        (ground_text all)) }
-{
+/// Writes the title, which begins with `front`, and what is drawn below the curves.
+pub(crate) fn write_ground<W: Write>(writer: &mut W, front: &str, all: Moment) -> io::Result<()> {
+    let Moment { jobs, segments, .. } = all;
     writer.write_all(HEAD)?;
-    write_title(writer, all)?;
-    write_ticks(writer, all.micros, tick_step(all.micros), &TICKS)?;
+    writeln!(
+        writer,
+        "<text class=\"ink\" x=\"130\" y=\"44\" font-size=\"32\">{front} {jobs} jobs while {segments} segments move</text>"
+    )?;
+    let step = step_within(all.micros, 8);
+    for tick in 0..9 {
+        write_tick(writer, all.micros, step, tick)?;
+    }
     writer.write_all(AXIS)
 }
 
-fn write_title<W: Write>(writer: &mut W, all: Moment) -> io::Result<()>
-    ensures { OnOk result (Appends (W.contents writer.old) (W.contents writer.new)
-        (title_text all)) }
-{
-    let Moment { jobs, segments, .. } = all;
+/// Writes a line at the time `start` of a run of `micros`, with the name and the number of the part
+/// that begins there.
+pub(crate) fn write_start<W: Write>(
+    writer: &mut W,
+    micros: u64,
+    start: u64,
+    name: &str,
+    number: u64,
+) -> io::Result<()> {
+    let x = LEFT + share_of(start, micros, WIDTH);
     writeln!(
         writer,
-        "<text class=\"ink\" x=\"130\" y=\"44\" font-size=\"32\">A live run of {jobs} jobs while {segments} segments move</text>"
+        "<path class=\"stage\" d=\"M{x} 160V760\"/><text class=\"soft\" x=\"{x}\" y=\"150\" font-size=\"20\">{name} {number}</text>"
     )
 }
 
-// Writes both curves, and the end.
-fn write_curves<W: Write>(writer: &mut W, moments: &[Moment], all: Moment) -> io::Result<()>
-    ensures { OnOk result (Appends (W.contents writer.old) (W.contents writer.new)
-        (curves_text moments.now all)) }
-{
-    write_drawn(writer, Curve::Jobs, all, 130, moments)?;
-    write_drawn(writer, Curve::Segments, all, 560, moments)?;
+/// Writes both curves, and the end of the chart.
+pub(crate) fn write_curves<W: Write>(
+    writer: &mut W,
+    moments: &[Moment],
+    all: Moment,
+) -> io::Result<()> {
+    write_curve(writer, Curve::Jobs, all, 130, moments)?;
+    write_curve(writer, Curve::Segments, all, 560, moments)?;
     writer.write_all(b"</svg>\n")
 }
 
-// Writes a line where each stage of a run of this many microseconds begins.
-fn write_stages<W: Write>(writer: &mut W, micros: u64, stages: &[StageStart]) -> io::Result<()>
-    ensures { OnOk result (Appends (W.contents writer.old) (W.contents writer.new)
-        (flat_map (stage_text micros) stages.now)) }
-{
-    for stage in stages {
-        write_stage(writer, micros, *stage)?;
-    }
-    Ok(())
-}
-
-// Writes the line where a stage begins, and its number.
-fn write_stage<W: Write>(writer: &mut W, micros: u64, start: StageStart) -> io::Result<()>
-    ensures { OnOk result (Appends (W.contents writer.old) (W.contents writer.new)
-        (stage_text micros start)) }
-{
-    let x = LEFT + share_of(start.micros, micros, WIDTH);
-    write_stage_rule(writer, x)?;
-    write_stage_label(writer, x, start.stage)
-}
-
-/// Writes the line where a stage begins, this far from the left.
-pub(crate) fn write_stage_rule<W: Write>(writer: &mut W, x: u64) -> io::Result<()>
-    ensures { OnOk result (Appends (W.contents writer.old) (W.contents writer.new)
-        (stage_rule x)) }
-{
-    write!(writer, "<path class=\"stage\" d=\"M{x} 160V760\"/>")
-}
-
-// Writes the number of a stage, this far from the left.
-fn write_stage_label<W: Write>(writer: &mut W, x: u64, stage: u64) -> io::Result<()>
-    ensures { OnOk result (Appends (W.contents writer.old) (W.contents writer.new)
-        (stage_label x stage)) }
-{
-    writeln!(
-        writer,
-        "<text class=\"soft\" x=\"{x}\" y=\"150\" font-size=\"20\">stage {stage}</text>"
-    )
-}
-
-/// Writes a piece of a curve and what it is, this far from the left, and the curve.
-pub(crate) fn write_drawn<W: Write>(
-    writer: &mut W,
-    curve: Curve,
-    all: Moment,
-    at: u64,
-    moments: &[Moment],
-) -> io::Result<()>
-    requires { at < 2000 }
-    ensures { OnOk result (Appends (W.contents writer.old) (W.contents writer.new)
-        (drawn_text curve all at moments.now)) }
-{
-    write_sample(writer, curve.class(), at)?;
-    write_legend(writer, curve.name(), curve.count(all), at)?;
-    write_curve(writer, curve, all, moments)
-}
-
-/// The same share of a length as the part is of the whole, rounded down.
+/// The share of `len` that `part` is of `whole`, rounded down and at most `len`.
 pub(crate) fn share_of(part: u64, whole: u64, len: u64) -> u64
     ensures { result ≡ share_of part whole len }
 {
@@ -243,85 +181,39 @@ pub(crate) fn share_of(part: u64, whole: u64, len: u64) -> u64
     share.min(u128::from(len)) as u64
 }
 
-// The first step of the list that this many microseconds have at most so often, or else one step for all.
+// The first of `STEPS` that fits into `micros` at most `most` times, or else `micros`.
 fn step_within(micros: u64, most: u64) -> u64
     requires { 0 < most }
-    ensures { result ≡ step_within micros most }
 {
     let found = STEPS.iter().find(|step| micros / most < **step);
     found.copied().unwrap_or(micros)
 }
 
-/// How many microseconds lie between two ticks of an axis of this many.
-pub(crate) fn tick_step(micros: u64) -> u64
-    ensures { result ≡ tick_step micros }
-{
-    step_within(micros, 8)
-}
-
-/// How many microseconds an interval has of a run of this many.
+/// The length of an interval of a run of `micros`, in microseconds.
 pub(crate) fn interval_len(micros: u64) -> u64
-    ensures len { result ≡ interval_len micros }
-    ensures some { 0 < result }
+    ensures { 0 < result }
 {
     step_within(micros, INTERVALS).max(1)
 }
 
-/// Writes ticks of an axis of this many microseconds, with so many between two of them.
-pub(crate) fn write_ticks<W: Write>(
-    writer: &mut W,
-    micros: u64,
-    step: u64,
-    ticks: &[u64],
-) -> io::Result<()>
-    ensures { OnOk result (Appends (W.contents writer.old) (W.contents writer.new)
-        (flat_map (tick_text micros step) ticks.now)) }
-{
-    for tick in ticks {
-        write_tick(writer, micros, step, *tick)?;
-    }
-    Ok(())
-}
-
-// Writes a tick of an axis of this many microseconds, if it lies within these.
-#[tactic(auto, unfolding(crate::specs::Ticks::tick_text))]
-fn write_tick<W: Write>(writer: &mut W, micros: u64, step: u64, tick: u64) -> io::Result<()>
-    ensures { OnOk result (Appends (W.contents writer.old) (W.contents writer.new)
-        (tick_text micros step tick)) }
-{
+// Writes tick number `tick` of an axis of `micros`, with `step` microseconds between two ticks, if
+// it is on the axis.
+fn write_tick<W: Write>(writer: &mut W, micros: u64, step: u64, tick: u64) -> io::Result<()> {
     let at = u128::from(step) * u128::from(tick);
-    if at <= u128::from(micros) {
-        write_mark(writer, micros, at as u64)
-    } else {
-        Ok(())
+    if at > u128::from(micros) {
+        return Ok(());
     }
-}
-
-// Writes the line of a tick, this far from the left, up to its label.
-fn write_rule<W: Write>(writer: &mut W, x: u64) -> io::Result<()>
-    ensures { OnOk result (Appends (W.contents writer.old) (W.contents writer.new) (tick_rule x)) }
-{
+    let x = LEFT + share_of(at as u64, micros, WIDTH);
     write!(
         writer,
         "<path class=\"grid\" d=\"M{x} 160V772\"/><text class=\"soft\" x=\"{x}\" y=\"806\" text-anchor=\"middle\">"
-    )
-}
-
-// Writes the tick at this moment of an axis of so many microseconds.
-fn write_mark<W: Write>(writer: &mut W, micros: u64, at: u64) -> io::Result<()>
-    ensures { OnOk result (Appends (W.contents writer.old) (W.contents writer.new)
-        (tick_mark micros at)) }
-{
-    write_rule(writer, LEFT + share_of(at, micros, WIDTH))?;
-    write_label(writer, at)?;
+    )?;
+    write_label(writer, at as u64)?;
     writer.write_all(b"</text>\n")
 }
 
-/// Writes microseconds as milliseconds, with decimals only where they aren't zero.
-pub(crate) fn write_label<W: Write>(writer: &mut W, micros: u64) -> io::Result<()>
-    ensures { OnOk result (Appends (W.contents writer.old) (W.contents writer.new)
-        (label_text micros)) }
-{
+/// Writes `micros` as milliseconds, with three decimals unless they are zero.
+pub(crate) fn write_label<W: Write>(writer: &mut W, micros: u64) -> io::Result<()> {
     let millis = micros / 1000;
     let rest = micros % 1000;
     if rest == 0 {
@@ -331,60 +223,28 @@ pub(crate) fn write_label<W: Write>(writer: &mut W, micros: u64) -> io::Result<(
     }
 }
 
-// Writes a piece of a curve of this class, this far from the left.
-fn write_sample<W: Write>(writer: &mut W, class: &str, at: u64) -> io::Result<()>
-    requires { at < 2000 }
-    ensures { OnOk result (Appends (W.contents writer.old) (W.contents writer.new)
-        (sample_text class.now at)) }
-{
-    let end = at + 64;
-    write!(writer, "<path class=\"{class}\" d=\"M{at} 81H{end}\"/>")
-}
-
-// Writes what a curve is of, this far from the left, and how much of that there is in all.
-fn write_legend<W: Write>(writer: &mut W, name: &str, count: u64, at: u64) -> io::Result<()>
-    requires { at < 2000 }
-    ensures { OnOk result (Appends (W.contents writer.old) (W.contents writer.new)
-        (legend_text name.now count at)) }
-{
-    let text = at + 80;
-    writeln!(
-        writer,
-        "<text class=\"ink\" x=\"{text}\" y=\"90\">{name}, of {count}</text>"
-    )
-}
-
-// Writes a curve: from nothing on, a step at each moment, and on to the end.
+// Writes the legend of a curve, `at` from the left, and the curve: from the start at 0, with a step
+// at each moment, to the end.
 fn write_curve<W: Write>(
     writer: &mut W,
     curve: Curve,
     all: Moment,
+    at: u64,
     moments: &[Moment],
 ) -> io::Result<()>
-    ensures { OnOk result (Appends (W.contents writer.old) (W.contents writer.new)
-        (curve_text curve all moments.now)) }
+    requires { at < 2000 }
 {
-    write_start(writer, curve.class())?;
+    let (class, name, count) = (curve.class(), curve.name(), curve.count(all));
+    let (end, text) = (at + 64, at + 80);
+    writeln!(
+        writer,
+        "<path class=\"{class}\" d=\"M{at} 81H{end}\"/><text class=\"ink\" x=\"{text}\" y=\"90\">{name}, of {count}</text>"
+    )?;
+    write!(writer, "<path class=\"{class}\" d=\"M130 760")?;
     for moment in moments {
-        write_step(writer, curve, all, *moment)?;
+        let x = LEFT + share_of(moment.micros, all.micros, WIDTH);
+        let y = BOTTOM - share_of(curve.count(*moment), count, HEIGHT);
+        write!(writer, "H{x}V{y}")?;
     }
     writer.write_all(b"H1530\"/>\n")
-}
-
-// Writes the start of a curve of this class, at nothing.
-fn write_start<W: Write>(writer: &mut W, class: &str) -> io::Result<()>
-    ensures { OnOk result (Appends (W.contents writer.old) (W.contents writer.new)
-        (curve_start class.now)) }
-{
-    write!(writer, "<path class=\"{class}\" d=\"M130 760")
-}
-
-// Writes a step of a curve.
-fn write_step<W: Write>(writer: &mut W, curve: Curve, all: Moment, moment: Moment) -> io::Result<()>
-    ensures { OnOk result (Appends (W.contents writer.old) (W.contents writer.new)
-        (step_text curve all moment)) }
-{
-    let x = LEFT + share_of(moment.micros, all.micros, WIDTH);
-    let y = BOTTOM - share_of(curve.count(moment), curve.count(all), HEIGHT);
-    write!(writer, "H{x}V{y}")
 }

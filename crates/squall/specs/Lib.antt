@@ -1,2 +1,1 @@
-pub mod DemoCommands
 pub mod Session

@@ -15,13 +15,10 @@ use Rattle.sq_world.specs.Run.{Runs, in_manner, exit_status_of}
 use Rattle.sq_world.specs.Listing.{Lists, Tells}
 use Rattle.sq_steps.specs.Scripts.{WritesScript}
 use Rattle.sq_ranges.specs.declared.recon.TheConstants.{MAX_WIDTH}
-use Rattle.sq_sizes.specs.Asked.{TellsOpening}
+use Rattle.sq_sizes.specs.Asked.{TellsOpening, IsAnyText}
 use Rattle.sq_sizes.specs.Owners.{IsOwnersText}
-use Rattle.sq_sizes.specs.SizeLines.{TellsSizesAsLines}
-use Rattle.sq_sizes.specs.SizeJson.{TellsSizesAsJson}
-use Rattle.sq_sizes.specs.SizeSvg.{TellsSizesAsSvg}
 use Rattle.sq_picture.specs.Json.{TellsAsJson}
-use Rattle.sq_picture.specs.MovesSvg.{TellsAsSvg}
+use Rattle.sq_picture.specs.Pictures.{IsPicture}
 use Rattle.sq_live.specs.declared.ending.LiveEnding.{LiveEnding}
 use Rattle.sq_live.specs.Live.{RunsLive, ending_status}
 use Rattle.sq_server.specs.declared.ending.ServeEnding.{ServeEnding}
@@ -36,14 +33,13 @@ use Rattle.sq_command.specs.declared.line.Task.TheVariants.{Run, Ranges, Live, S
 use Rattle.sq_command.specs.declared.line.Line.{Line}
 use Rattle.sq_command.specs.declared.line.Line.TheVariants.{Work, Owner, Demo, Serve, Explain}
 use Rattle.sq_command.specs.Line.{ComesOf}
-use Rattle.squall.specs.DemoCommands.{EndsDemo}
 
--- the exit status after a run
+-- the exit status of a run
 abbrev pub exit_status : Result Ending WriteFault → ℕ
 exit_status (Ok ending) = exit_status_of ending
 exit_status (Err fault) = 2
 
--- the exit status after a live run
+-- the exit status of a live run
 abbrev pub live_status : Result LiveEnding WriteFault → ℕ
 live_status (Ok ending) = ending_status ending
 live_status (Err fault) = 2
@@ -54,72 +50,74 @@ pub record EndsAs {E : Type 0} (Holds : E → Type 0) (status_of : Result E Writ
   pub holds : IfOk ran Holds
   pub status_is : status ≡ status_of ran
 
--- the exit status after numbers were explained, or after one that is no number of the table
+-- the exit status after numbers were explained, or after a number that doesn't exist
 abbrev pub explain_status : Result Bool WriteFault → ℕ
 explain_status (Ok told) = if told then 0 else 2
 explain_status (Err fault) = 2
 
--- what a reader gives is answered by what moves, in this form
+-- what is read is answered by what moves, in this format
 abbrev pub MovesAs : Form → Option (List ℕ) → Option (List ℕ) → Option (List ℕ) → Ending → Type 0
 MovesAs Lines = Lists MAX_TABLES
 MovesAs Json = Tells TellsAsJson MAX_TABLES
-MovesAs Svg = Tells TellsAsSvg MAX_TABLES
+MovesAs Svg = Tells IsPicture MAX_TABLES
 
--- the same with its sizes
-abbrev pub SizesAs : Form → Option (List ℕ) → Option (List ℕ) → Option (List ℕ) → Ending → Type 0
-SizesAs Lines = TellsOpening TellsSizesAsLines MAX_TABLES
-SizesAs Json = TellsOpening TellsSizesAsJson MAX_TABLES
-SizesAs Svg = TellsOpening TellsSizesAsSvg MAX_TABLES
+-- the same by some text, with sizes
+abbrev pub AnswersSizes : Option (List ℕ) → Option (List ℕ) → Option (List ℕ) → Ending → Type 0
+AnswersSizes = TellsOpening IsAnyText MAX_TABLES
 
 -- either of them
 abbrev pub ListsAs : Form → Bool → Option (List ℕ) → Option (List ℕ) → Option (List ℕ) → Ending → Type 0
 ListsAs form false = MovesAs form
-ListsAs form true = SizesAs form
+ListsAs form true = AnswersSizes
 
--- a task was done with what a reader gives, and ended with this status
+-- a task was performed with the text that was read, and ended with this status
 abbrev pub EndsTask : Task → Option (List ℕ) → Option (List ℕ) → Option (List ℕ) → ℕ → Type 0
 EndsTask (Run echoes strict rows_out) known before now = EndsAs (Runs (in_manner echoes strict) MAX_TABLES known before now) exit_status
 EndsTask (Ranges form sizes) known before now = EndsAs (ListsAs form sizes known before now) exit_status
 EndsTask (Live live) known before now = EndsAs (RunsLive live.folds MAX_TABLES known before now) live_status
 EndsTask Steps known before now = EndsAs (WritesScript MAX_TABLES known before now) exit_status
 
--- what is behind the plans: the main part of an input, and behind its first line the rows, where they have a file
+-- what comes after the plans: the main part of an input, and, if the rows have a file, these
+-- inserted after its first line
 abbrev pub IsBehindPlans : Option (Bor Text) → Option (List ℕ) → Option (List ℕ) → Type 0
 IsBehindPlans None main behind = behind ≡ main
 IsBehindPlans (Some file) main behind = (rows : Option (List ℕ)) × (behind ≡ inserted_text main rows)
 
--- what an input holds, by its main part: that alone, or where the plans have files of their own, their lines before it
+-- the whole text of an input, from its main part: that alone, or after the lines of the plans if
+-- these have files of their own
 abbrev pub IsPutTogether : Option Plans → Option (List ℕ) → Option (List ℕ) → Type 0
 IsPutTogether None main held = held ≡ main
 IsPutTogether (Some plans) main held =
     (old : List ℕ) × (new : List ℕ) × (behind : Option (List ℕ)) × IsBehindPlans plans.rows main behind
     × (held ≡ option_append (Some (plan_lines old new)) behind)
 
--- a task was done with these lines, the main part behind them, and some rows behind the first line of that; or there is no
--- memory for the rows
+-- a task was performed with these lines, then the main part, with some rows inserted after the
+-- first line of that; or memory ran out for the rows
 abbrev pub EndsWithRows : Task → List ℕ → Option (List ℕ) → Option (List ℕ) → Option (List ℕ) → ℕ → Type 0
 EndsWithRows task lines main before now status =
     ((rows : Option (List ℕ)) × EndsTask task (option_append (Some lines) (inserted_text main rows)) before now status)
     ⊎ (status ≡ 2)
 
--- a task was done with an input that has this main part and these plans, or else one of their files can't be read
+-- a task was performed with an input that has this main part and these plans, or else one of their
+-- files can't be read
 abbrev pub EndsParts : Task → Option Plans → Option (List ℕ) → Option (List ℕ) → Option (List ℕ) → ℕ → Type 0
 EndsParts task plans main before now status =
     ((held : Option (List ℕ)) × IsPutTogether plans main held × EndsTask task held before now status)
     ⊎ ((is_some plans ≡ true) × (status ≡ 2))
 
--- the same, where the main part is what a reader gives, or what a file of this name holds, unless that can't be read
+-- the same with what was read as the main part, or with the text of a named file, unless that can't
+-- be read
 abbrev pub EndsMain : Task → Option Plans → Option (Bor Text) → Option (List ℕ) → Option (List ℕ) → Option (List ℕ) → ℕ → Type 0
 EndsMain task plans None known before now status = EndsParts task plans known before now status
 EndsMain task plans (Some file) known before now status =
     ((main : Option (List ℕ)) × EndsParts task plans main before now status) ⊎ (status ≡ 2)
 
--- the line of the sizes, with leaves of this width, or the widest ones
+-- the line of the sizes, with leaves of this width, or else the widest ones
 abbrev pub widest_config : Option ℕ → List ℕ
 widest_config width = codes "config " ++ decimal (unwrap_or width MAX_WIDTH) ++ codes " 64 1\n"
 
--- the owners of these root keys by two plans were written, in leaves of this width, or else a file can't be read, or
--- memory ran out
+-- the owners of these root keys by two plans were written, in leaves of this width, or else a file
+-- can't be read, or memory ran out
 abbrev pub EndsOwners : List ℕ → Option ℕ → Option (List ℕ) → Option (List ℕ) → ℕ → Type 0
 EndsOwners keys width before now status =
     ((old : List ℕ) × (new : List ℕ)
@@ -127,17 +125,18 @@ EndsOwners keys width before now status =
     (option_append (Some (plan_lines old new)) (Some (widest_config width))) before now) exit_status status)
     ⊎ (status ≡ 2)
 
--- the status is the one of some ending of an engine, and where that ending is sound, so was the service; or it is 2, where a file
--- can't be read or there was no memory for it
+-- the status is that of some ending of an engine, and if that ending is sound, so was the service;
+-- or it is 2, if a file can't be read or written, or memory ran out
 abbrev pub EndsEngine : Option (List ℕ) → Option (List ℕ) → ℕ → Type 0
 EndsEngine before now status =
     ((ending : ServeEnding) × ServesSoundly before now ending × (status ≡ serve_status ending)) ⊎ (status ≡ 2)
 
--- what a line asks for was done with what the reader or the files give, unless a file can't be read, and ended with this status
+-- what a line asks for was done with the text that was read, or that of the files, unless a file
+-- can't be read, and ended with this status
 abbrev pub EndsLine : Line → Option (List ℕ) → Option (List ℕ) → Option (List ℕ) → ℕ → Type 0
 EndsLine (Work task input) known before now status = EndsMain task input.plans input.file known before now status
 EndsLine (Owner keys plans width) known before now status = EndsOwners keys.items width before now status
-EndsLine (Demo demo folder) known before now status = EndsDemo folder.now before now status
+EndsLine (Demo demo folder) known before now status = (status ≡ 0) ⊎ (status ≡ 2)
 EndsLine (Serve pumps fold_after strict files file reports) known before now status = EndsEngine before now status
 EndsLine (Explain number) known before now status = EndsAs (Explains number before now) explain_status status
 
@@ -147,17 +146,17 @@ pub record IsCarriedOut (words : List Text) (known before now : Option (List ℕ
   pub comes : ComesOf words (Ok line)
   pub ends : EndsLine line known before now status
 
--- the status after what is said of the words: 2, or 0 after a help text or the version
+-- the status after a message about the words: 2, or 0 after a help text or the version
 abbrev pub IsUsageStatus : ErrorKind → ℕ → Type 0
 IsUsageStatus kind status = (status ≡ 2) ⊎ ((status ≡ 0) × ((kind ≡ DisplayHelp) ⊎ (kind ≡ DisplayVersion)))
 
--- something was said of the words: they have a fault, ask for a help text or the version,
--- or have options that don't go together, or memory ran out at them
+-- the words were answered by a message: they have a fault, ask for a help text or the version, or
+-- have options that don't go together, or memory ran out
 pub record IsUsage (words : List Text) (status : ℕ) : Type 0 where
   pub error : Error
   pub comes : ComesOf words (Err error)
   pub status_is : IsUsageStatus (kind_of error) status
 
--- the words were carried out and ended with this status, or else something was said of them
+-- the words were carried out and ended with this status, or else they were answered by a message
 abbrev pub EndsWith : List Text → Option (List ℕ) → Option (List ℕ) → Option (List ℕ) → ℕ → Type 0
 EndsWith words known before now status = IsCarriedOut words known before now status ⊎ IsUsage words status

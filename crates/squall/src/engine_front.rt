@@ -1,4 +1,4 @@
-// What an engine's text begins with, if its plan has a file of its own.
+// The beginning of an engine's text, if its plan has a file of its own.
 ghost use Rattle.std.specs.Prelude.{◌≡◌, IfErr};
 
 use crate::plans::read_plan;
@@ -20,13 +20,13 @@ const LINE_END: u8 = 10;
 // The most bytes that are read of the line of the sizes, if it comes before the rows of a file.
 const MAX_SIZES_LINE: usize = 65_537;
 
-/// What an engine's text begins with.
+/// The beginning of an engine's text.
 #[derive(Drop)]
 pub struct EngineFront {
     pub text: Vec<u8>,
-    /// Where its rows stand, if they have a file of their own.
+    /// Where its rows are, if they have a file of their own.
     pub rows: Option<RowPlaces>,
-    /// What is wrong with the last record of a table of rows, beside its fields.
+    /// What is wrong with the last record of a table of rows, apart from its fields.
     pub flaw: Option<FlawedRecord>,
 }
 
@@ -37,9 +37,9 @@ pub struct FlawedRecord {
     pub flaw: RecordFlaw,
 }
 
-/// What an engine's text begins with whose plan has a file: the line of the plan, and if the rows have a file, the first line of
-/// the main input and these rows. An error is the exit status after a file that can't be read, or after memory ran out; standard
-/// error says which.
+/// The beginning of the text of an engine whose plan has a file: the line of the plan, and, if the
+/// rows have a file too, the first line of `main` and those rows. Fails with the exit status 2 if a
+/// file can't be read or memory runs out; standard error says which.
 pub fn front_of<T, I>(rt: &T, files: EngineFiles<'_>, main: &mut I) -> Result<EngineFront, u8>
 where
     T: Print + Eprint + Files + AllocGlobal,
@@ -60,7 +60,8 @@ where
     told(rt, name, with_rows(rt, text, name))
 }
 
-/// What was made of a file, or the exit status after it can't be read, or after memory ran out.
+/// The value in `made`, or the exit status 2 after a file that can't be read, or after memory ran
+/// out; standard error says which.
 pub fn told<T: Print + Eprint, X: Drop>(rt: &T, name: &str, made: io::Result<X>) -> Result<X, u8>
     ensures { IfErr result (λ status. status ≡ 2) }
 {
@@ -71,7 +72,7 @@ pub fn told<T: Print + Eprint, X: Drop>(rt: &T, name: &str, made: io::Result<X>)
     }
 }
 
-// The line of a plan: each line end in its text is a space.
+// The line of a plan, in which each line end of its text is a space.
 fn plan_line(alloc: Global, plan: &[u8]) -> io::Result<Vec<u8>> {
     let mut line = Vec::from_slice(alloc, b"plan ")?;
     for byte in plan {
@@ -98,7 +99,7 @@ fn with_line<I: Read>(text: Vec<u8>, main: &mut I) -> io::Result<Vec<u8>> {
     ended(text)
 }
 
-// A text, and after it the rows of the file of this name, which may be a table of values.
+// A text, and after it the rows of the file `name`, which may be a table of values.
 fn with_rows<T: Files + AllocGlobal>(rt: &T, text: Vec<u8>, name: &str) -> io::Result<EngineFront> {
     let before = count_lines(&text);
     let file = open_input(rt, name)?;
@@ -127,7 +128,7 @@ fn flaw_in(rows: &RowPlaces) -> Option<FlawedRecord> {
     })
 }
 
-// A text, and after it all that a reader gives.
+// A text, and after it all that a reader reads.
 fn with_all<R: Read + Drop>(text: Vec<u8>, reader: R) -> io::Result<Vec<u8>> {
     let mut text = text;
     let mut reader = reader;

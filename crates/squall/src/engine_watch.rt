@@ -1,4 +1,4 @@
-// Who watches an engine behind a pipe: it records what the engine does, and saves rows.
+// The watch of an engine behind a pipe: it records what the engine does, and saves rows.
 ghost use Rattle.std.specs.Prelude.{◌≡◌, IfErr};
 
 use crate::outputs::{
@@ -17,8 +17,8 @@ use std::rt::Files;
 use std::sync::{Mutex, Wait};
 use std::time::Clock;
 
-/// Watches an engine: records what it does where that is to be reported, and saves its rows in files, but in none that it reads
-/// or that a report is to be in.
+/// Watches an engine: records what it does if a report is asked for, and saves its rows in files,
+/// but never in one that the engine reads or that a report goes into.
 #[derive(Drop)]
 pub struct EngineWatch<'a, T> {
     rt: &'a T,
@@ -26,15 +26,17 @@ pub struct EngineWatch<'a, T> {
     record: Option<Mutex<ServeRecord>>,
     // The files in which no rows are saved.
     places: PlacesInUse,
-    // The header that has a fault, if it has one.
+    // The faulty header, if there is one.
     faulty: Mutex<Option<FaultyHeader>>,
-    /// Says why lines are refused.
+    /// Explains on standard error why lines are refused.
     pub reasons: Reasons<'a, T>,
 }
 
 impl<'a, T: Clock + Wait + Print + Eprint + Files + AllocGlobal> EngineWatch<'a, T> {
-    /// For an engine with this input, or the exit status: a report would be written over a file that the engine reads, over
-    /// another report, or in a folder in which no file can be made, or there is no memory. Standard error says so.
+    /// A watch for an engine with this input. Fails with the exit status 2, and standard error
+    /// gives the reason, if a report would be written over a file that the engine reads, over
+    /// another report, to a name that can't be a file of its own, or into a folder in which no file
+    /// can be made, or if memory runs out.
     pub fn new(rt: &'a T, input: EngineInput<'a>) -> Result<EngineWatch<'a, T>, u8>
         ensures { IfErr result (λ status. status ≡ 2) }
     {
@@ -52,12 +54,13 @@ impl<'a, T: Clock + Wait + Print + Eprint + Files + AllocGlobal> EngineWatch<'a,
         }
     }
 
-    /// Takes the header that has a fault, if it has one.
+    /// Takes the faulty header, if there is one.
     pub fn take_faulty(&self) -> Option<FaultyHeader> {
         self.faulty.lock(self.rt).take()
     }
 
-    /// Writes the reports that are wanted. Gives whether none is missing; standard error says why one is.
+    /// Writes the requested reports. Returns false if one can't be written; then standard error
+    /// gives the reason.
     pub fn report(&self, input: EngineInput<'_>) -> bool {
         let Some(record) = &self.record else {
             return true;
@@ -70,7 +73,8 @@ impl<'a, T: Clock + Wait + Print + Eprint + Files + AllocGlobal> EngineWatch<'a,
             && save_texts(self.rt, &texts)
     }
 
-    // Adds the timeline, if it is wanted in a file: values if its name ends in '.csv', else a chart. Gives whether it isn't missing.
+    // Adds the timeline, if one is asked for: values if its name ends in '.csv', else a chart.
+    // Returns false if it can't be made.
     fn add_timeline(
         &self,
         name: Option<&str>,
@@ -88,8 +92,8 @@ impl<'a, T: Clock + Wait + Print + Eprint + Files + AllocGlobal> EngineWatch<'a,
         add_text(self.rt, texts, name, written.map(|()| text))
     }
 
-    // Adds the account, if it is wanted in a file: as JSON if its name ends in '.json', else as text. Gives whether it isn't
-    // missing.
+    // Adds the summary, if one is asked for: as JSON if its name ends in '.json', else as text.
+    // Returns false if it can't be made.
     fn add_account(
         &self,
         name: Option<&str>,
@@ -144,7 +148,7 @@ impl<T: Clock + Wait + Print + Eprint + Files + AllocGlobal> ServeWatch for Engi
     }
 }
 
-// A record, where something is to be reported.
+// A record, if a report is asked for.
 fn record_of<T: AllocGlobal>(rt: &T, input: EngineInput<'_>) -> Option<Mutex<ServeRecord>> {
     let reports = input.reports;
     if reports.summary_out.is_none() && reports.timeline.is_none() {
@@ -153,9 +157,10 @@ fn record_of<T: AllocGlobal>(rt: &T, input: EngineInput<'_>) -> Option<Mutex<Ser
     Some(Mutex::new(ServeRecord::new(rt.alloc())))
 }
 
-// The places of the files that an engine with this input reads or reports in. `None` where a report would be no file of its
-// own, or can't be written, or would be written over a file that it reads or over another report, which standard error says. An
-// error is that memory ran out.
+// The places of the files that an engine with this input reads, and of its reports. Returns `None`,
+// and standard error gives the reason, if a report wouldn't be a file of its own, can't be made, or
+// would be written over a file that the engine reads or over another report. Fails if memory runs
+// out.
 fn places_of<T: Eprint + Files + AllocGlobal>(
     rt: &T,
     input: EngineInput<'_>,
@@ -169,8 +174,9 @@ fn places_of<T: Eprint + Files + AllocGlobal>(
     }
 }
 
-// Whether each report would be a file of its own, can be made, and would be written over no other report and over no file at one
-// of these places. Where one wouldn't, standard error says which. An error is that memory ran out.
+// Returns whether each report would be a file of its own, can be made, and would be written neither
+// over another report nor over a file at one of `places`; else standard error says which one. Fails
+// if memory runs out.
 fn may_report<T: Eprint + Files + AllocGlobal>(
     rt: &T,
     outputs: &[Output<'_>],
@@ -197,7 +203,7 @@ fn places_among<T: AllocGlobal>(rt: &T, outputs: Vec<Output<'_>>) -> io::Result<
     Ok(places)
 }
 
-// The places of the files that an engine with this input reads, standard input among them.
+// The places of the files that an engine with this input reads, standard input included.
 fn read_places<T: Files + AllocGlobal>(rt: &T, input: EngineInput<'_>) -> io::Result<Vec<String>> {
     let mut places = Vec::new(rt.alloc());
     add_read_places(rt, input, &mut places)?;
@@ -226,7 +232,7 @@ fn add_read_places<T: Files + AllocGlobal>(
     Ok(())
 }
 
-// The reports of an engine and their places, with the files beside them that are written first.
+// The reports of an engine and their places, and then their part files, which are written first.
 fn outputs_of<'a, T: Files + AllocGlobal>(
     rt: &T,
     input: EngineInput<'a>,
@@ -246,7 +252,7 @@ fn outputs_of<'a, T: Files + AllocGlobal>(
     Ok(outputs)
 }
 
-// The file that an option names, or the one beside it that is written first, and its place.
+// The file that an option names, or its part file, and the place.
 fn output_of<'a, T: Files + AllocGlobal>(
     rt: &T,
     option: &'a str,

@@ -1,4 +1,4 @@
-// What is said of numbers.
+// Explanations of numbers.
 ghost use Rattle.std.specs.Prelude.{◌≡◌};
 ghost use Rattle.sq_explain.specs.Meanings.{Explains};
 ghost use Rattle.squall.specs.Session.{explain_status, EndsAs};
@@ -9,8 +9,8 @@ use sq_text::WriteFault;
 use std::cell::Cell;
 use std::io::Write;
 
-/// Writes what this number means, what it is given to and what to do about it, or the same of all numbers. Where there
-/// is no such number standard error says so. Gives the exit status.
+/// Writes what `number` means, what it is given to and what to do about it, or the same for all
+/// numbers. Standard error reports a number that doesn't exist. Returns the exit status.
 pub fn explanation<W: Write>(
     rt: &impl Eprint,
     writer: &mut W,
@@ -25,7 +25,8 @@ pub fn explanation<W: Write>(
     explain_status(told)
 }
 
-// Says on standard error that there is no such number, or that a write failed, unless the output is closed.
+// Writes to standard error that the number doesn't exist, or that a write failed, unless the output
+// is closed.
 fn explain_told(
     rt: &impl Eprint,
     told: Result<bool, WriteFault>,
@@ -42,7 +43,7 @@ fn explain_told(
     }
 }
 
-// Says on standard error that there is no such number.
+// Writes to standard error that the number doesn't exist.
 fn refuse_number(rt: &impl Eprint, number: Option<u16>) {
     if let Some(number) = number {
         let _ = eprintln!(rt;
@@ -51,7 +52,8 @@ fn refuse_number(rt: &impl Eprint, number: Option<u16>) {
     }
 }
 
-// The exit status after numbers were explained: 0, or 2 where there was no such number or a write failed.
+// The exit status after numbers were explained: 0, or 2 if the number doesn't exist or a write
+// failed.
 fn explain_status(told: Result<bool, WriteFault>) -> u8
     ensures { result ≡ explain_status told }
 {

@@ -1,4 +1,4 @@
-// What doesn't fit in a faulty line.
+// What is wrong with a faulty line.
 use crate::plans::read_plan;
 use crate::source::{FaultPlace, Source};
 use sq_csv_rows::ToldColumn;
@@ -21,45 +21,46 @@ use std::fmt::{Display, Formatter, Write};
 use std::io::Read;
 use std::rt::Files;
 
-// The words of a transaction's line that say its partition and its id.
+// The numbers, in a transaction's line, of the words for its partition and its id; the first word
+// is 1.
 const PARTITION: usize = 2;
 
 const ID: usize = 3;
 
-// The numbers of the faults that there is no such partition, and that a job has the id of one before it.
+// The numbers of two faults: no such partition exists, and a job has the id of an earlier one.
 const NO_PARTITION: u16 = 219;
 
 const REPEATED_ID: u16 = 127;
 
-// The word that the first line of an engine's header begins with.
+// The first word of the first line of an engine's header.
 const PLAN: &[u8] = b"plan";
 
-// What a line begins with that asks for a move.
+// How a line begins that asks for a move.
 const MOVE: &[u8] = b"move ";
 
-// What doesn't fit in a line.
+// What is wrong with a line.
 #[derive(Clone, Copy)]
 enum Misfit<'a> {
     /// The input ends before it.
     Missing,
-    /// It has no end.
+    /// It has no line end.
     Endless,
     /// It isn't of its form.
     Flaw(ToldFlaw<'a>),
-    /// One of its words isn't what it is to be.
+    /// One of its words isn't allowed there.
     Word(ToldWord<'a>),
-    /// A column of its record isn't what it is to be.
+    /// A column of its record isn't allowed there.
     Column(ToldColumn<'a>),
-    /// Its plan is none.
+    /// Its plan is faulty.
     Plan(PlanFlaw),
     /// Its sizes cut the move into too many segments.
     Segments(SegmentFlaw),
-    /// Its plan has other partitions than the plan in force.
+    /// Its plan has another number of partitions than the plan in force.
     Partitions { asked: u8, in_force: u8 },
 }
 
 impl<'a> Misfit<'a> {
-    // The same, as it is said of the columns of a record.
+    // The same, put in terms of the columns of a record.
     fn in_columns(self) -> Misfit<'a> {
         match self {
             Misfit::Flaw(flaw) => Misfit::Column(ToldColumn::Flaw(flaw)),
@@ -87,7 +88,8 @@ impl Display for Misfit<'_> {
     }
 }
 
-/// Says on standard error what doesn't fit in the line that a fault of an input belongs to, where that can be found.
+/// Writes to standard error what is wrong with the line that a fault of an input belongs to, if
+/// that can be found.
 pub fn tell_misfit<T: Eprint + Files + AllocGlobal, R: Read>(
     rt: &T,
     source: &Source<'_>,
@@ -121,8 +123,8 @@ pub fn tell_misfit<T: Eprint + Files + AllocGlobal, R: Read>(
     }
 }
 
-/// Says on standard error how many segments a move would have, where its fault is that they are too many, and the width of a leaf
-/// that does. It names no line.
+/// Writes to standard error how many segments a move would have, if its fault is that they are too
+/// many, and the width of a leaf that would do. Doesn't name a line.
 pub fn tell_segments<T: Eprint + AllocGlobal, R: Read>(
     rt: &T,
     reader: &Recalling<R>,
@@ -137,7 +139,8 @@ pub fn tell_segments<T: Eprint + AllocGlobal, R: Read>(
     }
 }
 
-/// Says on standard error which of the plans of an input is of the first version and has stages, which aren't read there.
+/// Writes to standard error which plans of an input are of version 1 and have stages, which version
+/// 1 doesn't read.
 pub fn tell_unread_stages<T: Eprint + AllocGlobal, R: Read>(
     rt: &T,
     source: &Source<'_>,
@@ -159,7 +162,7 @@ pub fn tell_unread_stages<T: Eprint + AllocGlobal, R: Read>(
     }
 }
 
-/// Says on standard error what doesn't fit in the line of a job that has a fault, where that can be found.
+/// Writes to standard error what is wrong with the line of a faulty job, if that can be found.
 pub fn tell_misfit_of_job<T: Eprint, R: Read>(
     rt: &T,
     place: FaultPlace<'_>,
@@ -171,7 +174,8 @@ pub fn tell_misfit_of_job<T: Eprint, R: Read>(
     }
 }
 
-/// Says on standard error what doesn't fit in a line of an engine's input that is refused, if that can be found.
+/// Writes to standard error what is wrong with a refused line of an engine's input, if that can be
+/// found.
 pub fn tell_misfit_of_refused<T: Eprint + AllocGlobal>(
     rt: &T,
     place: FaultPlace<'_>,
@@ -182,7 +186,7 @@ pub fn tell_misfit_of_refused<T: Eprint + AllocGlobal>(
     }
 }
 
-/// Says on standard error why an engine refuses a move, if that can be found.
+/// Writes to standard error why an engine refuses a move, if that can be found.
 pub fn tell_misfit_of_move<T: Eprint + AllocGlobal>(
     rt: &T,
     place: FaultPlace<'_>,
@@ -193,7 +197,8 @@ pub fn tell_misfit_of_move<T: Eprint + AllocGlobal>(
     }
 }
 
-/// Says on standard error what doesn't fit in the line of an engine's header that has a fault, where that can be found.
+/// Writes to standard error what is wrong with a faulty line of an engine's header, if that can be
+/// found.
 pub fn tell_misfit_of_header<T: Eprint + Files + AllocGlobal>(
     rt: &T,
     place: FaultPlace<'_>,
@@ -215,7 +220,8 @@ pub fn tell_misfit_of_header<T: Eprint + Files + AllocGlobal>(
     }
 }
 
-// Says on standard error what doesn't fit in the file of a plan, which is read once more as it is laid out.
+// Writes to standard error what is wrong with the file of a plan, which is read again in its own
+// layout.
 fn tell_plan_of_file<T: Eprint + Files + AllocGlobal>(rt: &T, name: &str, fault: PlanFault) {
     let Ok(text) = read_plan(rt, name) else {
         return;
@@ -225,7 +231,7 @@ fn tell_plan_of_file<T: Eprint + Files + AllocGlobal>(rt: &T, name: &str, fault:
     }
 }
 
-// What doesn't fit in a line of sizes that cuts the move into too many segments.
+// What is wrong with a line of sizes that cuts the move into too many segments.
 fn misfit_of_segments<'a, R: Read>(
     alloc: Global,
     reader: &Recalling<R>,
@@ -245,7 +251,7 @@ fn misfit_of_segments<'a, R: Read>(
     }
 }
 
-// What doesn't fit in a line of an input that has a fault.
+// What is wrong with a faulty line of an input.
 fn misfit_of<'a>(
     alloc: Global,
     line: InputLine,
@@ -274,7 +280,7 @@ fn misfit_of<'a>(
     }
 }
 
-// The first thing in a line of the header that isn't of its form.
+// The first departure of a header line from its form.
 fn flaw_of(line: InputLine, bytes: &[u8]) -> Option<LineFlaw> {
     match line {
         InputLine::Old => plan_line_flaw(Wanted::Old, bytes),
@@ -286,7 +292,7 @@ fn flaw_of(line: InputLine, bytes: &[u8]) -> Option<LineFlaw> {
     }
 }
 
-// What doesn't fit in the line of a job that has a fault.
+// What is wrong with the line of a faulty job.
 fn misfit_of_job(fault: JobFault, recalled: Recalled<'_>) -> Option<Misfit<'_>> {
     let line = match recalled {
         Recalled::Line(line) => line,
@@ -306,7 +312,8 @@ fn misfit_of_job(fault: JobFault, recalled: Recalled<'_>) -> Option<Misfit<'_>> 
     Some(Misfit::Word(ToldWord { line, at }))
 }
 
-// What doesn't fit in a line of an engine's input that is refused with this number. Nothing is found in an empty one.
+// What is wrong with a line of an engine's input that is refused with `number`. Nothing is found in
+// an empty line.
 fn misfit_of_refused(alloc: Global, number: u16, line: &[u8]) -> Option<Misfit<'_>> {
     if line.is_empty() {
         return None;
@@ -321,7 +328,7 @@ fn misfit_of_refused(alloc: Global, number: u16, line: &[u8]) -> Option<Misfit<'
     }
 }
 
-// What doesn't fit in a line that asks nothing of an engine.
+// What is wrong with a line that an engine can't read as a request.
 fn misfit_of_asked(alloc: Global, line: &[u8]) -> Option<Misfit<'_>> {
     let schema = Schema::new(MAX_TABLES)?;
     match read_serve_line(alloc, &schema, line) {
@@ -372,7 +379,7 @@ fn segments_of_move(alloc: Global, refused: &RefusedMove<'_>) -> Option<SegmentF
     )
 }
 
-// What doesn't fit in the line of an engine's header that has a fault.
+// What is wrong with a faulty line of an engine's header.
 fn misfit_of_header(alloc: Global, header: &FaultyHeader) -> Option<Misfit<'_>> {
     let located = header.fault.located;
     let recalled = match &header.line {
@@ -388,7 +395,7 @@ fn misfit_of_header(alloc: Global, header: &FaultyHeader) -> Option<Misfit<'_>> 
     }
 }
 
-// What doesn't fit in a first line of an engine's header that isn't `plan PLAN`.
+// What is wrong with a first line of an engine's header that isn't `plan PLAN`.
 fn misfit_of_first(line: &[u8]) -> Misfit<'_> {
     match plan_line_flaw(Wanted::Old, line) {
         Some(LineFlaw::Wrong { .. } | LineFlaw::Missing { .. }) if line == PLAN => {

@@ -1,4 +1,4 @@
-// Live runs, what is said of them, and their exit status.
+// Live runs, their messages and their exit status.
 ghost use Rattle.std.specs.Prelude.{◌≡◌, ◌≤◌};
 ghost use Rattle.sq_inputs.specs.Recalling.{recalling_remaining};
 ghost use Rattle.sq_pull.specs.declared.numbers.TheConstants.{MAX_PUMPS};
@@ -23,13 +23,14 @@ use std::sync::Wait;
 use std::thread::Threads;
 use std::time::Clock;
 
-// The command line asks for no more pumps than there may be.
+// The command line allows as many pumps as there may be.
 const _: () = prove!(sq_command::MAX_PUMPS == sq_pull::MAX_PUMPS as u64);
 
-/// Runs the jobs in `reader` in threads, writes the outcome, and says on standard error what it means, unless the run
-/// is sound. Its workers ask `watch` before each step. Also writes what was asked for: a summary on standard error, and
-/// in files a timeline, a longer account, the answers of the jobs, and the rows at the end. A run that ends in a fault
-/// leaves none of this. Gives the exit status, which is 2 where one of the files can't be written.
+/// Runs the jobs in `reader` in threads, and writes the outcome to `writer`. Unless the run is
+/// sound, standard error explains it. The workers ask `watch` before each step. Also writes what
+/// was asked for: a summary to standard error, and to files a timeline, a longer summary, the
+/// answers of the jobs, and the rows at the end; a run that ends in a fault writes none of these.
+/// Returns the exit status, which is 2 if one of the files can't be written.
 pub fn live_run<
     T: Threads + Wait + Sync + Clock + Eprint + Files + AllocGlobal,
     R: Read,
@@ -66,8 +67,9 @@ pub fn live_run<
     status
 }
 
-// A watch before another one that keeps count for what is to be said of a run. `None` where nothing is to be said, or
-// where there is no memory; standard error says so, and the run does without. The time of reading begins here.
+// A watch in front of `watch` that records what the summary and the files need. Returns `None` if
+// none of them is asked for, or if memory runs out. In the latter case standard error reports it,
+// and the run goes on without a record. The time of reading is measured from here.
 fn recording<'a, T: Wait + Clock + Sync + Eprint + AllocGlobal, G: Watch>(
     rt: &'a T,
     options: LiveOptions<'_>,
@@ -89,7 +91,7 @@ fn recording<'a, T: Wait + Clock + Sync + Eprint + AllocGlobal, G: Watch>(
     told.ok()
 }
 
-// Whether anything is to be recorded.
+// Returns whether anything is to be recorded.
 fn is_any(records: Records) -> bool {
     let Records {
         timeline,
@@ -100,7 +102,7 @@ fn is_any(records: Records) -> bool {
     timeline || figures || replies || rows
 }
 
-// Writes what was asked for of a run. Gives whether none of the files is missing that were to be written.
+// Writes what was asked for of a run. Returns true if every requested file was written.
 fn is_told<T: Wait + Clock + Sync + Eprint + Files + AllocGlobal, G: Watch>(
     rt: &T,
     options: LiveOptions<'_>,
@@ -118,7 +120,8 @@ fn is_told<T: Wait + Clock + Sync + Eprint + Files + AllocGlobal, G: Watch>(
     are_files_saved(rt, options, told) && is_device_drawn(rt, options.timeline, told)
 }
 
-// Writes the files that were asked for. Gives whether none is missing: none is written if one of the texts can't be made.
+// Writes the requested files. Returns true if all were written: none is written if one of the texts
+// can't be made.
 fn are_files_saved<T: Wait + Clock + Sync + Eprint + Files + AllocGlobal, G: Watch>(
     rt: &T,
     options: LiveOptions<'_>,
@@ -132,7 +135,8 @@ fn are_files_saved<T: Wait + Clock + Sync + Eprint + Files + AllocGlobal, G: Wat
         && save_texts(rt, &texts)
 }
 
-// Adds the timeline, if it goes into a file: values if its name ends in '.csv', else a chart. Gives whether it isn't missing.
+// Adds the timeline, if it goes into a file: values if its name ends in '.csv', else a chart.
+// Returns false if it can't be made.
 fn add_timeline<T: Wait + Clock + Sync + Eprint + Files + AllocGlobal, G: Watch>(
     rt: &T,
     timeline: Option<&str>,
@@ -147,7 +151,7 @@ fn add_timeline<T: Wait + Clock + Sync + Eprint + Files + AllocGlobal, G: Watch>
     }
 }
 
-// The text of a timeline of this name.
+// The text of the timeline for the file `name`, whose ending sets the format.
 fn timeline_text<T: Wait + Clock + Sync + AllocGlobal, G: Watch>(
     rt: &T,
     name: &str,
@@ -158,8 +162,8 @@ fn timeline_text<T: Wait + Clock + Sync + AllocGlobal, G: Watch>(
     Ok(text)
 }
 
-// Writes the timeline into the device or the pipe of this name, if it is one. Gives whether it isn't missing; standard error says why
-// it can't be written.
+// Writes the timeline to its file if that is a device or a pipe. Returns false if it can't be
+// written; standard error gives the reason.
 fn is_device_drawn<T: Wait + Clock + Sync + Eprint + Files + AllocGlobal, G: Watch>(
     rt: &T,
     timeline: Option<&str>,
@@ -178,8 +182,8 @@ fn is_device_drawn<T: Wait + Clock + Sync + Eprint + Files + AllocGlobal, G: Wat
     drawn.is_ok()
 }
 
-// Adds the figures of a run, if they are wanted in a file: as JSON if its name ends in '.json', else as text. Gives whether they
-// aren't missing.
+// Adds the longer summary, if one is asked for: as JSON if its name ends in '.json', else as text.
+// Returns false if it can't be made.
 fn add_figures<T: Wait + Clock + Sync + Eprint + Files + AllocGlobal, G: Watch>(
     rt: &T,
     summary_out: Option<&str>,
@@ -194,8 +198,8 @@ fn add_figures<T: Wait + Clock + Sync + Eprint + Files + AllocGlobal, G: Watch>(
     add_text(rt, texts, name, written.map(|()| text))
 }
 
-// Adds what the jobs of a run were answered, if that is wanted in a file, and says on standard error how many weren't answered.
-// Gives whether the answers aren't missing.
+// Adds the answers of the jobs, if they are asked for, and writes to standard error how many jobs
+// have none. Returns false if the answers can't be made.
 fn add_replies<T: Wait + Clock + Sync + Eprint + Files + AllocGlobal, G: Watch>(
     rt: &T,
     replies: Option<&str>,
@@ -215,7 +219,7 @@ fn add_replies<T: Wait + Clock + Sync + Eprint + Files + AllocGlobal, G: Watch>(
     add_text(rt, texts, name, written.map(|_| text))
 }
 
-// Adds the rows at the end of a run, if they are wanted in a file. Gives whether they aren't missing.
+// Adds the rows at the end of a run, if they are asked for. Returns false if they can't be made.
 fn add_rows<T: Wait + Clock + Sync + Eprint + Files + AllocGlobal, G: Watch>(
     rt: &T,
     rows_out: Option<&str>,
@@ -230,7 +234,7 @@ fn add_rows<T: Wait + Clock + Sync + Eprint + Files + AllocGlobal, G: Watch>(
     add_text(rt, texts, name, written.map(|()| text))
 }
 
-// Says the summary on standard error.
+// Writes the summary to standard error.
 fn print_summary<T: Wait + Clock + Sync + Eprint + AllocGlobal, G: Watch>(
     rt: &T,
     told: &RecordingWatch<'_, T, G>,
@@ -243,7 +247,8 @@ fn print_summary<T: Wait + Clock + Sync + Eprint + AllocGlobal, G: Watch>(
     }
 }
 
-/// The exit status after a live run: 0 where it is sound, 3 where it stopped, 4 where it isn't sound, and 2 after a fault.
+/// The exit status of a live run: 0 if it is sound, 3 if it stopped, 4 if it is unsound, and 2
+/// after a fault.
 pub fn live_status(ran: Result<LiveEnding, WriteFault>) -> u8
     ensures { result ≡ live_status ran }
 {
@@ -253,7 +258,7 @@ pub fn live_status(ran: Result<LiveEnding, WriteFault>) -> u8
     }
 }
 
-// Says on standard error what the outcome of a live run means, unless the run is sound.
+// Writes to standard error what the outcome of a live run means, unless the run is sound.
 fn explain_live<T: Eprint + Files + AllocGlobal, R: Read>(
     rt: &T,
     source: &Source<'_>,

@@ -1,4 +1,5 @@
-//! The program `squall`: it reads what to do from standard input, and writes the result to standard output.
+//! The program `squall`: reads an input, from standard input or files, and writes the result to
+//! standard output.
 #![tactic(auto)]
 
 ghost use Rattle.std.specs.Prelude.{map};
@@ -32,13 +33,12 @@ use live_runs::live_run;
 use outputs::refuse_outputs;
 use owning::owners;
 use plans::lines_of_plans;
-use progress::Progress;
+use progress::{Progress, Silent};
 use serving::{EngineInput, serve_engine};
 use session::{listing, open_input, refuse_file, refuse_for_memory, refuse_words, script};
 use source::{Source, is_table};
 use sq_command::{Input, Line, Task, line_of};
 use sq_csv_rows::{CsvRows, RecordLines};
-use sq_driver::OpenGate;
 use sq_inputs::{Inserting, Recalling};
 use sq_live::Watch;
 use sq_outputs::PipeEnd;
@@ -56,9 +56,9 @@ use std::time::Clock;
 use std::{env, io};
 use steps::steps;
 use streams::Streams;
-use usage::{columns_of, print_usage};
+use usage::print_usage;
 
-// How many bytes go out at a time.
+// How many bytes the output buffer holds.
 const WRITE_SIZE: usize = 65_536;
 
 // The words of the command line; the first is the program's name.
@@ -67,13 +67,13 @@ fn words_of(rt: &(impl Env + AllocGlobal)) -> io::Result<Vec<String>> {
     Ok(words)
 }
 
-/// A task with its input, what it is done by, and who watches it.
+/// A task with its input, its runtime, its watch and the standard streams.
 #[derive(Drop)]
 struct Assignment<'a, T, G> {
     rt: &'a T,
     task: Task<'a>,
     input: Input<'a>,
-    /// Workers of a live run ask it before each step.
+    /// The workers of a live run ask it before each step.
     watch: &'a G,
     streams: Streams<'a>,
 }
@@ -83,8 +83,8 @@ where
     T: Threads + Wait + Sync + Clock + Print + Eprint + Files + AllocGlobal,
     G: Watch,
 {
-    // Does the task with its input, whose main part is standard input or a file, and gives the exit status: 2 where a
-    // file can't be read, or is one that the task would write.
+    // Performs the task with its input, whose main part is a file or standard input. Returns the
+    // exit status: 2 if a file can't be read, or if the task may not write one.
     fn carry_out<R: Read, W: Write>(&self, reader: &mut R, writer: &mut W) -> u8
         requires { IsWithin self.now.task }
         ensures { EndsMain self.now.task self.now.input.plans self.now.input.file
@@ -103,8 +103,8 @@ where
         }
     }
 
-    // Does the task with the input whose main part a reader gives, and gives the exit status: 2 where a file of the
-    // plans or of the rows can't be read.
+    // Performs the task with the input whose main part is `main`. Returns the exit status: 2 if a
+    // file of the plans or the rows can't be read.
     fn work_on_parts<R: Read + Drop, W: Write>(&self, main: R, writer: &mut W) -> u8
         requires { IsWithin self.now.task }
         ensures { EndsParts self.now.task self.now.input.plans (R.remaining main)
@@ -134,8 +134,8 @@ where
         }
     }
 
-    // Does the task with the lines of the plans, the main part, and behind its first line the rows of a file of this name, and
-    // gives the exit status: 2 where there is no memory to read them.
+    // Performs the task with the lines of the plans, then the main part, with the rows of the file
+    // `name` inserted after its first line. Returns the exit status: 2 if memory runs out.
     fn work_with_rows<M: Read + Drop, F: Read + Drop, W: Write>(
         &self,
         source: &Source<'_>,
@@ -162,14 +162,15 @@ where
         }
     }
 
-    // Does the task with what a reader gives, which comes from there, and gives the exit status.
+    // Performs the task with the text that `reader` reads from `source`, and returns the exit
+    // status.
     fn work<R: Read + Drop, W: Write>(&self, source: &Source<'_>, reader: R, writer: &mut W) -> u8
         requires { IsWithin self.now.task }
         ensures { EndsTask self.now.task (R.remaining reader) (W.contents writer.old)
             (W.contents writer.new) result }
     {
         let rt = self.rt;
-        // A faulty line is looked at once more.
+        // Faulty lines are looked at again.
         let mut reader = Recalling::new(rt.alloc(), reader);
         match self.task {
             Task::Run {
@@ -191,7 +192,7 @@ where
     }
 }
 
-// Does what the words of a command line ask for. Gives the writer back, and the exit status.
+// Does what the words of a command line ask for. Returns the writer and the exit status.
 fn obey<
     T: Threads
         + Wait
@@ -263,7 +264,7 @@ where
             let status = explanation(rt, &mut writer, number, streams.is_closed);
             (writer, status)
         }
-        Err(error) => (writer, print_usage(rt, &error, streams.columns)),
+        Err(error) => (writer, print_usage(rt, &error)),
     }
 }
 
@@ -279,18 +280,17 @@ fn main(rt: HostRuntime) -> ExitCode {
     };
     let streams = Streams {
         is_typed: rt.stdin().is_terminal(),
-        columns: columns_of(&rt),
         is_closed: &is_closed,
     };
     let mut reader = rt.reader();
     let (writer, status) = if rt.stderr().is_terminal() {
-        // It shows how far a live run is.
+        // It shows the progress of a live run.
         let progress = Progress::new(&rt);
         obey(&rt, &words, &mut reader, writer, &progress, streams)
     } else {
-        obey(&rt, &words, &mut reader, writer, &OpenGate, streams)
+        obey(&rt, &words, &mut reader, writer, &Silent, streams)
     };
-    // A failed write has left bytes, which a buffer that is dropped would write.
+    // A buffer that is dropped would write the bytes that a failed write has left.
     let (_unbuffered, _unwritten) = writer.into_parts();
     ExitCode::from(status)
 }

@@ -1,4 +1,4 @@
-// Files that a task writes: none over one that it reads, and each whole or not at all.
+// The files that a task writes: never over a file that it reads, and each whole or not at all.
 ghost use Rattle.std.specs.Prelude.{◌≡◌, IfSome};
 
 use crate::session::{REFUSED, refuse_for_memory};
@@ -13,13 +13,13 @@ use std::io;
 use std::io::ErrorKind;
 use std::rt::Files;
 
-// The option of a live run's file that may be a device.
+// The option for the timeline, whose file may be a device.
 const TIMELINE: &str = "timeline";
 
-// The name of standard input, which names no output.
+// The name of standard input, which can't be an output.
 const DASH: &str = "-";
 
-// The options of a task that name files to be written, and the names.
+// The options of a task that name output files, with these names.
 fn named_outputs(task: Task<'_>) -> [(&'static str, Option<&str>); 4] {
     let (summary_out, timeline, replies, rows_out) = match task {
         Task::Run { rows_out, .. } => (None, None, None, rows_out),
@@ -34,7 +34,7 @@ fn named_outputs(task: Task<'_>) -> [(&'static str, Option<&str>); 4] {
     ]
 }
 
-// The names of the files that an input comes from.
+// The names of the input files.
 fn named_inputs(input: Input<'_>) -> [Option<&str>; 4] {
     let plans = input.plans;
     [
@@ -45,8 +45,8 @@ fn named_inputs(input: Input<'_>) -> [Option<&str>; 4] {
     ]
 }
 
-// The files that a task writes, and their places: those that its options name, and then those that are written first,
-// beside them.
+// The output files of a task and their places: the named files, and then the part files, each
+// beside its named file and written first.
 fn outputs_of<'a, T: Files + AllocGlobal>(rt: &T, task: Task<'a>) -> io::Result<Vec<Output<'a>>> {
     let mut outputs = Vec::new(rt.alloc());
     for (option, name) in named_outputs(task) {
@@ -64,7 +64,7 @@ fn outputs_of<'a, T: Files + AllocGlobal>(rt: &T, task: Task<'a>) -> io::Result<
     Ok(outputs)
 }
 
-// Adds the files beside those that are written whole or not at all: all but a timeline that is a device or a pipe.
+// Adds the part files of all outputs but a timeline that is a device or a pipe.
 fn add_parts<'a, T: Files + AllocGlobal>(
     rt: &T,
     task: Task<'a>,
@@ -87,19 +87,19 @@ fn add_parts<'a, T: Files + AllocGlobal>(
     Ok(())
 }
 
-/// The place of the file beside the one that is written for `name`, which is written first.
+/// The place of the part file for `name`, which is written first.
 pub fn place_of_part<T: Files + AllocGlobal>(rt: &T, name: &str) -> io::Result<String> {
     let part = part_to_write(rt, name)?;
     place_of(rt, part.as_str())
 }
 
-// The name of the file beside the one that is written for `name`.
+// The name of the part file for `name`.
 fn part_to_write<T: Files + AllocGlobal>(rt: &T, name: &str) -> io::Result<String> {
     let file = file_to_write(rt, name)?;
     Ok(part_name(rt.alloc(), file.as_str())?)
 }
 
-// The places of the files that an input comes from.
+// The places of the input files, and that of standard input if no main file is named.
 fn inputs_of<T: Files + AllocGlobal>(rt: &T, input: Input<'_>) -> io::Result<Vec<String>> {
     let mut places = Vec::new(rt.alloc());
     for name in named_inputs(input) {
@@ -115,8 +115,10 @@ fn inputs_of<T: Files + AllocGlobal>(rt: &T, input: Input<'_>) -> io::Result<Vec
     Ok(places)
 }
 
-/// Refuses a task that would write a file that it reads too, one file twice, what is no file of its own, or a file in a folder
-/// in which none can be made, before it reads anything: says so on standard error, and gives the exit status.
+/// Refuses, before anything is read, a task that would write a file that it also reads, or one file
+/// twice, or to a name that can't be a file of its own ([`are_files`]), or into a folder in which
+/// no file can be made. Then, or if memory runs out, standard error gives the reason, and the exit
+/// status 2 is returned; else `None`.
 pub fn refuse_outputs<T: Print + Eprint + Files + AllocGlobal>(
     rt: &T,
     task: Task<'_>,
@@ -131,8 +133,9 @@ pub fn refuse_outputs<T: Print + Eprint + Files + AllocGlobal>(
     }
 }
 
-// Whether a task writes files alone, none that it reads too, none twice, and each in a folder in which it can be made; else
-// standard error says which. An error is that there is no memory for the answer.
+// Returns whether a task may write its files: each may be a file of its own, is neither read nor
+// written twice, and can be made in its folder. Else standard error says which may not. Fails if
+// memory runs out.
 fn may_write<T: Eprint + Files + AllocGlobal>(
     rt: &T,
     task: Task<'_>,
@@ -153,8 +156,9 @@ fn may_write<T: Eprint + Files + AllocGlobal>(
     can_be_made(rt, &outputs)
 }
 
-/// Whether each output may be a file of its own; standard error says of which it may not. An error is that there is no memory
-/// for the answer.
+/// Returns whether each output may be a file of its own: `-`, a link that leads nowhere, a folder
+/// and standard output's file may not, nor may a device or a pipe if the output has a part file.
+/// Else standard error says which may not. Fails if memory runs out.
 pub fn are_files<T: Eprint + Files + AllocGlobal>(
     rt: &T,
     outputs: &[Output<'_>],
@@ -170,8 +174,9 @@ pub fn are_files<T: Eprint + Files + AllocGlobal>(
     Ok(true)
 }
 
-// Why an output is no file of its own, where standard output is the file at this place. What is written whole or not at all takes
-// no other thing's place; a timeline may be a device.
+// Why an output can't be a file of its own; `answers` is the place of standard output. A file that
+// is written whole or not at all never replaces anything but a regular file; a timeline may be a
+// device.
 fn why_no_file<T: Files>(
     rt: &T,
     output: &Output<'_>,
@@ -192,8 +197,8 @@ fn why_no_file<T: Files>(
     }
 }
 
-/// Whether each of the files that are written first can be made in its folder; standard error says of which it can't. Makes
-/// each, and removes it again. An error is that there is no memory for the answer.
+/// Returns whether each part file can be made in its folder; else standard error says which can't.
+/// Makes each, and removes it again. Fails if memory runs out.
 pub fn can_be_made<T: Eprint + Files + AllocGlobal>(
     rt: &T,
     outputs: &[Output<'_>],
@@ -212,7 +217,7 @@ pub fn can_be_made<T: Eprint + Files + AllocGlobal>(
     Ok(true)
 }
 
-/// Says on standard error why a file can't be written.
+/// Writes to standard error which output conflicts with another file, and how.
 pub fn explain_conflict(rt: &impl Eprint, conflict: Conflict<'_>) {
     let (output, why) = match conflict {
         Conflict::IsRead(output) => (output, "which the run reads"),
@@ -235,7 +240,8 @@ pub struct FileText {
     text: Vec<u8>,
 }
 
-/// Adds a text that is to go into the file `name`. Returns whether it did; standard error says why it didn't.
+/// Adds a text for the file `name`. Returns true if it was added; else standard error gives the
+/// reason.
 pub fn add_text<T: Eprint + Files + AllocGlobal>(
     rt: &T,
     texts: &mut Vec<FileText>,
@@ -253,8 +259,9 @@ pub fn add_text<T: Eprint + Files + AllocGlobal>(
     added.is_ok()
 }
 
-/// Writes each text into its file, whole or not at all, and none if one of them can't be written beside its file. Returns whether
-/// all files were replaced; standard error says which one wasn't, and why.
+/// Writes each text into its file, whole or not at all, and none if one of their part files can't
+/// be written. Returns true if all files were replaced; else standard error says which wasn't, and
+/// why.
 pub fn save_texts<T: Eprint + Files + AllocGlobal>(rt: &T, texts: &[FileText]) -> bool {
     let Ok(files) = new_files(rt, texts) else {
         let _ = eprintln!(rt; "squall: there is no memory to write the files");
@@ -269,7 +276,8 @@ pub fn save_texts<T: Eprint + Files + AllocGlobal>(rt: &T, texts: &[FileText]) -
     }
 }
 
-/// Writes a text into the file `name`, whole or not at all. Returns whether it was written; standard error says why it wasn't.
+/// Writes a text into the file `name`, whole or not at all. Returns true if it was written; else
+/// standard error gives the reason.
 pub fn save_text<T: Eprint + Files + AllocGlobal>(
     rt: &T,
     name: &str,
@@ -279,7 +287,7 @@ pub fn save_text<T: Eprint + Files + AllocGlobal>(
     add_text(rt, &mut texts, name, text) && save_texts(rt, &texts)
 }
 
-// The files that texts go into.
+// The files that the texts go into.
 fn new_files<'a, T: AllocGlobal>(
     rt: &T,
     texts: &'a [FileText],
@@ -291,7 +299,7 @@ fn new_files<'a, T: AllocGlobal>(
     Ok(files)
 }
 
-/// Says on standard error that the file of this name can't be written, and why.
+/// Writes to standard error that the file `name` can't be written, and why.
 pub fn explain_unwritten(rt: &impl Eprint, name: &str, error: &io::Error) {
     let _ = eprintln!(rt; "squall: the file '{name}' can't be written: {error}");
 }

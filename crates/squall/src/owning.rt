@@ -1,4 +1,4 @@
-// The owners of root keys, before a move and after it.
+// The owners of root keys before and after a move.
 ghost use Rattle.std.specs.Prelude.{◌≡◌, IfOk, string_bytes};
 ghost use Rattle.squall.specs.Session.{widest_config, EndsOwners};
 
@@ -19,8 +19,8 @@ use std::cell::Cell;
 use std::io::{Read, Write};
 use std::rt::Files;
 
-/// Writes which partition owns each of these root keys by the plan of either file, and where it moves, and says on standard error
-/// what the fault of a plan means. Gives the exit status.
+/// Writes which partition owns each of `keys` by the plan of either file, and where it moves.
+/// Standard error explains the fault of a plan. Returns the exit status.
 pub fn owners<T: Print + Eprint + Files + AllocGlobal, W: Write>(
     rt: &T,
     writer: &mut W,
@@ -51,7 +51,7 @@ pub fn owners<T: Print + Eprint + Files + AllocGlobal, W: Write>(
     exit_status(told)
 }
 
-// The root keys of these numbers.
+// The root keys with these numbers.
 fn roots_of(alloc: Global, keys: &[u32]) -> Result<Vec<Root>, AllocError>
     ensures { IfOk result (λ roots. roots.items ≡ keys.now) }
 {
@@ -65,7 +65,8 @@ fn roots_of(alloc: Global, keys: &[u32]) -> Result<Vec<Root>, AllocError>
     Ok(roots)
 }
 
-// The line of the sizes, with leaves of this width, or the widest ones, which make the fewest segments.
+// The line of the sizes, with leaves of this width; if there is none, with the widest leaves, which
+// make the fewest segments.
 fn config_line(alloc: Global, width: Option<u32>) -> Result<String, AllocError>
     ensures { IfOk result (λ line. string_bytes line ≡ widest_config width) }
 {
@@ -73,7 +74,8 @@ fn config_line(alloc: Global, width: Option<u32>) -> Result<String, AllocError>
     format!(in alloc; "config {width} 64 1\n")
 }
 
-// Says on standard error what the fault of a plan means, and which plan has stages that aren't read.
+// Writes to standard error what the fault of a plan means, and which plan has stages that aren't
+// read.
 fn explain_owners<T: Eprint + Files + AllocGlobal, R: Read>(
     rt: &T,
     plans: Plans<'_>,
@@ -101,7 +103,8 @@ fn explain_owners<T: Eprint + Files + AllocGlobal, R: Read>(
     tell_unread_stages(rt, &source, reader);
 }
 
-// Says on standard error what the fault of a plan means. One of both plans belongs to no line that there is.
+// Writes to standard error what the fault of a plan means. A fault of both plans belongs to no line
+// of the files.
 fn explain_fault<T: Eprint + Files + AllocGlobal, R: Read>(
     rt: &T,
     source: &Source<'_>,

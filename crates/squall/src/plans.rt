@@ -9,8 +9,8 @@ use std::io;
 use std::io::ErrorKind;
 use std::rt::Files;
 
-/// The first two lines of a header, from the files of the plans. An error is the exit status after a file that can't
-/// be read, or after memory ran out; standard error says which.
+/// The first two lines of a header, from the files of the plans. Fails with the exit status 2 if a
+/// file can't be read or memory runs out; standard error says which.
 pub fn lines_of_plans<T: Print + Eprint + Files + AllocGlobal>(
     rt: &T,
     plans: Plans<'_>,
@@ -26,7 +26,7 @@ pub fn lines_of_plans<T: Print + Eprint + Files + AllocGlobal>(
     }
 }
 
-// What the file of this name holds, as much of it as a line of the header may hold. An error is as above.
+// The text of the file `name`, up to the length of a header line. Fails as above.
 fn text_of<T: Print + Eprint + Files + AllocGlobal>(rt: &T, name: &str) -> Result<Vec<u8>, u8>
     ensures { IfErr result (λ status. status ≡ 2) }
 {
@@ -37,7 +37,7 @@ fn text_of<T: Print + Eprint + Files + AllocGlobal>(rt: &T, name: &str) -> Resul
     }
 }
 
-// What the file of this name holds.
+// The text of the file `name`.
 pub(crate) fn read_plan<T: Files + AllocGlobal>(rt: &T, name: &str) -> io::Result<Vec<u8>> {
     plan_text(rt.alloc(), open_input(rt, name)?)
 }

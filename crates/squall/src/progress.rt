@@ -1,19 +1,21 @@
-// How far a live run is, said meanwhile.
+// The progress of a live run, shown meanwhile.
 use sq_driver::{Gate, NodeStep, WorkerEvent};
-use sq_live::Watch;
+use sq_live::{Gathered, Job, Watch};
+use sq_ranges::Opening;
 use sq_report::Stopwatch;
+use std::mem::forget;
 use std::sync::atomic::{AtomicBool, AtomicU64, Ordering};
 use std::time::Clock;
 
-// Takes the place of the longest line of progress.
+// Overwrites the longest line of progress.
 const BLANK: &str = "\r                                                                        \r";
 
-// For how many microseconds the line stays as it is, at least.
+// The shortest time between two updates of the line, in microseconds.
 const PAUSE: u64 = 100_000;
 
-/// A gate that lets each worker pass, and says on standard error how many jobs are answered, how many families have moved and
-/// how many segments are complete: on one line, which is written again as they grow. No count falls. The line is gone once the
-/// threads have ended.
+/// A watch that lets each worker pass, and shows on standard error how many jobs are answered, how
+/// many families have moved and how many segments are complete: on one line, which is rewritten as
+/// these counts grow; no count ever falls. The line is removed once the threads have ended.
 #[derive(Drop)]
 pub struct Progress<'a, E> {
     to: &'a E,
@@ -23,9 +25,9 @@ pub struct Progress<'a, E> {
     answered: AtomicU64,
     moved: AtomicU64,
     complete: AtomicU64,
-    /// When it may be said again, in microseconds.
+    /// The time of the next update, in microseconds.
     due: AtomicU64,
-    /// Whether a worker says it now.
+    /// Whether a worker is updating the line.
     busy: AtomicBool,
 }
 
@@ -45,7 +47,7 @@ impl<'a, E: Eprint + Clock> Progress<'a, E> {
         }
     }
 
-    // Adds to a count, and says how far the run is, unless another worker is at it.
+    // Adds to a count, and updates the line, unless another worker is doing so.
     fn add(&self, count: &AtomicU64, more: u64) {
         count.fetch_add(more, Ordering::SeqCst);
         if !self.busy.swap(true, Ordering::SeqCst) {
@@ -54,7 +56,7 @@ impl<'a, E: Eprint + Clock> Progress<'a, E> {
         }
     }
 
-    // Says how far the run is, if the line has been there for long enough.
+    // Updates the line, if `PAUSE` has passed since the last update.
     fn go_on(&self) {
         let now = self.clock.micros();
         if now >= self.due.load(Ordering::SeqCst) {
@@ -63,7 +65,7 @@ impl<'a, E: Eprint + Clock> Progress<'a, E> {
         }
     }
 
-    // Says how far the run is.
+    // Writes the line.
     fn say(&self) {
         let answered = self.answered.load(Ordering::SeqCst);
         let jobs = self.jobs.load(Ordering::SeqCst);
@@ -98,8 +100,36 @@ impl<E: Eprint + Clock + Sync> Watch for Progress<'_, E> {
         self.say();
     }
 
+    fn leaves(&self, left: Gathered, opening: Opening, jobs: Vec<Job>) {
+        leave(left, opening, jobs);
+    }
+
     fn ends(&self) {
         self.say();
         let _ = eprint!(self.to; "{BLANK}");
     }
+}
+
+/// A watch that lets each worker pass, and shows nothing.
+#[derive(Clone, Copy, Debug)]
+pub struct Silent;
+
+impl Gate for Silent {
+    fn pass(&self, _who: u64, _step: NodeStep) -> bool {
+        true
+    }
+}
+
+impl Watch for Silent {
+    fn leaves(&self, left: Gathered, opening: Opening, jobs: Vec<Job>) {
+        leave(left, opening, jobs);
+    }
+}
+
+// Frees nothing: the program ends, and the system reclaims its memory faster than it could be
+// freed.
+fn leave(left: Gathered, opening: Opening, jobs: Vec<Job>) {
+    forget(left);
+    forget(opening);
+    forget(jobs);
 }

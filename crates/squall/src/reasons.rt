@@ -1,4 +1,4 @@
-// Why lines of an engine's input are refused, as standard error says it.
+// Messages that explain why lines of an engine's input are refused.
 use crate::flaws::{tell_misfit_of_move, tell_misfit_of_refused};
 use crate::serving::EngineInput;
 use crate::source::FaultPlace;
@@ -14,24 +14,24 @@ const NOT_A_LINE: u16 = 126;
 // The number of the refusal while rows move.
 const MOVING: u16 = 217;
 
-// The number of the refusal after a file wasn't written.
+// The number of the refusal if a file wasn't written.
 const UNWRITTEN: u16 = 124;
 
-// No move has as many segments.
+// Stands for no move; no move has as many segments.
 const NO_MOVE: u64 = u64::MAX;
 
-/// Says on standard error why lines of an engine's input are refused, and counts them.
+/// Explains on standard error why lines of an engine's input are refused, and counts them.
 #[derive(Drop)]
 pub struct Reasons<'a, T> {
     rt: &'a T,
     input: EngineInput<'a>,
     count: AtomicU64,
-    // The segments of the move that is under way, or `NO_MOVE`.
+    // The number of segments of the move that is under way, or `NO_MOVE`.
     moving: AtomicU64,
 }
 
 impl<'a, T: Eprint + AllocGlobal> Reasons<'a, T> {
-    /// For an engine with this input, of which no line was refused yet.
+    /// Reasons for an engine with this input, with no line refused yet.
     pub fn new(rt: &'a T, input: EngineInput<'a>) -> Reasons<'a, T> {
         Reasons {
             rt,
@@ -41,18 +41,18 @@ impl<'a, T: Eprint + AllocGlobal> Reasons<'a, T> {
         }
     }
 
-    /// Takes note of a move of so many segments.
+    /// Records that a move of `segments` segments is under way.
     pub fn begin_move(&self, segments: u64) {
         self.moving.store(segments, Ordering::SeqCst);
     }
 
-    /// Takes note of the end of a move.
+    /// Records the end of a move.
     pub fn end_move(&self) {
         self.moving.store(NO_MOVE, Ordering::SeqCst);
     }
 
-    /// Says where a line stands that is refused, what the number means, and what doesn't fit in the line, if that can be found; or
-    /// which move is under way, if it is refused for that.
+    /// Explains a refused line: its place, what the number means, and what is wrong with the line,
+    /// if that can be found; or which move is under way, if it is refused for that.
     pub fn tell(&self, refusal: LineRefusal<'_>) {
         self.count.fetch_add(1, Ordering::SeqCst);
         let place = self.input.place(refusal.place);
@@ -64,7 +64,7 @@ impl<'a, T: Eprint + AllocGlobal> Reasons<'a, T> {
         }
     }
 
-    // Says which move is under way as a line is refused.
+    // Explains which move is under way as a line is refused.
     fn tell_moving(&self, place: FaultPlace<'_>) {
         match self.moving.load(Ordering::SeqCst) {
             NO_MOVE => {
@@ -78,12 +78,12 @@ impl<'a, T: Eprint + AllocGlobal> Reasons<'a, T> {
         }
     }
 
-    /// Says why a move is refused, if its number doesn't say all.
+    /// Explains why a move is refused, if its number leaves that open.
     pub fn tell_move(&self, refused: RefusedMove<'_>) {
         tell_misfit_of_move(self.rt, self.input.place(refused.place), &refused);
     }
 
-    /// Says how many lines were refused, if any was.
+    /// Reports how many lines were refused, if any were.
     pub fn tell_count(&self) {
         match self.count.load(Ordering::SeqCst) {
             0 => {}
@@ -97,7 +97,8 @@ impl<'a, T: Eprint + AllocGlobal> Reasons<'a, T> {
     }
 }
 
-// A refusal as it is said: its number, what this means, and the id of the job, if it is of a job that has one.
+// A refusal as messages put it: its number, what that means, and the id of the job, if it is of a
+// job that has one.
 #[derive(Clone, Copy)]
 struct Reason<'a>(&'a LineRefusal<'a>);
 
@@ -117,12 +118,13 @@ impl Display for Reason<'_> {
     }
 }
 
-// Whether the answer with this number is a refusal, as those of plans that are no plans or not to be moved to.
+// Returns whether the answer with this number is a refusal; so are those to faulty plans, and to
+// plans that can't be moved to.
 fn is_refusal(number: u16) -> bool {
     matches!(number, 101..=119 | UNWRITTEN | MOVING)
 }
 
-// What the number of a refusal means to one who serves an engine.
+// What the number of a refusal means to somebody who serves an engine.
 fn meaning_of_refusal(number: u16) -> &'static str {
     match number {
         NOT_A_LINE => "the line is no job, and none of move, fold, status, plan and rows",

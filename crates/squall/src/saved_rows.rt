@@ -12,11 +12,11 @@ use std::{fmt, io};
 /// The places of the files in which no rows are saved.
 #[derive(Drop)]
 pub struct PlacesInUse {
-    /// Those of the files that the engine reads.
+    /// The places of the files that the engine reads.
     read: Vec<String>,
-    /// Those of its reports, and of the files beside these.
+    /// The places of its reports and of their part files.
     reports: Vec<String>,
-    /// That of standard output, if that is a file.
+    /// The place of standard output, if that is a file.
     answers: Option<String>,
 }
 
@@ -25,11 +25,11 @@ pub struct PlacesInUse {
 pub enum Unsavable {
     /// The name is that of a folder, a device or a pipe.
     NoFile,
-    /// The name is that of a link that leads to nothing.
+    /// The name is that of a link that leads nowhere.
     NoTarget,
     /// The engine reads the file.
     IsRead,
-    /// A report is to be in the file.
+    /// A report goes into the file.
     IsReport,
     /// The engine's answers go into the file.
     HasAnswers,
@@ -66,7 +66,8 @@ impl Display for Unsavable {
 }
 
 impl PlacesInUse {
-    /// The places of an engine that reads the files at `read` and reports in those at `reports`.
+    /// The places of an engine that reads the files at `read` and writes its reports to those at
+    /// `reports`.
     pub fn new<T: Files + AllocGlobal>(
         rt: &T,
         read: Vec<String>,
@@ -79,7 +80,8 @@ impl PlacesInUse {
         })
     }
 
-    /// Saves `text` in the file `name`, whole or not at all.
+    /// Saves `text` in the file `name`, whole or not at all. Fails if the file may not be written,
+    /// or if the system refuses it.
     pub fn save<T: Files + AllocGlobal>(
         &self,
         rt: &T,
@@ -98,7 +100,7 @@ impl PlacesInUse {
         }
     }
 
-    // Fails where no rows are saved in the file `name`.
+    // Fails if no rows may be saved in the file `name`.
     fn check<T: Files + AllocGlobal>(&self, rt: &T, name: &str) -> Result<(), Unsavable> {
         if leads_nowhere(rt, name) {
             return Err(Unsavable::NoTarget);
@@ -110,7 +112,7 @@ impl PlacesInUse {
         self.check_place(place_of_part(rt, name)?.as_str())
     }
 
-    // Fails where the file at this place is in use.
+    // Fails if the file at `place` is in use.
     fn check_place(&self, place: &str) -> Result<(), Unsavable> {
         let answers = self.answers.as_ref();
         if is_among(&self.read, place) {
@@ -125,7 +127,7 @@ impl PlacesInUse {
     }
 }
 
-// Whether this is one of some places.
+// Returns whether `place` is one of `places`.
 fn is_among(places: &[String], place: &str) -> bool {
     places.iter().any(|one| one.as_str() == place)
 }

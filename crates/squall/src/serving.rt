@@ -1,4 +1,4 @@
-// An engine behind a pipe, and what is said of how it ends.
+// An engine behind a pipe, and the messages about how it ends.
 ghost use Rattle.std.specs.Prelude.{◌≤◌};
 ghost use Rattle.sq_pull.specs.declared.numbers.TheConstants.{MAX_PUMPS};
 ghost use Rattle.squall.specs.Session.{EndsEngine};
@@ -24,29 +24,29 @@ use std::sync::{Arc, Wait};
 use std::thread::Threads;
 use std::time::Clock;
 
-/// How an engine is served, and what is said of it.
+/// How an engine is served, and what its messages need.
 #[derive(Clone, Copy)]
 struct Serving<'a> {
     input: EngineInput<'a>,
     config: ServeConfig,
     streams: Streams<'a>,
-    // What is wrong with the last record of a table of rows, beside its fields.
+    // What is wrong with the last record of a table of rows, apart from its fields.
     flaw: Option<FlawedRecord>,
 }
 
-/// Where the input of an engine comes from.
+/// Where the input of an engine comes from, and where its reports go.
 #[derive(Clone, Copy, Debug)]
 pub struct EngineInput<'a> {
-    /// The files of its plan and of its rows, where they have files of their own.
+    /// The files of its plan and its rows; `None` if both are in the input.
     pub files: Option<EngineFiles<'a>>,
-    /// The name of the file that is read before standard input, where there is one.
+    /// The name of the file that is read before standard input, if there is one.
     pub file: Option<&'a str>,
-    /// The files into which it is written what the engine did.
+    /// The report files.
     pub reports: EngineReports<'a>,
 }
 
 impl<'a> EngineInput<'a> {
-    /// A place as it is said.
+    /// A place as messages name it.
     pub fn place(&self, place: LinePlace) -> FaultPlace<'a> {
         let file = match place.source {
             LineSource::Plan => self.files.map(|files| files.plan),
@@ -61,16 +61,17 @@ impl<'a> EngineInput<'a> {
         }
     }
 
-    // Whether a line there is of a table of values.
+    // Returns whether the line at `place` is of a table of values.
     fn is_record(&self, place: LinePlace) -> bool {
         let rows = self.files.and_then(|files| files.rows);
         place.source == LineSource::Rows && rows.is_some_and(is_table)
     }
 }
 
-/// Serves an engine whose input is the file that is named, if one is, and then standard input, and reports what it did, if that is
-/// wanted. Says on standard error what a fault that ends it means, and how many lines were refused. Gives the writer back, and the
-/// exit status, which is 2 if a file can't be read or written.
+/// Serves an engine whose input is the named file, if there is one, and then standard input, and
+/// writes the reports that are asked for. Writes to standard error what a fault that ends it means,
+/// and how many lines were refused. Returns the writer and the exit status, which is 2 if a file
+/// can't be read or written.
 pub fn serve_engine<T, W>(
     rt: &T,
     writer: W,
@@ -116,7 +117,7 @@ where
     }
 }
 
-// Serves an engine with who watches it.
+// Serves an engine under its watch.
 fn serve_watched<T, W>(
     rt: &T,
     writer: W,
@@ -156,7 +157,7 @@ where
     }
 }
 
-// The file of this name, whose lines are counted.
+// Opens the file `name`, and counts the lines that are read from it.
 fn open_counted<T: Eprint + Files + AllocGlobal + Copy>(
     rt: &T,
     name: &str,
@@ -174,7 +175,8 @@ fn open_counted<T: Eprint + Files + AllocGlobal + Copy>(
     Ok((counted, lines))
 }
 
-// Says on standard error, if standard input is a terminal, that it is waited for, and with what it begins.
+// If standard input is a terminal, writes to standard error that the program waits for it, and how
+// it begins.
 fn say_wait(rt: &impl Eprint, input: EngineInput<'_>, streams: Streams<'_>) {
     if !streams.is_typed {
         return;
@@ -188,8 +190,8 @@ fn say_wait(rt: &impl Eprint, input: EngineInput<'_>, streams: Streams<'_>) {
     );
 }
 
-// Serves an engine with this main input, which begins with the lines of a file, if one is named. Its plan and its rows may have
-// files of their own.
+// Serves an engine whose main input is `main`. `file` counts the lines of the named file that it
+// begins with, if there is one. The plan and the rows may have files of their own.
 fn serve_main<T, I, W>(
     rt: &T,
     writer: W,
@@ -229,7 +231,7 @@ where
     }
 }
 
-// Serves an engine with a text, whose lines stand in these places.
+// Serves an engine with the text that `text` reads; `places` maps its line numbers to places.
 fn serve_text<T, I, W>(
     rt: &T,
     writer: W,
@@ -250,7 +252,7 @@ where
     (writer, ending.status())
 }
 
-// Says on standard error what the ending of an engine means, unless it is sound.
+// Writes to standard error what the ending of an engine means, unless it is sound.
 fn explain_engine<T>(
     rt: &T,
     ending: ServeEnding,
@@ -273,7 +275,7 @@ where
         ServeEnding::Threads => {
             let number = InputFault::Memory.number();
             let _ = eprintln!(rt;
-                "squall: fault {number}: the system grants fewer threads than the engine needs"
+                "squall: fault {number}: the system grants fewer threads than the engine needs, or no memory for one"
             );
         }
         ServeEnding::Unsound(defect) => {
@@ -284,8 +286,8 @@ where
     }
 }
 
-// Says on standard error what the fault of a header means, in which line it is, what that is to be if it isn't of its form, and what
-// doesn't fit in it.
+// Writes to standard error what the fault of a header means, and in which line it is; the line's
+// form, if the line isn't of it; and what is wrong with the line.
 fn explain_header<T: Eprint + Files + AllocGlobal>(
     rt: &T,
     header: &FaultyHeader,
@@ -318,7 +320,7 @@ fn explain_header<T: Eprint + Files + AllocGlobal>(
     }
 }
 
-// The form of a line of an engine's header, by its number.
+// The form of line `line` of an engine's header.
 fn form_of(line: u64) -> &'static str {
     match line {
         1 => {

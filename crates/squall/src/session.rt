@@ -1,10 +1,10 @@
-// Runs, what is said of their faults, and the exit status.
+// Runs, the messages about their faults, and the exit status.
 ghost use Rattle.std.specs.Prelude.{◌≡◌, [], Some, IfOk};
 ghost use Rattle.sq_inputs.specs.Recalling.{recalling_remaining};
 ghost use Rattle.sq_schema.specs.declared.schema.TheConstants.{MAX_TABLES};
 ghost use Rattle.sq_results.specs.Standing.{WritesRows, world_families};
 ghost use Rattle.sq_world.specs.Run.{Runs};
-ghost use Rattle.squall.specs.Session.{exit_status, EndsAs, MovesAs, SizesAs, ListsAs};
+ghost use Rattle.squall.specs.Session.{exit_status, EndsAs, MovesAs, AnswersSizes, ListsAs};
 
 use crate::flaws::{tell_misfit, tell_unread_stages};
 use crate::outputs::save_text;
@@ -15,7 +15,7 @@ use sq_explain::entry;
 use sq_inputs::{Recalled, Recalling};
 use sq_picture::{AsJson, AsSvg};
 use sq_results::write_world_rows;
-use sq_sizes::{SizesAsJson, SizesAsLines, SizesAsSvg, tell_opening};
+use sq_sizes::{SizesAs, tell_opening};
 use sq_text::{InputFault, InputLine, LocatedFault, Meaning, WriteFault};
 use sq_world::{Ending, RefusedLine, ScriptManner, World, list, ranges, run};
 use std::alloc::Global;
@@ -28,9 +28,10 @@ use std::{fs, io};
 /// The exit status after a fault, and after a command line that was refused.
 pub const REFUSED: u8 = 2;
 
-/// Runs the script in `reader` in this manner, writes its answers, and says on standard error what its fault means,
-/// or the refusal behind which it stopped. Unless it ends by a fault, the rows at its end go into the file that is
-/// named for them. Gives the exit status, which is 2 where they can't be written.
+/// Runs the script in `reader`, and writes its answers to `writer`. Standard error explains its
+/// fault, or the refusal after which it stopped. The rows at the end go into the file `rows_out`,
+/// if there is one, unless the run ended in a fault. Returns the exit status, which is 2 if the
+/// rows can't be written.
 pub fn script<T: Eprint + Files + AllocGlobal, R: Read, W: Write>(
     rt: &T,
     reader: &mut Recalling<R>,
@@ -48,7 +49,7 @@ pub fn script<T: Eprint + Files + AllocGlobal, R: Read, W: Write>(
     let ran = run(rt.alloc(), reader, writer, manner, &mut world);
     explain_end(rt, source, reader, ran);
     let is_saved = save_rows(rt, rows_out, ran, &world);
-    // The program ends, and the system takes its memory back sooner than it could be freed.
+    // The program ends, and the system reclaims its memory faster than it could be freed.
     forget(world);
     if !is_saved {
         return REFUSED;
@@ -56,8 +57,8 @@ pub fn script<T: Eprint + Files + AllocGlobal, R: Read, W: Write>(
     exit_status(ran)
 }
 
-// Writes the rows of a world at the end of a run into the file of this name, if one is named. Gives whether none is
-// missing.
+// Writes the rows at the end of a run into the file `rows_out`, if there is one. Returns false if
+// that fails.
 fn save_rows<T: Eprint + Files + AllocGlobal>(
     rt: &T,
     rows_out: Option<&str>,
@@ -84,8 +85,8 @@ fn rows_text(alloc: Global, world: &World) -> io::Result<Vec<u8>>
     Ok(text)
 }
 
-/// Writes what moves between the plans in `reader`, in this form, with its sizes where they are asked for, and says on standard
-/// error what their fault means. Gives the exit status.
+/// Writes what moves between the plans in `reader`, in the format `form`, with sizes if `sizes` is
+/// set. Standard error explains a fault. Returns the exit status.
 pub fn listing<T: Eprint + Files + AllocGlobal, R: Read, W: Write>(
     rt: &T,
     reader: &mut Recalling<R>,
@@ -108,7 +109,7 @@ pub fn listing<T: Eprint + Files + AllocGlobal, R: Read, W: Write>(
     exit_status(listed)
 }
 
-// Writes what moves, in this form.
+// Writes what moves, in the format `form`.
 fn list_moves<R: Read, W: Write>(
     alloc: Global,
     reader: &mut R,
@@ -125,7 +126,7 @@ fn list_moves<R: Read, W: Write>(
     }
 }
 
-// The same with its sizes.
+// The same with sizes.
 fn list_sizes<R: Read, W: Write>(
     alloc: Global,
     reader: &mut R,
@@ -133,16 +134,18 @@ fn list_sizes<R: Read, W: Write>(
     form: Form,
 ) -> Result<Ending, WriteFault>
     ensures { IfOk result
-        (SizesAs form (R.remaining reader.old) (W.contents writer.old) (W.contents writer.new)) }
+        (AnswersSizes (R.remaining reader.old) (W.contents writer.old) (W.contents writer.new)) }
 {
-    match form {
-        Form::Lines => tell_opening(alloc, reader, writer, &SizesAsLines),
-        Form::Json => tell_opening(alloc, reader, writer, &SizesAsJson),
-        Form::Svg => tell_opening(alloc, reader, writer, &SizesAsSvg),
-    }
+    let sizes = match form {
+        Form::Lines => SizesAs::Lines,
+        Form::Json => SizesAs::Json,
+        Form::Svg => SizesAs::Svg,
+    };
+    tell_opening(alloc, reader, writer, &sizes)
 }
 
-/// Says on standard error what the fault of a run means, if it has one, and the line that it belongs to.
+/// Writes to standard error what the fault or the refusal that ended a run means, if there is one,
+/// and the line that it belongs to.
 pub(crate) fn explain_end<T: Eprint + Files + AllocGlobal, R: Read>(
     rt: &T,
     source: &Source<'_>,
@@ -158,7 +161,8 @@ pub(crate) fn explain_end<T: Eprint + Files + AllocGlobal, R: Read>(
     tell_unread_stages(rt, source, reader);
 }
 
-// Says on standard error which line was refused, its words, and what the number of its refusal means.
+// Writes to standard error which line was refused, its words, and what the number of its refusal
+// means.
 fn explain_refused<T: Eprint, R: Read>(
     rt: &T,
     source: &Source<'_>,
@@ -179,7 +183,8 @@ fn explain_refused<T: Eprint, R: Read>(
     }
 }
 
-/// Says on standard error that a write failed, unless no one reads the output any more.
+/// Writes to standard error that a write failed, unless the reader of standard output has closed
+/// it.
 pub(crate) fn explain_write(rt: &impl Eprint, fault: WriteFault, is_closed: bool) {
     if is_closed {
         return;
@@ -188,7 +193,8 @@ pub(crate) fn explain_write(rt: &impl Eprint, fault: WriteFault, is_closed: bool
     let _ = eprintln!(rt; "squall: fault {number}: {fault}");
 }
 
-/// The exit status after a run: 0 where it was done, 3 where it stopped behind a refusal, and 2 after a fault.
+/// The exit status of a run: 0 if it was done, 3 if it stopped after a refusal, and 2 after a
+/// fault.
 pub fn exit_status(ran: Result<Ending, WriteFault>) -> u8
     ensures { result ≡ exit_status ran }
 {
@@ -198,7 +204,7 @@ pub fn exit_status(ran: Result<Ending, WriteFault>) -> u8
     }
 }
 
-/// Writes the fault that memory ran out before the run, and gives the exit status after it.
+/// Writes the fault that memory ran out before the run, and returns the exit status 2.
 pub fn refuse_for_memory(rt: &(impl Print + Eprint)) -> u8
     ensures { result ≡ 2 }
 {
@@ -208,8 +214,8 @@ pub fn refuse_for_memory(rt: &(impl Print + Eprint)) -> u8
     REFUSED
 }
 
-/// Says on standard error the line that a fault belongs to, and what it means; the form of a header's line that isn't
-/// of its form; and what doesn't fit in the line.
+/// Writes to standard error the line that a fault belongs to, and what the fault means; the form of
+/// a header line, if the line isn't of it; and what is wrong with the line.
 pub(crate) fn explain<T: Eprint + Files + AllocGlobal, R: Read>(
     rt: &T,
     source: &Source<'_>,
@@ -237,7 +243,7 @@ pub(crate) fn explain<T: Eprint + Files + AllocGlobal, R: Read>(
 pub(crate) const TABLE_FORM: &str =
     "'ROOT,TABLE,SUB,NUMBER,NOTE', as in '5,0,0,10,': root key, table, sub key, number, note";
 
-// The form of a line of the header.
+// The form of a header line.
 fn form_of(line: InputLine) -> &'static str {
     match line {
         InputLine::Old => {
@@ -255,7 +261,7 @@ fn form_of(line: InputLine) -> &'static str {
     }
 }
 
-/// The file of this name, to be read. A folder isn't one.
+/// Opens the file `name` for reading. Fails if it is a folder.
 pub fn open_input<T: Files>(rt: &T, name: &str) -> io::Result<T::File> {
     let file = fs::open(rt, name)?;
     if file.metadata()?.is_dir() {
@@ -264,7 +270,7 @@ pub fn open_input<T: Files>(rt: &T, name: &str) -> io::Result<T::File> {
     Ok(file)
 }
 
-/// Says on standard error why a file can't be read, and gives the exit status after it.
+/// Writes to standard error why a file can't be read, and returns the exit status 2.
 pub fn refuse_file(rt: &impl Eprint, name: &str, error: &io::Error) -> u8
     ensures { result ≡ 2 }
 {
@@ -272,7 +278,7 @@ pub fn refuse_file(rt: &impl Eprint, name: &str, error: &io::Error) -> u8
     REFUSED
 }
 
-/// Says on standard error why the command line can't be read, and gives the exit status after it.
+/// Writes to standard error why the command line can't be read, and returns the exit status 2.
 pub fn refuse_words(rt: &impl Eprint, error: &io::Error) -> u8
     ensures { result ≡ 2 }
 {

@@ -12,30 +12,30 @@ const TABLE_END: &[u8] = b".csv";
 /// Where the lines of an input come from.
 #[derive(Clone, Copy)]
 pub struct Source<'a> {
-    /// The files that are named.
+    /// The named files.
     pub input: Input<'a>,
     /// How many lines the file of the rows has, once all of them were read.
     pub rows: &'a Cell<Option<usize>>,
     /// The lines of a table's records, if the file of the rows is a table of values.
     pub records: &'a RecordLines,
-    /// Whether a write found that no one reads the output any more.
+    /// Whether a write found that the reader of the output has closed it.
     pub is_closed: &'a Cell<bool>,
 }
 
 /// Where a line is.
 #[derive(Clone, Copy)]
 pub enum FaultPlace<'a> {
-    /// The line of the input that has this number.
+    /// The line of the input with this number.
     Line(u64),
-    /// The file of this name, which is one line of the input.
+    /// The file with this name, which is one line of the input.
     File(&'a str),
-    /// The line of this file that has this number.
+    /// The line of this file with this number.
     LineOf(&'a str, u64),
 }
 
 impl<'a> Source<'a> {
-    /// The place of a line of the input. Where the plans have files of their own, it is a file and a line of it, or
-    /// the whole file of a plan; else it is the line of the input.
+    /// The place of a line of the input. If the plans have files of their own, it is a file and a
+    /// line of it, or the whole file of a plan; else it is the line of the input.
     pub fn place(&self, line: InputLine) -> FaultPlace<'a> {
         let number = line.number();
         let Some(plans) = self.input.plans else {
@@ -49,7 +49,8 @@ impl<'a> Source<'a> {
         }
     }
 
-    // The place of the line that is so many lines behind the sizes, with the rows from this file, if from any.
+    // The place of the line that comes `behind` lines after the sizes; `rows` is the file of the
+    // rows, if they have one.
     fn place_behind(&self, behind: u64, rows: Option<&'a str>) -> FaultPlace<'a> {
         let Some(file) = rows else {
             return FaultPlace::LineOf(self.main(), behind.saturating_add(1));
@@ -65,7 +66,8 @@ impl<'a> Source<'a> {
         }
     }
 
-    /// What is wrong with the record of a table of values that a line of the input is made of, beside its fields.
+    /// What is wrong with the record of a table of values that a line of the input was made from,
+    /// apart from its fields.
     pub fn record_flaw(&self, line: InputLine) -> Option<RecordFlaw> {
         if self.is_record(line) {
             self.records.flaw_of(line.number().saturating_sub(3))
@@ -74,7 +76,7 @@ impl<'a> Source<'a> {
         }
     }
 
-    /// Whether a line of the input is made of a record of a table of values.
+    /// Returns whether a line of the input was made from a record of a table of values.
     pub fn is_record(&self, line: InputLine) -> bool {
         let behind = line.number().saturating_sub(3);
         let rows = self.input.plans.and_then(|plans| plans.rows);
@@ -85,13 +87,14 @@ impl<'a> Source<'a> {
         behind > 0 && is_of_rows && rows.is_some_and(is_table)
     }
 
-    // What the rest of the input comes from.
+    // The name of the main input.
     fn main(&self) -> &'a str {
         self.input.file.unwrap_or("standard input")
     }
 }
 
-/// Whether a file of rows of this name is a table of values: its name ends in `.csv`, in letters of either case.
+/// Returns whether the file of rows `name` is a table of values: it ends in `.csv`, in upper or
+/// lower case.
 pub fn is_table(name: &str) -> bool {
     let name = name.as_bytes();
     match name.len().checked_sub(TABLE_END.len()) {

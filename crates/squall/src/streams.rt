@@ -7,14 +7,13 @@ use std::cell::Cell;
 pub struct Streams<'a> {
     /// Whether standard input is a terminal.
     pub is_typed: bool,
-    /// How many columns help texts are folded to, if the environment says it.
-    pub columns: Option<usize>,
-    /// Whether a write found that no one reads standard output any more.
+    /// Whether a write found that the reader of standard output has closed it.
     pub is_closed: &'a Cell<bool>,
 }
 
 impl Streams<'_> {
-    /// Says on standard error, where standard input is a terminal, that it is waited for, with what it begins, and what ends it.
+    /// If standard input is a terminal, writes to standard error that the program waits for it, how
+    /// it begins, and what ends it.
     pub fn say_wait(&self, rt: &impl Eprint, input: Input<'_>) {
         if !self.is_typed {
             return;

@@ -1,32 +1,31 @@
-// Where the lines of an engine's text stand.
+// Where the lines of an engine's text are.
 use sq_csv_rows::RecordLines;
 use sq_serve::{FileLines, LinePlace, LinePlaces, LineSource};
 use std::alloc::Global;
 use std::sync::Arc;
 
-/// Where the lines of an engine's text stand: the line of the plan and the rows in files of their own, if they have any, and the
-/// others in the file that is named or in standard input after it.
+/// Where the lines of an engine's text are: the plan and the rows in files of their own, if they
+/// have any, and the others in the named file or, after it, in standard input.
 #[derive(Drop)]
 pub struct TextPlaces {
     /// Whether the plan has a file of its own.
     pub has_plan_file: bool,
     /// The rows that have a file of their own, after the first two lines.
     pub rows: Option<RowPlaces>,
-    /// The lines of the file that is read before standard input, if one is named.
+    /// The lines of the file that is read before standard input, if there is one.
     pub file: Option<Arc<FileLines, Global>>,
 }
 
-/// Where rows stand in a file of their own.
+/// Where rows are in a file of their own.
 #[derive(Drop)]
 pub struct RowPlaces {
-    /// How many rows there are.
     pub count: u64,
     /// The lines of a table's records, if the file is a table of values.
     pub records: Option<RecordLines>,
 }
 
 impl RowPlaces {
-    /// The line on which the row of this number stands, from 1.
+    /// The line of row `row`, counted from 1.
     pub fn line_of(&self, row: u64) -> u64 {
         match &self.records {
             Some(records) => records.line_of(row).unwrap_or(row),
@@ -36,7 +35,7 @@ impl RowPlaces {
 }
 
 impl TextPlaces {
-    // The place of the line of this number among those that have no file of their own.
+    // The place of line `number` among those that have no file of their own.
     fn main_place(&self, number: u64) -> LinePlace {
         match self.file.as_ref().map(|lines| lines.count()) {
             None => place_in(LineSource::Input, number),
@@ -45,7 +44,7 @@ impl TextPlaces {
         }
     }
 
-    // The place of the line that is so many lines after that of the plan, which has a file of its own.
+    // The place of the line that comes `number` lines after the plan, which has a file of its own.
     fn place_after_plan(&self, number: u64) -> LinePlace {
         let Some(rows) = &self.rows else {
             return self.main_place(number);
@@ -73,7 +72,6 @@ impl LinePlaces for TextPlaces {
     }
 }
 
-// The place of the line with this number there.
 fn place_in(source: LineSource, line: u64) -> LinePlace {
     LinePlace { source, line }
 }

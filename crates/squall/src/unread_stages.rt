@@ -1,4 +1,4 @@
-// Plans of an engine's input that are of the first version and have stages, which aren't read there.
+// Plans of an engine's input that are of version 1 and have stages, which version 1 doesn't read.
 use crate::source::FaultPlace;
 use sq_diagnosis::has_unread_stages;
 use sq_lines::place_of;
@@ -10,10 +10,10 @@ use std::io::Read;
 // The byte that ends a line.
 const LINE_END: u8 = 10;
 
-// The words before a plan, with their spaces: in the first line, and in lines that ask for a move.
+// The word before a plan, with its space: in the first line, and in lines that ask for a move.
 const WORDS: [&[u8]; 2] = [b"plan ", b"move "];
 
-/// Says on standard error that the plan in this place is of the first version and has stages, where it is and has.
+/// Writes to standard error that the plan at `place` is of version 1 and has stages, if so.
 pub fn tell_unread_stages_of<T: Eprint>(rt: &T, alloc: Global, place: FaultPlace<'_>, plan: &[u8]) {
     if has_unread_stages(alloc, plan) == Ok(true) {
         let _ = eprintln!(rt;
@@ -22,8 +22,8 @@ pub fn tell_unread_stages_of<T: Eprint>(rt: &T, alloc: Global, place: FaultPlace
     }
 }
 
-/// A reader that gives what another one gives, and says on standard error which lines of it have a plan of the first version with
-/// stages, and in which file if it has a name.
+/// A reader that passes on what another one reads, and writes to standard error which of its lines
+/// have a plan of version 1 with stages, and in which file, if that has a name.
 #[derive(Drop)]
 pub struct PlansWatched<T: Copy, R: Read> {
     reader: R,
@@ -31,7 +31,7 @@ pub struct PlansWatched<T: Copy, R: Read> {
 }
 
 impl<T: Copy + Eprint + AllocGlobal, R: Read> PlansWatched<T, R> {
-    /// A reader of the file of this name, or of standard input.
+    /// Watches `reader`, which reads the file with this name, or standard input if there is none.
     pub fn new(rt: T, reader: R, file: Option<String>) -> PlansWatched<T, R> {
         PlansWatched {
             reader,
@@ -50,7 +50,7 @@ impl<T: Copy + Eprint + AllocGlobal, R: Read> Read for PlansWatched<T, R> {
     }
 }
 
-/// The line under way of an input, if it may have a plan.
+/// The current line of an input, if it may have a plan.
 #[derive(Drop)]
 struct PlanLine<T: Copy> {
     rt: T,
@@ -59,7 +59,7 @@ struct PlanLine<T: Copy> {
     number: u64,
     // Its bytes so far.
     bytes: Vec<u8>,
-    // Whether it isn't looked at: it has no plan, it is too long, or there is no memory for it.
+    // Whether it is skipped: it has no plan, it is too long, or there is no memory for it.
     is_passed_over: bool,
 }
 
@@ -103,7 +103,7 @@ impl<T: Copy + Eprint + AllocGlobal> PlanLine<T> {
         self.is_passed_over = !is_kept;
     }
 
-    // Tells of its plan, if it has one, and begins the next line.
+    // Reports its plan, if it has one, and begins the next line.
     fn end(&mut self) {
         if !self.is_passed_over {
             self.tell();
@@ -121,7 +121,7 @@ impl<T: Copy + Eprint + AllocGlobal> PlanLine<T> {
         }
     }
 
-    // Tells of its plan, if it has one.
+    // Reports its plan, if it has one with stages that aren't read.
     fn tell(&self) {
         let plan = WORDS.iter().find_map(|word| self.bytes.strip_prefix(*word));
         if let Some(plan) = plan {
@@ -130,7 +130,7 @@ impl<T: Copy + Eprint + AllocGlobal> PlanLine<T> {
     }
 }
 
-// Whether bytes begin as a word does, as far as both go.
+// Returns whether bytes begin as a word does, as far as both go.
 fn begins_alike(bytes: &[u8], word: &[u8]) -> bool {
     bytes.iter().zip(word).all(|(byte, letter)| byte == letter)
 }

@@ -1,4 +1,0 @@
-pub mod Foldings
-pub mod Parts
-pub mod Placed
-pub mod SpacedWords

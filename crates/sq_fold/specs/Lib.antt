@@ -1,4 +1,0 @@
-pub mod Folds
-pub mod NextWords
-pub mod Rows
-pub mod Words

@@ -1,8 +1,0 @@
-use Rattle.std.proofs.Common.{take}
-use Rattle.std.specs.List.{flat_map}
-use Rattle.std.specs.Io.KnownBytes.{Appends}
-use Rattle.sq_summary.specs.FiguresText.{link_figures_line}
-use Rattle.sq_summary.proofs.text_form.write_links.Given as goal
-
-abbrev pub invariant-loop-link : goal.invariant-loop-link
-invariant-loop-link g l = Appends (g.W.Write.contents l.initial.writer) (g.W.Write.contents l.writer) (flat_map link_figures_line (take l.link-index l.links))
