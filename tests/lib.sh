@@ -13,7 +13,6 @@
 # Stored cases are in tests/cases. Others are made of them, or are too large to store. tests/serving.sh has what a client of
 # `squall serve` tries.
 export LC_ALL=C
-unset COLUMNS
 tests=$(cd "$(dirname "${BASH_SOURCE[0]}")" && pwd)
 top=$(dirname "$tests")
 examples=$top/examples
@@ -175,14 +174,10 @@ try_names() {
     count names_as_they_are_defined "$(bash "$tests/page_names.sh" > "$room/got" || head -n 1 "$room/got")"
 }
 
-# The pictures in docs: of the crates, as they are drawn; of what moves, as it is stored, of the example; of a tree before a
-# pull and after it, by their digests, which a test of the library compares with those of what it draws.
+# The pictures in docs: of the crates, as they are drawn; of what moves, as it is stored, of the example.
 try_drawings() {
     bash "$tests/crates_graph.sh" > "$room/picture"
     count crates_as_they_are_drawn "$(difference "$top/docs/crates.svg" "$room/picture")"
     count moves_as_they_are_drawn "$(difference "$tests/cases/pictures/two_ranges_svg/out" "$top/docs/moves.svg")"
     count moves_of_the_example "$(difference "$examples/ranges.txt" "$tests/cases/pictures/two_ranges_svg/in")"
-    (cd "$top/docs" && sha256sum tree-before.svg tree-after.svg) | cut -d ' ' -f 1 > "$room/picture"
-    sed -nE 's/^const (BEFORE|AFTER): &str = "(.*)";$/\2/p' "$top/crates/sq_tests/src/tests/picture.rt" > "$room/got"
-    count trees_as_they_are_drawn "$(difference "$room/got" "$room/picture")"
 }

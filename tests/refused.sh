@@ -8,7 +8,7 @@
 #
 # Where an allocation of the command line is refused, nothing is written, and the status is 2. Where an allocation in the header is
 # refused, the fault 222 is all that is written. A step whose allocation is refused answers 222 and changes nothing: it goes when
-# it is given again, and the other answers and the dump are as if it was given once less.
+# it is given again, and the other answers and the dump are as if it was given once less. Lines that take no memory ask for none.
 set -eu
 . "$(dirname "$0")/lib.sh"
 squall=${SQUALL:-$top/crates/squall/out/squall}
@@ -21,13 +21,17 @@ steps() {
     cat "$tests/programs/refused_steps"
 }
 
-# The input: each step that takes memory is given twice.
-input() {
-    local line again
+header() {
     echo 'old {"version":1,"partitions":2,"ranges":[[0,4294967296,0]]}'
     echo 'new {"version":1,"partitions":2,"ranges":[[0,4,0],[4,8,1],[8,4294967296,0]]}'
     echo 'config 1 64 1'
     printf 'row %s\n' '5 0 0 10 -' '5 1 7 3 6869' '9 0 0 1 -'
+}
+
+# The input: each step that takes memory is given twice.
+input() {
+    local line again
+    header
     steps | while IFS='|' read -r line _ again; do
         echo "$line"
         if [ -n "$again" ]; then echo "$line"; fi
@@ -83,6 +87,30 @@ judge_refused() {
     count "allocation $1" "$why"
 }
 
+# Lines that take no memory, whether they are refused or not.
+free_lines() {
+    printf '%s\n' '' x 'prepare 0' 'prepare 1' start 'split 0 1' 'claim 0 2 2' 'status 0 1' 'push 0 1' 'pop 0 1' 'load 0 1' 'complete 0 2 2' \
+        'resume 1' 'report 1' next finish 'fold 0' 'fold 1'
+}
+
+# With many lines that take no memory, and a long one, a run asks for as many allocations as with few. All of them are read at once, since
+# the program keeps what it read last to say what is wrong in a line, in a buffer that grows.
+try_free_lines() {
+    local number=1 time
+    { header; free_lines; } > "$room/in"
+    run_refused "$number"
+    while [ -e "$room/refused" ]; do
+        number=$((number + 1))
+        run_refused "$number"
+    done
+    { header; for ((time = 0; time < 100; time++)); do free_lines; done; head -c 30000 /dev/zero | tr '\0' a; echo; } > "$room/in"
+    run_refused "$number"
+    count 'lines that take no memory' "$(if [ -e "$room/refused" ]; then echo 'they ask for some'; fi
+        if [ "$(grep -vc '^at ' "$room/out")" != 1802 ]; then echo 'not each is answered'; fi)"
+    run_refused $((number - 1))
+    count 'lines before them' "$(if [ ! -e "$room/refused" ]; then echo 'they ask for fewer allocations'; fi)"
+}
+
 if [ ! -x "$squall" ]; then
     echo "tests: no program at $squall: run 'rt ci' at the top first" >&2
     exit 1
@@ -102,5 +130,6 @@ done
 for step in words header 1 2 3 4 9 11 13 17 19 20 21; do
     if [ -z "${met[$step]:-}" ]; then count "step $step" 'no allocation of it was refused'; fi
 done
+try_free_lines
 echo "$passed refused allocations passed, $failed failed"
 [ "$failed" = 0 ]

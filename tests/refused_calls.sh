@@ -7,14 +7,14 @@
 # The program stands in tests/programs/refused_calls. `rt try` builds it once, without a proof, and gives it one input after
 # another: a letter that says which call is tried, and for a call on a stored run its header and the lines of its script. In
 # each run the allocation of the same number fails. The program makes as many allocations of its own as its input begins with
-# spaces, so that it is another one of the call that fails each time.
+# spaces, so that it is another one of the call that fails each time. CALLS=PATH takes a program that is built already, without a
+# sanitizer: what the C compiler makes of tests/programs/refuse.c refuses there. With KEEP=FOLDER what each run wrote stays there.
 #
 #   steps        each step by `World::step`; one that answers 222 is made once more
 #   list         all steps by `run_world`; an opening that comes back is used once more
 #   input        the whole text by `run`
 #   vec          `apply`, `take` and `give` of a `VecStore`, with all families after each; one that is refused is called once more
 #   block        the same of a `SlabStore`
-#   runs         the same of a `RunStore`
 #   nodes        a tree and a link without nodes, and two pulls of a leaf, the second of which is under way at the end
 #   two_stages   a move in two stages with a fold between them
 #   folds        the same, with a fold in threads
@@ -42,6 +42,7 @@ set -eu
 . "$(dirname "$0")/lib.sh"
 room=$(mktemp -d)
 trap 'rm -r "$room"' EXIT
+outputs=${KEEP:-$room/outputs}
 
 # The allocation that fails.
 failing=900
@@ -66,7 +67,7 @@ spaces_of() {
 make_program() {
     local source=$room/crates/refused_calls/src file
     tar -C "$top" --exclude=out -cf - HANDLES crates | tar -C "$room" -xf -
-    mkdir -p "$source" "$room/inputs" "$room/outputs"
+    mkdir -p "$source"
     for file in "$tests"/programs/refused_calls/*.rt.txt; do cp "$file" "$source/$(basename "$file" .txt)"; done
     cp "$top/crates/sq_thread_tests/src/tests/text.rt" "$source"
     {
@@ -79,7 +80,7 @@ make_program() {
 make_inputs() {
     local spaces
     for spaces in $(spaces_of "$3" "$4"); do
-        if [ -e "$room/outputs/$1.$2.$spaces" ]; then continue; fi
+        if [ -e "$outputs/$1.$2.$spaces" ]; then continue; fi
         { printf '%*s%s' "$spaces" '' "${1:0:1}"; cat "$(stored "$tests/cases/run/$2/in")"; } > "$room/inputs/$1.$2.$spaces"
     done
 }
@@ -89,7 +90,7 @@ lacks_one() {
     local call=$1 run=$2 what
     shift 2
     for what; do
-        if ! cat "$room/outputs/$call.$run".* | grep -q -x "refused $what"; then return 0; fi
+        if ! cat "$outputs/$call.$run".* | grep -q -x "refused $what"; then return 0; fi
     done
     return 1
 }
@@ -116,9 +117,15 @@ widened_tries() {
 # Gives the program the inputs, and leaves what it wrote for each in a file, which is empty where it wrote nothing. Those that
 # it was given are away then. `--steps 0` leaves out the interpreter, which would take as long as the program.
 run_inputs() {
+    if [ -n "${CALLS:-}" ]; then
+        (cd "$room/inputs" && printf '%s\n' * | REFUSE=$failing xargs -P 4 -I NAME \
+            bash -c 'REFUSED=$0/refused.NAME LD_PRELOAD=$0/refuse.so "$1" < NAME > "$2/NAME" 2> /dev/null || true' "$room" "$CALLS" "$outputs")
+        rm -f "$room"/inputs/* "$room"/refused.*
+        return
+    fi
     (cd "$room/crates/refused_calls" && rt try --steps 0 --cases "$room/inputs" --fail-alloc "$failing") \
         > "$room/written" 2> "$room/got" || { cat "$room/got" >&2; exit 1; }
-    awk -v folder="$room/outputs/" '/^== / { close(file); file = folder $2; printf "" > file; next } { print > file }' \
+    awk -v folder="$outputs/" '/^== / { close(file); file = folder $2; printf "" > file; next } { print > file }' \
         "$room/written"
     rm -f "$room"/inputs/*
 }
@@ -176,7 +183,7 @@ wanted() {
             if [ "$3" = 0 ]; then cat "$out"; else awk -v step="$3" 'NR == step { print "refused 222" } { print }' "$out"; fi
             ;;
         list | input) printf '%s\n' starts opened; if [ "$3" = 0 ]; then cat "$out"; else list_without "$3"; fi ;;
-        vec | block | runs) of_store "$3" ;;
+        vec | block) of_store "$3" ;;
     esac
 }
 
@@ -191,7 +198,7 @@ of_nodes() {
 
 # wrong CALL RUN SPACES WANTED: counts an input whose output isn't the wanted one.
 wrong() {
-    count "$1 of $2 with $3 spaces" "not the wanted output (<) but: $(diff - "$room/outputs/$1.$2.$3" <<< "$4" | head -n 4)"
+    count "$1 of $2 with $3 spaces" "not the wanted output (<) but: $(diff - "$outputs/$1.$2.$3" <<< "$4" | head -n 4)"
 }
 
 # is_refused WORD: an allocation of this was refused, or `none` was.
@@ -208,10 +215,10 @@ refused_call() {
 # judge_steps CALL RUN SPACES: judges what was written for an input of steps, a list or a store.
 judge_steps() {
     local got step word=none
-    got=$(cat "$room/outputs/$1.$2.$3")
+    got=$(cat "$outputs/$1.$2.$3")
     case $1,$got in
         # Refused was an allocation of what reads the input, which is no part of the call.
-        steps,starts | list,starts | input,starts | vec,starts | block,starts | runs,starts) met[before]=1; return ;;
+        steps,starts | list,starts | input,starts | vec,starts | block,starts) met[before]=1; return ;;
         input,$'starts\nopened\nfault 222') is_refused header; return ;;
     esac
     if [ "$1" = list ] && [ "$(grep -n -x back <<< "$got")" = 3:back ]; then
@@ -220,14 +227,14 @@ judge_steps() {
         got=$(grep -v -x back <<< "$got")
     fi
     case $1 in
-        vec | block | runs) step=$(refused_call <<< "$got") ;;
+        vec | block) step=$(refused_call <<< "$got") ;;
         *) step=$(grep -n -m 1 -x 'refused 222' <<< "$got" | cut -d : -f 1 || true) ;;
     esac
     case $1 in steps | list | input) if [ -n "$step" ]; then step=$((step - 2)); fi ;; esac
     if [ "$got" != "$(wanted "$1" "$2" "${step:-0}")" ]; then wrong "$1" "$2" "$3" "$(wanted "$1" "$2" "${step:-0}")"; return; fi
     case $1,$step in
         *,) ;;
-        vec,* | block,* | runs,*) word=$(calls | sed -n "${step}s/|.*//p") ;;
+        vec,* | block,*) word=$(calls | sed -n "${step}s/|.*//p") ;;
         *) word=$(grep -v -E '^(old|new|config|row) ' "$tests/cases/run/$2/in" | sed -n "${step}s/ .*//p") ;;
     esac
     if [ -n "$word" ]; then is_refused "$word"; fi
@@ -236,7 +243,7 @@ judge_steps() {
 # judge_nodes CALL RUN SPACES: judges what was written for an input of nodes, of two stages, of a page or of an engine.
 judge_nodes() {
     local got whole refused
-    got=$(cat "$room/outputs/$1.$2.$3")
+    got=$(cat "$outputs/$1.$2.$3")
     # Which parts of a segment a pump claims depends on the threads.
     case $1 in chain) got=$(grep -v -E '^(note|node) ' <<< "$got" || true) ;; esac
     whole=$(of_nodes "$1")
@@ -279,7 +286,12 @@ check() {
     for what in "${!met[@]}"; do count "$call of $run" "$what isn't to be refused memory, and was"; done
 }
 
-make_program
+mkdir -p "$room/inputs" "$outputs"
+if [ -n "${CALLS:-}" ]; then
+    "${CC:-cc}" -shared -fPIC -o "$room/refuse.so" "$tests/programs/refuse.c" -ldl
+else
+    make_program
+fi
 if [ "${1:-}" = --all ]; then every=all; else every=; fi
 while read -r call run range some words; do echo "$call $run $range ${every:-$some} $words"; done < <(tries) > "$room/tries"
 while read -r call run range some _; do make_inputs "$call" "$run" "$range" "$some"; done < "$room/tries"

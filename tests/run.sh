@@ -103,8 +103,7 @@ try_pairs() {
     judge plans_in_files_and_no_rows 0 "$room/wanted" /dev/null
 }
 
-# The help text of each subcommand has at most 80 columns, and is folded to fewer where the environment says so. Of one the text
-# in 40 columns is known.
+# The help text of each subcommand has at most 80 columns.
 try_helps() {
     local word count=0
     give /dev/null help
@@ -112,35 +111,9 @@ try_helps() {
     for word in $(sed -n '/^Commands:$/,/^$/s/^  \([a-z]*\) .*/\1/p' "$room/help" | grep -vx help); do
         give /dev/null help "$word"
         count "columns of the help of $word" "$(awk 'length > 80' "$room/out" | head -n 1; [ -s "$room/out" ] || echo none)"
-        fold_help help "$word"
         count=$((count + 1))
     done
     count columns_of_the_help "$(awk 'length > 80' "$room/help" | head -n 1; [ "$count" -ge 8 ] || echo "$count subcommands")"
-    fold_help --help
-    fold_help run --help
-    COLUMNS=40 give /dev/null explain --help
-    judge help_in_40_columns 0 "$tests/folded" /dev/null
-    COLUMNS=40 give /dev/null explain 700
-    echo "squall: no fault, refusal or defect has the number 700 ('squall explain' tells all numbers)" > "$room/said"
-    judge fault_in_40_columns 2 /dev/null "$room/said"
-}
-
-# fold_help WORD..: a help text is folded to few columns, word for word, and a line is longer only where it is one word. It stays
-# as it is where there are 80 columns, more, or none that can be.
-fold_help() {
-    local columns
-    give /dev/null "$@"
-    cp "$room/out" "$room/wanted"
-    for columns in 80 81 1000 0 -1 many ''; do
-        COLUMNS=$columns give /dev/null "$@"
-        judge "$* in '$columns' columns" 0 "$room/wanted" /dev/null
-    done
-    tr -s ' ' '\n' < "$room/wanted" | grep . > "$room/words"
-    for columns in 79 60 40 20 1; do
-        COLUMNS=$columns give /dev/null "$@"
-        count "words of $* in $columns columns" "$(tr -s ' ' '\n' < "$room/out" | grep . | diff "$room/words" - | head -n 3)"
-        count "lines of $* in $columns columns" "$(awk -v columns="$columns" 'length > columns && NF > 1' "$room/out" | head -n 1)"
-    done
 }
 
 # An input without end ends the run, a directory can't be read, and a full device can't be written.
@@ -256,7 +229,7 @@ try_threads() {
     local threads begun
     "${CC:-cc}" -shared -fPIC -o "$room/no_thread.so" "$tests/programs/no_thread.c" -ldl
     echo 'fault 222' > "$room/wanted"
-    echo 'squall: fault 222: the system grants fewer threads than the run has partitions' > "$room/said"
+    echo 'squall: fault 222: the system grants fewer threads than the run has partitions, or no memory for one' > "$room/said"
     for threads in 0 1; do
         begun=$SECONDS
         THREADS=$threads LD_PRELOAD=$room/no_thread.so give "$tests/cases/live/moves_while_jobs_run/in" live
@@ -770,9 +743,9 @@ try_demo_of() {
         '$3 == 0 { got += $5 } END { if (got + 0 != sum) print got " in place of " sum }')"
 }
 
-# An input to begin with, of several sizes and seeds: of one seed it is the same one, of another one its jobs are others. A hot key's
-# jobs are as many of a hundred as are asked for: all of them, and with 0 as many as others have. No file is written where one of the
-# four is there, and no input has too many lines.
+# An input to begin with, of several sizes and seeds: of one seed it is the same one, of another one its jobs are others; a small one is
+# stored (tests/demo). A hot key's jobs are as many of a hundred as are asked for: all of them, and with 0 as many as others have. No file
+# is written where one of the four is there, and no input has too many lines.
 try_demo() {
     local file
     rm -rf "$room/demo"
@@ -783,8 +756,10 @@ try_demo() {
     try_demo_of most 16 3000 2 4096 30 4294967295 --stages
     demo_of again --partitions 5 --roots 400 --rows-per-root 3 --jobs 1000 --hot 70 --seed 7 --stages
     demo_of other --partitions 5 --roots 400 --rows-per-root 3 --jobs 1000 --hot 70 --seed 8 --stages
+    demo_of stored --partitions 3 --roots 20 --rows-per-root 2 --jobs 8 --hot 40 --seed 9 --stages
     for file in old.json new.json rows.txt jobs.txt; do
         count "$file of one seed" "$(difference "$room/demo/stages/$file" "$room/demo/again/$file")"
+        count "$file as it is stored" "$(difference "$tests/demo/$file" "$room/demo/stored/$file")"
     done
     count 'jobs of another seed' "$(if cmp -s "$room/demo/again/jobs.txt" "$room/demo/other/jobs.txt"; then echo 'the same'; fi)"
     # The hot keys of 16 on 2 partitions: an eighth of the 8 of partition 0, which is key 0.

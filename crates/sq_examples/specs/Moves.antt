@@ -1,4 +1,4 @@
--- Worlds with one row, in which nothing but a move takes place.
+-- Worlds with one row, in which only a move takes place.
 use Rattle.std.specs.Prelude.{◌≡◌, ℤ, Bool, true, false, [], ◌∷◌}
 use Rattle.sq_schema.specs.Effect.{RowList, root_key}
 use Rattle.sq_ranges.specs.OpeningValue.{OpeningValue}
@@ -17,11 +17,12 @@ is_of_the_move (Submit part txn) = false
 is_of_the_move (Resume part) = false
 is_of_the_move _ = true
 
--- a root row of this number, without a note
+-- a root row with this number, without a note
 abbrev pub root_row : ℤ → RowList
 root_row number = (root_key, record { number = number; note = [] }) ∷ []
 
--- a legal history without a committed transaction leads to the world, from an opening in which root key 5 has this row
+-- a legal history without a committed transaction leads to the world, from an opening in which root
+-- key 5 has this row
 pub record LeadsWithRow (number : ℤ) (w : WorldValue) : Type 0 where
   pub opening : OpeningValue
   pub trace : Trace

@@ -1,4 +1,4 @@
--- The outcome for an engine whose rows moved to another plan and back.
+-- What is left of an engine whose rows moved to another plan and back.
 use Rattle.std.specs.Prelude.{◌≡◌, List, [], ◌∷◌}
 use Rattle.sq_ranges.specs.OpeningValue.{OpeningValue}
 use Rattle.sq_audit.specs.declared.verdict.Verdict.{Verdict}
@@ -15,7 +15,7 @@ use Rattle.sq_engine.specs.Taken.{HasClosedAfter}
 use Rattle.sq_engine.specs.Ending.{paged, EngineEndsAsPlanned}
 use Rattle.sq_examples.specs.declared.engine.ThereAndBack.{ThereAndBack}
 
--- an engine that opened with this came so far by some episodes, in which pages were taken of these pauses
+-- an engine that opened with `o` went through some episodes, in which pages were taken of `pages`
 abbrev pub CameByPages : OpeningValue → List PauseValue → Standing → Type 0
 CameByPages o pages standing = (past : List Episode) × Stands o past standing × (paged past ≡ pages)
 
@@ -23,19 +23,21 @@ CameByPages o pages standing = (past : List Episode) × Stands o past standing �
 abbrev pub ClosesLater : Standing → Closed → Type 0
 ClosesLater standing closed = (later : Standing) × KeepsHistory standing later × HasClosedAfter later closed
 
--- the page was taken of this pause, with the plan that was reached, and this is the verdict on what the engine had
+-- the page was taken of this pause, with the plan that was reached, and `verdict` is the verdict on
+-- what the engine had
 pub record IsJudgedPage (pause : PauseValue) (page : RestPage) (verdict : Verdict) : Type 0 where
   pub is : IsPageFrom pause page.page
   pub plan : page.plan ≡ pause.opening.new
   pub right : IsVerdict pause.opening pause.gathered page.page.jobs.items verdict
 
--- the engine was closed with this pause, but for the rows of its opening, and this is the verdict on what it had
+-- the engine was closed at this pause, except for the rows of its opening, and `verdict` is the
+-- verdict on what it had
 pub record IsJudgedEnd (pause : PauseValue) (closed : Closed) (verdict : Verdict) : Type 0 where
   pub has : HasClosed (with_other_rows pause closed.opening.table) closed
   pub right : IsVerdict pause.opening pause.gathered pause.jobs verdict
 
--- an engine that opened with this came by some episodes, in which one page was taken, and was closed after the latest of
--- them; where what it had was found sound both times, it ended as planned
+-- an engine that opened with `o` went through some episodes, in which one page was taken, and was
+-- closed after the latest of them; if what it had was found sound both times, it ended as planned
 pub record HasComeBack (o : OpeningValue) (came : ThereAndBack) : Type 0 where
   pub earlier : List Episode
   pub latest : Episode

@@ -1,5 +1,5 @@
-// A small caller of the engine that lasts: two threads have jobs answered while rows move to another plan and back, and what
-// the engine had is audited.
+// A small caller of the long-running engine: two threads have jobs answered while rows move to
+// another plan and back, and what the engine had is audited.
 
 ghost use Rattle.std.specs.Prelude.{[], IfSome};
 ghost use Rattle.sq_page.specs.Pages.{SpeaksForRuns};
@@ -21,27 +21,28 @@ use std::alloc::Global;
 use std::sync::Wait;
 use std::thread::{Threads, join};
 
-// How many turns each worker takes at most in an epoch, and how many pumps claim in the background.
+// The most turns of each worker in an epoch, and how many pumps claim in the background.
 const TURNS: u64 = 1_000_000;
 
 const PUMPS: u32 = 1;
 
-/// The outcome for an engine whose rows moved to another plan and back.
+/// What is left of an engine whose rows moved to another plan and back.
 #[derive(Drop)]
 pub struct ThereAndBack {
     /// The page that was taken at the other plan.
     pub page: RestPage,
-    /// Whether it is sound, or else its first defect.
+    /// The verdict on that page.
     pub verdict: Verdict,
     /// What the engine had once the rows were back, with its last page.
     pub closed: Closed,
-    /// Whether that is sound, or else its first defect.
+    /// The verdict on what the engine had then.
     pub last_verdict: Verdict,
 }
 
-/// Serves two threads while the rows of an opening at rest move to another plan and back, and says how many answers each of
-/// them got. `None` where memory or threads run out, a plan has a fault, the turns aren't enough for a move, or a log is so
-/// long that a page should be taken before the jobs are done.
+/// Serves two threads while the rows of `opening`, which is at rest, move to the plan `there` and
+/// back, and returns how many answers each thread got. Returns `None` if memory or threads run out,
+/// a plan has a fault, the turns don't suffice for a move, or a log is so long that a page should
+/// be taken before the jobs are done.
 pub fn go_there_and_back<R: Threads + Wait + Sync>(
     rt: &R,
     alloc: Global,
@@ -64,7 +65,7 @@ pub fn go_there_and_back<R: Threads + Wait + Sync>(
     Some((came?, heard))
 }
 
-// Runs the two threads. How many answers each of them got.
+// Runs the two threads and returns how many answers each of them got.
 fn ask_both<R: Threads + Wait + Sync>(
     rt: &R,
     alloc: Global,
@@ -78,7 +79,7 @@ fn ask_both<R: Threads + Wait + Sync>(
     )
 }
 
-// Opens an engine, goes to a plan and back with it, and closes it.
+// Opens an engine, moves its rows to the plan `there` and back, and closes it.
 fn serve<R: Threads + Wait + Sync>(
     rt: &R,
     alloc: Global,
@@ -100,7 +101,7 @@ fn serve<R: Threads + Wait + Sync>(
     })
 }
 
-// Opens an engine, serves the broker until half of the jobs are done, and goes to a plan.
+// Opens an engine, serves `broker` until half of the jobs are done, and moves to `plan`.
 fn go_there<R: Threads + Wait + Sync>(
     rt: &R,
     alloc: Global,
@@ -115,7 +116,7 @@ fn go_there<R: Threads + Wait + Sync>(
     go_to(rt, alloc, engine, plan, broker)
 }
 
-// Takes a page of an engine, and audits it.
+// Takes a page of `engine`, and audits it.
 fn take_page<R: Threads + Wait + Sync>(
     rt: &R,
     alloc: Global,
@@ -130,7 +131,8 @@ fn take_page<R: Threads + Wait + Sync>(
     Some((page, verdict, engine))
 }
 
-// Goes to a plan with an engine, serves the broker until all jobs are done, closes the engine, and audits its last page.
+// Moves to `plan`, serves `broker` until all jobs are done, closes the engine, and audits its last
+// page.
 fn come_back<R: Threads + Wait + Sync>(
     rt: &R,
     alloc: Global,
@@ -148,7 +150,7 @@ fn come_back<R: Threads + Wait + Sync>(
     Some((closed, verdict))
 }
 
-// Goes to a plan, and serves the broker until the rows are there: an epoch for each stage.
+// Moves to `plan`, and serves `broker` until the rows have arrived: an epoch for each stage.
 fn go_to<R: Threads + Wait + Sync>(
     rt: &R,
     alloc: Global,
@@ -168,9 +170,9 @@ fn go_to<R: Threads + Wait + Sync>(
     Some(moving)
 }
 
-// Serves the broker for an epoch, which ends with so many jobs done. `None` where an answer is missing, for which the broker would
-// wait forever, where no thread can be had for a partition, and where a worker lacks memory. This caller takes no page here, and
-// gives up where one is wanted.
+// Serves `broker` for an epoch, which ends once `jobs` jobs are done. Returns `None` if an answer
+// is missing, for which the broker would wait forever, if a partition gets no thread, or if a
+// worker lacks memory. This caller takes no page here, and gives up if one is due.
 fn serve_until<R: Threads + Wait + Sync>(
     rt: &R,
     alloc: Global,

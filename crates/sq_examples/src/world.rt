@@ -1,5 +1,5 @@
-// A small caller of the library: it opens a world, moves a root key from one partition to another, and reads its row
-// there.
+// A small caller of the library: it opens a world, moves a root key from one partition to another,
+// and reads its row there.
 
 ghost use Rattle.std.specs.Prelude.{◌≡◌, IfSome};
 ghost use Rattle.std.specs.List.{AllPass};
@@ -13,8 +13,9 @@ const OLD: &[u8] = br#"{"version":1,"partitions":2,"ranges":[[0,4294967296,0]]}"
 
 const NEW: &[u8] = br#"{"version":1,"partitions":2,"ranges":[[0,4,0],[4,8,1],[8,4294967296,0]]}"#;
 
-/// Opens a world in which root key 5 has a root row of this number, moves it from partition 0 to partition 1, and reads
-/// the number there: it is the same. `None` where memory runs out.
+/// Opens a world in which root key 5 has a root row with the number `number`, moves it from
+/// partition 0 to partition 1, and returns the number that it reads there, which is the same.
+/// Returns `None` if memory runs out.
 pub fn move_one_root(alloc: Global, number: i64) -> Option<i64>
     ensures { IfSome result (λ read. read ≡ number) }
 {
@@ -27,7 +28,7 @@ pub fn move_one_root(alloc: Global, number: i64) -> Option<i64>
     Some(row.number())
 }
 
-// The world in which root key 5 has a root row of this number.
+// Returns a world in which root key 5 has a root row with the number `number`.
 fn open(alloc: Global, number: i64) -> Option<World>
     ensures { IfSome result (LeadsWithRow number) }
 {
@@ -49,7 +50,8 @@ fn open(alloc: Global, number: i64) -> Option<World>
     World::open(alloc, Schema::new(8)?, old, new, config, rows).ok()
 }
 
-// The steps of a move of segment 0 in one chunk: those of the partitions, of pull 2, and of the leader.
+// Returns the steps of a move of segment 0 in one chunk: those of the partitions, of pull 2, and of
+// the leader.
 fn whole_move() -> [Step; 12]
     ensures { AllPass is_of_the_move result }
 {

@@ -1,5 +1,5 @@
 -- How a run changes: all nodes and all pumps are its nodes and its pumps still.
-use Rattle.std.proofs.Common.{◌≡◌, ℕ, ◌+◌, ◌<◌, List, length, get_or, Some, refl, sym, ap, ◌∙◌, subst, ⊎_elim}
+use Rattle.std.proofs.Common.{◌≡◌, ℕ, ◌+◌, ◌<◌, List, length, get_or, Some, refl, sym, ◌∙◌, subst, ⊎_elim}
 use Rattle.std.specs.Prelude.{◌≢◌, slice_get, slice_set, All}
 use Rattle.std.proofs.lemmas.List.{length-set}
 use Rattle.std.proofs.lemmas.Option.{slice_get-get_or, slice_get_read}
@@ -11,13 +11,14 @@ use Rattle.sq_node.specs.NodeState.{NodeState, IsNodeOf}
 use Rattle.sq_node.specs.Opened.{AreFirstSeats}
 use Rattle.sq_gather.specs.Gathered.{AreAllOf, IsPumpOf}
 use Rattle.sq_gather.proofs.AllOf.{pump_claimed}
+use Rattle.sq_gather.proofs.Workers.{set_apart}
 
 -- the node of a place is one of the run
 pub node_at : (fabric : FabricValue) (nodes : List NodeState) (pumps : List PumpValue) (i : ℕ) (node : NodeState) → AreAllOf fabric nodes pumps → i < length nodes → node ≡ get_or nodes i node → IsNodeOf fabric node
-node_at fabric nodes pumps i node whole within read = (whole.each_node i node (slice_get_read nodes (length nodes) i node refl within read)).0
+node_at fabric nodes pumps i node whole within read = whole.each_node i node (slice_get_read nodes (length nodes) i node refl within read)
 
 pub all_nodes : (fabric : FabricValue) (nodes : List NodeState) (pumps : List PumpValue) → AreAllOf fabric nodes pumps → All (IsNodeOf fabric) nodes
-all_nodes fabric nodes pumps whole = λ i d within. (whole.each_node i (get_or nodes i d) (slice_get-get_or nodes i d within)).0
+all_nodes fabric nodes pumps whole = λ i d within. whole.each_node i (get_or nodes i d) (slice_get-get_or nodes i d within)
 
 pub all_pumps : (fabric : FabricValue) (nodes : List NodeState) (pumps : List PumpValue) → AreAllOf fabric nodes pumps → All (λ (pump : PumpValue). AreSeatsOf fabric.trees pump.seats) pumps
 all_pumps fabric nodes pumps whole = λ i d within. (whole.each_pump i (get_or pumps i d) (slice_get-get_or pumps i d within)).seats
@@ -29,13 +30,10 @@ with_node fabric nodes pumps i old new whole within read of part =
     record {
       seats = subst (λ (count : ℕ). AreFirstSeats (count + length pumps) fabric.trees fabric.seats) (sym (length-set nodes i new)) whole.seats;
       count = length-set nodes i new ∙ whole.count;
-      ends = whole.ends;
+      apart = set_apart nodes i old new whole.apart (slice_get_read nodes (length nodes) i old refl within read) part;
       each_node = λ k node there.
           ⊎_elim
-          (λ (here : (k ≡ i) × (new ≡ node)). (
-            subst (IsNodeOf fabric) here.1 of,
-            ap (λ (n : NodeState). n.core.part) (sym here.1) ∙ part ∙ (whole.each_node i old (slice_get_read nodes (length nodes) i old refl within read)).1 ∙ sym here.0,
-          ))
+          (λ (here : (k ≡ i) × (new ≡ node)). subst (IsNodeOf fabric) here.1 of)
           (λ (apart : (k ≢ i) × (slice_get nodes k ≡ Some node)). whole.each_node k node apart.1)
           (set_stood nodes i k new node there);
       each_pump = whole.each_pump;
@@ -48,7 +46,7 @@ with_pump fabric nodes pumps i old new whole within read of claims =
     record {
       seats = subst (λ (count : ℕ). AreFirstSeats (length nodes + count) fabric.trees fabric.seats) (sym (length-set pumps i new)) whole.seats;
       count = whole.count;
-      ends = whole.ends;
+      apart = whole.apart;
       each_node = whole.each_node;
       each_pump = λ k pump there.
           ⊎_elim

@@ -1,4 +1,4 @@
-// The calls that are made of an engine.
+// Calls of an engine.
 use crate::deed::{EngineCall, PlanChoice};
 use crate::failure::Failure;
 use crate::plans::{opening_at, plan_of};
@@ -12,13 +12,13 @@ use std::alloc::Global;
 use std::sync::Wait;
 use std::thread::Threads;
 
-// How many pumps claim in the background.
+// How many pumps claim rows in the background.
 const PUMPS: u32 = 2;
 
 // More turns than any worker takes.
 const TURNS: u64 = 1_000_000_000_000;
 
-/// An engine at rest.
+/// Opens an engine at rest.
 pub(crate) fn open<R: Threads + Sync>(
     rt: &R,
     alloc: Global,
@@ -28,7 +28,6 @@ pub(crate) fn open<R: Threads + Sync>(
     value_or(Engine::open(rt, alloc, opening, PUMPS), Failure::Memory)
 }
 
-/// Makes a call of an engine.
 pub(crate) fn make_call<R: Threads + Wait + Sync>(
     rt: &R,
     alloc: Global,
@@ -45,7 +44,6 @@ pub(crate) fn make_call<R: Threads + Wait + Sync>(
     }
 }
 
-/// How an engine rests.
 pub(crate) fn rest_of(engine: &Engine) -> Rest {
     if !engine.is_at_rest() {
         Rest::Moving
@@ -56,7 +54,7 @@ pub(crate) fn rest_of(engine: &Engine) -> Rest {
     }
 }
 
-// Goes to a plan from rest.
+// Moves to a plan from rest.
 fn go_to<R: Wait>(
     rt: &R,
     alloc: Global,
@@ -69,7 +67,7 @@ fn go_to<R: Wait>(
     }
 }
 
-// Posts so many jobs of the client.
+// Posts `count` jobs of the client.
 fn post<R: Wait>(
     rt: &R,
     mut engine: Engine,
@@ -80,7 +78,8 @@ fn post<R: Wait>(
     value_if(engine, outcome)
 }
 
-// Serves a client for an epoch. Each node has a thread, no worker lacks memory, and each answer that was written is given.
+// Serves a client for an epoch. Fails if a node has no thread, if a worker lacks memory, or if an
+// answer that was written isn't given.
 fn serve<R: Threads + Wait + Sync>(
     rt: &R,
     alloc: Global,
@@ -113,7 +112,7 @@ fn check_served(is_whole: bool, lacks_threads: bool, lacks_memory: bool) -> Resu
     }
 }
 
-// Takes a page at rest, which is sound.
+// Takes a page at rest. Fails if it isn't sound.
 fn take_page<R: Threads + Wait + Sync>(
     rt: &R,
     alloc: Global,
@@ -130,7 +129,7 @@ fn take_page<R: Threads + Wait + Sync>(
     }
 }
 
-// A page is sound, and its client hears it.
+// Fails if a page isn't sound; else the client hears it.
 fn check_page<R: Threads + Sync>(
     rt: &R,
     alloc: Global,
@@ -141,7 +140,7 @@ fn check_page<R: Threads + Sync>(
     client.hear_page(&page.page.run.receipts)
 }
 
-/// Closes an engine at rest. Its last page is sound, and its client hears it.
+/// Closes an engine at rest. Fails if its last page isn't sound; else the client hears that page.
 pub(crate) fn close<R: Threads + Wait + Sync>(
     rt: &R,
     alloc: Global,
@@ -161,7 +160,7 @@ pub(crate) fn close<R: Threads + Wait + Sync>(
     }
 }
 
-// The last page of an engine is sound, and its client hears it.
+// Fails if the last page of an engine isn't sound; else the client hears it.
 fn check_last_page<R: Threads + Sync>(
     rt: &R,
     alloc: Global,
@@ -172,7 +171,7 @@ fn check_last_page<R: Threads + Sync>(
     client.hear_page(&closed.page.run.receipts)
 }
 
-// A page is sound by this verdict.
+// Fails if a verdict says that a page isn't sound.
 fn check_sound(verdict: Result<Verdict, OpeningFault>) -> Result<(), Failure> {
     match verdict {
         Ok(Verdict::Sound) => Ok(()),
@@ -181,8 +180,8 @@ fn check_sound(verdict: Result<Verdict, OpeningFault>) -> Result<(), Failure> {
     }
 }
 
-// The value, or else a failure. A large value is let go in functions like this one alone, which are for any type: to let it go where
-// its type is known makes a proof long.
+// The value, or else `failure`. Only functions like this one, generic over the type, drop a large
+// value: to drop it where its type is known makes a proof long.
 fn value_or<T: Drop, E: Drop>(outcome: Result<T, E>, failure: Failure) -> Result<T, Failure> {
     match outcome {
         Ok(value) => Ok(value),
@@ -190,7 +189,7 @@ fn value_or<T: Drop, E: Drop>(outcome: Result<T, E>, failure: Failure) -> Result
     }
 }
 
-// The value, where nothing is wrong.
+// The value, unless something is wrong.
 fn value_if<T: Drop>(value: T, outcome: Result<(), Failure>) -> Result<T, Failure> {
     match outcome {
         Ok(()) => Ok(value),

@@ -1,52 +1,54 @@
 // What is done with an engine.
 
-/// Where an engine goes.
+/// The plan to which an engine moves.
 #[derive(Clone, Copy, Debug)]
 pub enum PlanChoice {
-    /// The root keys are spread over all partitions. Rows go there in stages.
+    /// The root keys are spread over all partitions. Rows move there in stages.
     Spread,
     /// All root keys that have rows are at the first partition.
     Gathered,
-    /// Six ranges of five root keys, each at any partition by a seed, in one stage or in several.
+    /// Six ranges of five root keys, each at a random partition by a seed, in one stage or in
+    /// several.
     Any(u64),
 }
 
 #[derive(Clone, Copy, Debug)]
 pub(crate) enum EngineCall {
-    /// It goes to a plan from rest.
+    /// It moves to a plan from rest.
     GoTo(PlanChoice),
-    /// So many jobs are posted to it, as far as there are some and the queues have room for them.
+    /// This many jobs are posted to it, or fewer if there are no more or a queue is full.
     Post(u64),
-    /// Its workers run for so many turns.
+    /// Its workers run for this many turns.
     Run(u64),
     /// It serves its client for an epoch.
     Serve,
-    /// A page is taken at rest, which is sound.
+    /// A page is taken at rest, which must be sound.
     TakePage,
 }
 
-/// What is done with an engine.
+/// A deed that is done with an engine.
 #[derive(Clone, Copy, Debug)]
 pub enum Deed {
-    /// Where it is at rest, it goes to a plan.
+    /// If it is at rest, it moves to a plan.
     GoTo(PlanChoice),
-    /// So many jobs are posted to it, as far as there are some and the queues have room for them.
+    /// This many jobs are posted to it, or fewer if there are no more or a queue is full.
     Post(u64),
-    /// Its workers run for so many turns, or until they are idle.
+    /// Its workers run for this many turns, or until they are idle.
     Run(u64),
-    /// It serves its client until so many jobs are answered. At rest a page is taken where the engine wants one.
+    /// It serves its client until this many jobs are answered. At rest a page is taken if the
+    /// engine wants one.
     ServeUntil(u64),
-    /// It serves its client until so many jobs have come back, since their queue was full.
+    /// It serves its client until this many jobs have come back, since their queue was full.
     ServeUntilReturned(u64),
-    /// It serves its client until nothing moves: an epoch for each stage, as some jobs are posted. If a number is wanted,
-    /// there are so many stages.
+    /// It serves its client until nothing moves, one epoch per stage, and some jobs are posted as
+    /// each begins. If a number is given, there must be that many stages.
     ServeStages(Option<u64>),
-    /// Where it is at rest, a page is taken.
+    /// If it is at rest, a page is taken.
     TakePage,
-    /// Jobs are posted and its workers run until nothing moves, and once more.
+    /// Jobs are posted and its workers run until nothing moves, and then once more.
     RunToEnd,
-    /// So many jobs were posted to it.
+    /// This many jobs must have been posted to it.
     HasPosted(u64),
-    /// So many jobs were answered.
+    /// This many jobs must have been answered.
     HasAnswered(u64),
 }

@@ -1,19 +1,19 @@
-// Numbers at random.
+// Random numbers.
 ghost use Rattle.std.specs.Prelude.{◌<◌};
 
-/// Numbers that look random, the same ones each time.
+/// Pseudorandom numbers: the same numbers for the same seed.
 #[derive(Drop)]
 pub struct Dice {
     state: u64,
 }
 
 impl Dice {
-    /// The dice of a seed.
+    /// Dice with this seed.
     pub fn new(seed: u64) -> Dice {
         Dice { state: seed }
     }
 
-    /// A number below this one.
+    /// A number below `end`.
     pub fn below(&mut self, end: u64) -> u64
         requires { 0 < end }
         ensures { result < end }

@@ -3,7 +3,7 @@ use crate::failure::Failure;
 use sq_node::Receipt;
 use sq_schema::{OpAnswer, Reply};
 
-/// The content of an answer: a job made this the number of its root key.
+/// The content of an answer: the job `id` made `number` the number of the root key `root`.
 #[derive(Clone, Copy, Debug)]
 pub struct Heard {
     pub id: u64,
@@ -11,7 +11,7 @@ pub struct Heard {
     pub number: u64,
 }
 
-/// The content of a receipt.
+/// The content of a receipt. Fails unless it is a commit with a single number that isn't negative.
 pub(crate) fn heard_in(receipt: &Receipt) -> Result<Heard, Failure> {
     match number_of(&receipt.reply) {
         Some(number) => Ok(Heard {

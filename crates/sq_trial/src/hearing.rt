@@ -1,23 +1,23 @@
-// What a client of an engine hears: each job is answered once, and each root key's numbers are 1, 2, 3 and so on.
+// What a client of an engine hears: each job is answered once, and the numbers of each root key are
+// 1, 2, 3 and so on.
 use crate::failure::Failure;
 use crate::heard::Heard;
 use crate::plans::{PARTS, ROOTS};
 use std::alloc::Global;
 
-/// What was heard of jobs that each add 1 to the number of their root key, which is 0 at first. Their ids are 0, 1, 2
-/// and so on.
+/// What was heard of jobs, each of which adds 1 to the number of its root key, which begins at 0.
+/// Their ids are 0, 1, 2 and so on.
 #[derive(Drop)]
 pub struct Hearing {
-    // For each id the root key of its job, and the number that it was answered, or 0 before that.
+    // For each id the root key of its job, and the number in the job's answer, or 0 before that.
     asked: Vec<(u64, u64)>,
-    // How many jobs were answered.
     count: u64,
     // The latest number that was heard, by partition and root key.
     latest: Vec<u64>,
 }
 
 impl Hearing {
-    /// What was heard of no jobs.
+    /// A hearing of no jobs. Fails if memory runs out.
     pub fn new(alloc: Global) -> Result<Hearing, Failure> {
         match vec![in alloc; 0; PARTS as usize * ROOTS as usize] {
             Ok(latest) => Ok(Hearing {
@@ -34,7 +34,7 @@ impl Hearing {
         self.count
     }
 
-    /// One more job is asked for, on this root key.
+    /// Records that one more job is asked for, on the root key `root`. Fails if memory runs out.
     pub fn ask(&mut self, root: u64) -> Result<(), Failure> {
         match self.asked.push((root, 0)) {
             Ok(()) => Ok(()),
@@ -42,7 +42,8 @@ impl Hearing {
         }
     }
 
-    /// Hears an answer of a partition: its numbers of a root key come in order.
+    /// Hears an answer of partition `part`. Fails if the numbers of a root key don't rise there, or
+    /// if `hear` does.
     pub fn hear_from(&mut self, part: u8, heard: Heard) -> Result<(), Failure> {
         if heard.root >= ROOTS {
             return Err(Failure::WrongAnswer);
@@ -58,7 +59,8 @@ impl Hearing {
         self.hear(heard)
     }
 
-    /// Hears an answer. Its job wasn't answered before.
+    /// Hears an answer. Fails if its job doesn't exist, was answered before, or is on another root
+    /// key, or if the number is 0.
     pub(crate) fn hear(&mut self, heard: Heard) -> Result<(), Failure> {
         let Some(asked) = self.asked.get_mut(heard.id as usize) else {
             return Err(Failure::NoSuchJob);
@@ -74,7 +76,7 @@ impl Hearing {
         Ok(())
     }
 
-    /// Whether each job was answered, and the numbers of each root key are 1, 2, 3 and so on.
+    /// Fails unless each job was answered, and the numbers of each root key are 1, 2, 3 and so on.
     pub fn judge(self) -> Result<(), Failure> {
         let Hearing {
             mut asked,
@@ -89,7 +91,8 @@ impl Hearing {
     }
 }
 
-// Whether the numbers of each root key are 1, 2, 3 and so on, of pairs in order.
+// Fails unless the numbers of each root key are 1, 2, 3 and so on; `numbers` are sorted pairs of a
+// root key and a number.
 fn judge_numbers(numbers: &[(u64, u64)]) -> Result<(), Failure> {
     let mut last = (0u64, 0u64);
     for (root, number) in numbers {

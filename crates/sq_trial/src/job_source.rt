@@ -1,4 +1,4 @@
-// Jobs at random.
+// Random jobs.
 use crate::dice::Dice;
 use crate::failure::Failure;
 use crate::plans::schema;
@@ -14,7 +14,7 @@ pub struct JobSource {
     schema: Schema,
     dice: Dice,
     workload: Workload,
-    // How many jobs were made.
+    // How many jobs were made so far.
     made: u64,
 }
 
@@ -29,17 +29,17 @@ impl JobSource {
         }
     }
 
-    /// How many jobs were made.
+    /// How many jobs were made so far.
     pub fn made(&self) -> u64 {
         self.made
     }
 
-    /// Whether all jobs were made.
+    /// Returns whether all jobs were made.
     pub fn is_spent(&self) -> bool {
         self.made >= self.workload.jobs
     }
 
-    /// The next job, and its root key.
+    /// The next job, and its root key. Fails if memory runs out.
     pub fn make(&mut self, alloc: Global) -> Result<(Job, u64), Failure> {
         let part = PartId::new(self.dice.below(u64::from(self.workload.parts.max(1))) as u8);
         let root = self.dice.below(self.workload.roots.max(1));

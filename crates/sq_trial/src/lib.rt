@@ -1,5 +1,6 @@
-//! A client of an engine that posts jobs at random and judges all that it hears, and lists of what is done with its engine: it runs,
-//! it serves the client, it goes to plans in one stage and in several, and pages are taken of it.
+//! A client of an engine that posts random jobs and judges all that it hears, and lists of deeds
+//! that are done with its engine: it runs, it serves the client, it moves to plans in one stage and
+//! in several, and pages are taken of it.
 #![tactic(auto)]
 
 mod calls;

@@ -1,4 +1,4 @@
-// Plans between which root keys move, and what an engine opens with.
+// Plans between which root keys move, and the opening of an engine.
 ghost use Rattle.std.specs.Prelude.{◌<◌};
 
 use crate::deed::PlanChoice;
@@ -11,10 +11,9 @@ use std::alloc::{AllocError, Global};
 use std::io;
 use std::io::Write;
 
-/// How many partitions there are.
 pub const PARTS: u8 = 4;
 
-/// How many root keys there are.
+/// How many root keys have rows.
 pub const ROOTS: u64 = 30;
 
 const SPREAD: &[u8] = br#"{"version":2,"partitions":4,"stages":"auto",
@@ -22,14 +21,14 @@ const SPREAD: &[u8] = br#"{"version":2,"partitions":4,"stages":"auto",
 
 const GATHERED: &[u8] = br#"{"version":1,"partitions":4,"ranges":[[0,30,0],[30,4294967296,3]]}"#;
 
-// How a plan with a range for every five root keys begins.
+// How a plan begins that has a range for every five root keys.
 const IN_ONE_STAGE: &[u8] = br#"{"version":2,"partitions":4,"stages":"one","ranges":["#;
 
 const IN_STAGES: &[u8] = br#"{"version":2,"partitions":4,"stages":"auto","ranges":["#;
 
 const RANGE_ROOTS: u64 = 5;
 
-// How many root keys a leaf covers, how many bytes a chunk holds, and how many chunks the queue of a link.
+// A leaf covers one root key, a chunk holds 64 bytes, and the queue of a link one chunk.
 const CONFIG: Config = Config {
     width: 1,
     limit: 64,
@@ -41,7 +40,7 @@ pub(crate) fn schema() -> Schema {
     Schema::new(1).unwrap()
 }
 
-/// The plan that is chosen.
+/// The plan that `choice` names.
 pub(crate) fn plan_of(alloc: Global, choice: PlanChoice) -> Result<Plan, Failure> {
     match choice {
         PlanChoice::Spread => read_plan(alloc, SPREAD),
@@ -50,7 +49,7 @@ pub(crate) fn plan_of(alloc: Global, choice: PlanChoice) -> Result<Plan, Failure
     }
 }
 
-// The plan of a text, which is one.
+// The plan that `text` spells.
 fn read_plan(alloc: Global, text: &[u8]) -> Result<Plan, Failure> {
     match Plan::read(alloc, text) {
         Ok(plan) => Ok(plan),
@@ -79,14 +78,14 @@ fn write_plan(text: &mut Vec<u8>, dice: &mut Dice) -> io::Result<()> {
     text.write_all(b"[30,4294967296,3]]}")
 }
 
-// Writes the range of five root keys that begins there.
+// Writes the range of five root keys that begins at `lo`.
 fn write_range(text: &mut Vec<u8>, lo: u64, part: u64) -> io::Result<()>
     requires { lo < 30 }
 {
     write!(text, "[{lo},{},{part}],", lo + RANGE_ROOTS)
 }
 
-/// Nothing moves at this plan, and each root key has the number 0.
+/// An opening at this plan, at which nothing moves, and each root key has the number 0.
 pub fn opening_at(alloc: Global, choice: PlanChoice) -> Result<Opening, Failure> {
     let old = plan_of(alloc, choice)?;
     let new = plan_of(alloc, choice)?;
@@ -99,7 +98,7 @@ pub fn opening_at(alloc: Global, choice: PlanChoice) -> Result<Opening, Failure>
     }
 }
 
-// A row of each root key.
+// One row for each root key.
 fn rows(alloc: Global) -> Result<Vec<GivenRow>, AllocError> {
     let mut rows = Vec::new(alloc);
     for root in 0..ROOTS {

@@ -1,4 +1,4 @@
-// A client of an engine.
+// A random client of an engine.
 use crate::failure::Failure;
 use crate::heard::heard_in;
 use crate::hearing::Hearing;
@@ -14,20 +14,20 @@ use std::sync::Wait;
 // How many of its jobs may wait for an answer while it is served.
 const AHEAD: u64 = 1_000;
 
-// How often it is asked for a job, one time after another in which it has none and no answer comes, before it takes what is missing
-// for lost.
+// How many calls in a row without a job and without an answer it accepts before it takes the
+// missing answers for lost.
 const PATIENCE: u64 = 100_000;
 
 /// What a client waits for before it ends an epoch.
 #[derive(Clone, Copy, Debug)]
 pub(crate) enum Awaited {
-    /// So many of its jobs are answered.
+    /// This many of its jobs are answered.
     Answers(u64),
-    /// So many of its jobs have come back while it was served, since their queue was full.
+    /// This many of its jobs have come back while it was served, since their queue was full.
     Returns(u64),
 }
 
-/// A client that posts jobs at random, and judges what it hears.
+/// A client that posts random jobs, and judges what it hears.
 #[derive(Drop)]
 pub(crate) struct RandomClient {
     alloc: Global,
@@ -38,16 +38,16 @@ pub(crate) struct RandomClient {
     // How many jobs have come back while it was served.
     returned: u64,
     awaited: Awaited,
-    // How often it was asked in vain since the last answer came.
+    // How many calls in vain there were since the last answer.
     asked_in_vain: u64,
-    // Whether it was served, so that it heard what a page has.
+    // Whether it was served, and so heard the receipts of a page already.
     was_served: bool,
-    // What was wrong first.
+    // The first thing that was wrong.
     failure: Option<Failure>,
 }
 
 impl RandomClient {
-    /// One with these jobs.
+    /// A client with the jobs of `workload`.
     pub(crate) fn new(alloc: Global, workload: Workload) -> Result<RandomClient, Failure> {
         let hearing = Hearing::new(alloc)?;
         Ok(RandomClient {
@@ -75,13 +75,13 @@ impl RandomClient {
         self.hearing.count()
     }
 
-    /// From now on it ends an epoch once it has what it waits for.
+    /// Sets what it waits for: once it has that, it ends an epoch.
     pub(crate) fn wait_for(&mut self, awaited: Awaited) {
         self.awaited = awaited;
         self.asked_in_vain = 0;
     }
 
-    /// Whether it has what it waits for.
+    /// Returns whether it has what it waits for.
     pub(crate) fn has_heard_enough(&self) -> bool {
         match self.awaited {
             Awaited::Answers(answers) => self.hearing.count() >= answers,
@@ -89,7 +89,7 @@ impl RandomClient {
         }
     }
 
-    /// What was wrong so far, if something was.
+    /// Fails with the first thing that was wrong so far.
     pub(crate) fn judge_so_far(&self) -> Result<(), Failure> {
         match self.failure {
             Some(failure) => Err(failure),
@@ -97,12 +97,13 @@ impl RandomClient {
         }
     }
 
-    /// Whether nothing was wrong, and all that was asked for is answered, where this is its engine's outcome.
+    /// Fails if `outcome` does, if anything was wrong so far, or if [`Hearing::judge`] does on what
+    /// was heard.
     pub(crate) fn judge(self, outcome: Result<(), Failure>) -> Result<(), Failure> {
         outcome.and(self.judge_so_far()).and(self.hearing.judge())
     }
 
-    /// Posts so many of its jobs to an engine, as far as there are some and the queues have room for them.
+    /// Posts `count` of its jobs to an engine, or fewer if it has no more or a queue is full.
     pub(crate) fn post<R: Wait>(
         &mut self,
         rt: &R,
@@ -153,7 +154,7 @@ impl RandomClient {
         Ok(Some(job))
     }
 
-    // Keeps a job that came back for want of room.
+    // Keeps a job that came back because its queue was full.
     fn keep(&mut self, job: Job, fault: PostFault) -> Result<(), Failure> {
         if fault != PostFault::QueueFull {
             return Err(Failure::NotPosted);
@@ -162,7 +163,8 @@ impl RandomClient {
         Ok(())
     }
 
-    // Whether as many jobs wait for an answer as may. Where jobs are to come back there is no limit.
+    // Returns whether as many jobs wait for an answer as may. There is no limit if jobs should come
+    // back.
     fn is_far_ahead(&self) -> bool {
         match self.awaited {
             Awaited::Answers(_) => {
@@ -173,7 +175,7 @@ impl RandomClient {
         }
     }
 
-    // What it wants next, where nothing was wrong.
+    // Its next command. Fails if something is wrong.
     fn command(&mut self) -> Result<Command, Failure> {
         let job = if self.is_far_ahead() {
             None
@@ -189,7 +191,7 @@ impl RandomClient {
         }
     }
 
-    // It is asked in vain once more.
+    // Counts one more call in vain.
     fn wait_longer(&mut self) -> Result<(), Failure> {
         self.asked_in_vain = self.asked_in_vain.saturating_add(1);
         if self.asked_in_vain < PATIENCE {
@@ -199,7 +201,7 @@ impl RandomClient {
         }
     }
 
-    // Keeps in mind what was wrong first.
+    // Records the first thing that was wrong.
     fn note(&mut self, outcome: Result<(), Failure>) {
         if let Err(failure) = outcome
             && self.failure.is_none()

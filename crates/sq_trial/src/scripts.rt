@@ -4,8 +4,9 @@ use crate::dice::Dice;
 use crate::failure::Failure;
 use std::alloc::Global;
 
-/// The root keys go from one partition to four, to each of three in a stage of its own, and back in one stage, so many times, while
-/// jobs come. After each move a page is taken, and some more jobs are answered at rest. In the end so many are.
+/// The root keys move from one partition to four, in a stage for each of three, and back in one
+/// stage, `rounds` times, while jobs come. After each move a page is taken, and some more jobs are
+/// answered at rest. In the end `jobs` are answered. Fails if memory runs out.
 pub fn rounds(alloc: Global, rounds: u64, jobs: u64) -> Result<Vec<Deed>, Failure> {
     let mut deeds = Vec::new(alloc);
     let part = jobs / rounds.saturating_mul(2).saturating_add(1);
@@ -20,7 +21,7 @@ pub fn rounds(alloc: Global, rounds: u64, jobs: u64) -> Result<Vec<Deed>, Failur
     Ok(deeds)
 }
 
-// A way there and back: then so many jobs are answered, and then this many more.
+// A move there, until `answers` jobs are answered, and a move back, until `more` further ones are.
 fn add_round(deeds: &mut Vec<Deed>, answers: u64, more: u64) -> Result<(), Failure> {
     add_move(deeds, PlanChoice::Spread, 3)?;
     add(deeds, Deed::ServeUntil(answers))?;
@@ -28,15 +29,16 @@ fn add_round(deeds: &mut Vec<Deed>, answers: u64, more: u64) -> Result<(), Failu
     add(deeds, Deed::ServeUntil(answers.saturating_add(more)))
 }
 
-// A move of so many stages, and a page.
+// A move of `stages` stages, and a page.
 fn add_move(deeds: &mut Vec<Deed>, choice: PlanChoice, stages: u64) -> Result<(), Failure> {
     add(deeds, Deed::GoTo(choice))?;
     add(deeds, Deed::ServeStages(Some(stages)))?;
     add(deeds, Deed::TakePage)
 }
 
-/// So many moves, each to a plan at random, in one stage or in several. Some jobs are answered in each, or meanwhile it ends. After
-/// some of them a page is taken. In the end so many jobs are answered.
+/// Does `moves` moves, each to a random plan, in one stage or in several. Some jobs are answered
+/// during each of them, or it ends before. After some of the moves a page is taken. In the end
+/// `jobs` jobs are answered. Fails if memory runs out.
 pub fn any_moves(alloc: Global, seed: u64, moves: u64, jobs: u64) -> Result<Vec<Deed>, Failure> {
     let mut deeds = Vec::new(alloc);
     let mut dice = Dice::new(seed);
@@ -49,7 +51,7 @@ pub fn any_moves(alloc: Global, seed: u64, moves: u64, jobs: u64) -> Result<Vec<
     Ok(deeds)
 }
 
-// A move to any plan, so many answers, and perhaps a page.
+// A move to any plan, until `answers` jobs are answered, and perhaps a page.
 fn add_any_move(deeds: &mut Vec<Deed>, dice: &mut Dice, answers: u64) -> Result<(), Failure> {
     add(deeds, Deed::GoTo(PlanChoice::Any(dice.below(u64::MAX))))?;
     add(deeds, Deed::ServeUntil(answers))?;
@@ -60,8 +62,9 @@ fn add_any_move(deeds: &mut Vec<Deed>, dice: &mut Dice, answers: u64) -> Result<
     Ok(())
 }
 
-/// So many epochs, with some jobs posted before each; each ends after some turns. Where the engine is at rest then, it
-/// may go to a plan at random, or a page is taken. In the end all are answered.
+/// Runs `epochs` epochs, with some jobs posted before each; each ends after some turns. If the
+/// engine is at rest then, it may move to a random plan, or a page may be taken. In the end all
+/// jobs are answered. Fails if memory runs out.
 pub fn any_epochs(alloc: Global, seed: u64, epochs: u64) -> Result<Vec<Deed>, Failure> {
     let mut deeds = Vec::new(alloc);
     let mut dice = Dice::new(seed);
@@ -72,7 +75,7 @@ pub fn any_epochs(alloc: Global, seed: u64, epochs: u64) -> Result<Vec<Deed>, Fa
     Ok(deeds)
 }
 
-// Some jobs, an epoch of some turns, and perhaps a step at rest.
+// Some jobs, an epoch of some turns, and perhaps a deed at rest.
 fn add_epoch(deeds: &mut Vec<Deed>, dice: &mut Dice) -> Result<(), Failure> {
     add(deeds, Deed::Post(dice.below(50)))?;
     add(deeds, Deed::Run(dice.below(64)))?;
@@ -83,7 +86,7 @@ fn add_epoch(deeds: &mut Vec<Deed>, dice: &mut Dice) -> Result<(), Failure> {
     }
 }
 
-// One more deed.
+// Adds one more deed.
 fn add(deeds: &mut Vec<Deed>, deed: Deed) -> Result<(), Failure> {
     match deeds.push(deed) {
         Ok(()) => Ok(()),

@@ -1,19 +1,18 @@
-// What is done with an engine, one deed after another. The engine may be of any type, so that no function here has a large one at
-// hand.
+// Deeds that are done with an engine, one after another. The engine's type is a parameter, so that
+// no function here handles a large one.
 use crate::deed::{Deed, EngineCall};
 use crate::failure::Failure;
 use crate::random_client::{Awaited, RandomClient};
 
-// More epochs than a client is served at a time.
+// More epochs than any deed takes.
 const EPOCHS: u64 = 100_000;
 
 // How many jobs are posted as a stage begins.
 const STAGE_JOBS: u64 = 10;
 
-/// How an engine rests.
+/// Whether an engine rests.
 #[derive(Clone, Copy, Debug, PartialEq, Eq)]
 pub(crate) enum Rest {
-    /// Rows move.
     Moving,
     /// Nothing moves.
     AtRest,
@@ -21,14 +20,14 @@ pub(crate) enum Rest {
     LongLog,
 }
 
-/// An engine that is tried, and how it rests.
+/// An engine on trial, and how it rests.
 #[derive(Drop)]
 pub(crate) struct Tried<E> {
     pub(crate) engine: E,
     pub(crate) rest: Rest,
 }
 
-/// Does one deed after another with an engine, whose calls are made so.
+/// Does `deeds` with an engine, one after another; `make` makes a call of it.
 pub(crate) fn do_deeds<E, F>(
     make: &F,
     tried: Tried<E>,
@@ -47,7 +46,6 @@ where
     Ok(tried)
 }
 
-// Does a deed.
 fn do_deed<E, F>(
     make: &F,
     tried: Tried<E>,
@@ -79,12 +77,12 @@ where
     }
 }
 
-// What has to be so, or else what is wrong.
+// Fails with `failure` unless `is_so`.
 fn check(is_so: bool, failure: Failure) -> Result<(), Failure> {
     if is_so { Ok(()) } else { Err(failure) }
 }
 
-// Makes a call where the engine is at rest.
+// Makes a call if the engine is at rest.
 fn call_at_rest<E, F>(
     make: &F,
     tried: Tried<E>,
@@ -125,7 +123,7 @@ where
     Ok(tried)
 }
 
-// Serves a client for an epoch, and takes a page where the engine wants one.
+// Serves a client for an epoch, and takes a page if the engine wants one.
 fn serve<E, F>(make: &F, tried: Tried<E>, client: &mut RandomClient) -> Result<Tried<E>, Failure>
 where
     E: Drop,
@@ -140,7 +138,8 @@ where
     }
 }
 
-// Serves a client until nothing moves: an epoch for each stage, and there are as many as are wanted.
+// Serves a client until nothing moves, one epoch per stage. Fails if the number of stages isn't
+// `wanted`.
 fn serve_stages<E, F>(
     make: &F,
     tried: Tried<E>,
@@ -186,7 +185,7 @@ where
     Ok(tried)
 }
 
-// Posts jobs and runs until nothing moves, and once more.
+// Posts jobs and runs until nothing moves, and then once more.
 fn run_to_end<E, F>(
     make: &F,
     tried: Tried<E>,
@@ -207,7 +206,8 @@ where
     post_and_run(make, tried, client)
 }
 
-// Posts the jobs that are left, as far as the queues have room for them, and runs until the workers are idle.
+// Posts the jobs that are left, as long as the queues have room for them, and runs until the
+// workers are idle.
 fn post_and_run<E, F>(
     make: &F,
     tried: Tried<E>,

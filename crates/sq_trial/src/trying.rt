@@ -10,9 +10,10 @@ use std::alloc::Global;
 use std::sync::Wait;
 use std::thread::Threads;
 
-/// Opens an engine at rest, does these deeds with it while a client has these jobs, and closes it. Nothing is wrong
-/// with what the client hears: each job that was posted is answered once, the numbers of each root key are 1, 2, 3
-/// and so on, those from one partition are in order, and each page is sound.
+/// Opens an engine at rest with the plan `choice`, does `deeds` with it while a client has the jobs
+/// of `workload`, and closes it. Fails if the client hears anything wrong: each job that was posted
+/// is answered once, the numbers of each root key are 1, 2, 3 and so on, those from one partition
+/// are in order, and each page is sound.
 pub fn try_engine<R: Threads + Wait + Sync>(
     rt: &R,
     alloc: Global,
@@ -25,7 +26,7 @@ pub fn try_engine<R: Threads + Wait + Sync>(
     client.judge(outcome)
 }
 
-// The same, with this client.
+// The same with `client`.
 fn open_and_close<R: Threads + Wait + Sync>(
     rt: &R,
     alloc: Global,

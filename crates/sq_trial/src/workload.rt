@@ -1,7 +1,7 @@
-// Which jobs a client has.
+// The jobs of a client.
 
-/// Which jobs a client has: so many, at random by a seed, each to one of the first partitions, on one of the first root keys. Each
-/// adds 1 to the number of its root key.
+/// The jobs of a client: `jobs` of them, random by `seed`, each to one of the first `parts`
+/// partitions, on one of the first `roots` root keys. Each adds 1 to the number of its root key.
 #[derive(Clone, Copy, Debug)]
 pub struct Workload {
     pub seed: u64,

@@ -16,12 +16,12 @@ const REST: u64 = 1_000;
 const COST: u64 = 100;
 
 // How many jobs come one by one, how many milliseconds after the answer to the one before, and within how many half of them have to be
-// answered.
+// answered. A node that isn't woken sleeps for 50, so that half would take 25 or more.
 const JOBS: u64 = 100;
 
 const PAUSE: u64 = 5;
 
-const SOON: u64 = 5;
+const SOON: u64 = 15;
 
 // An engine at rest, whose root keys are spread over its partitions.
 fn opened<R: Threads + Abort + Sync>(rt: &R, alloc: Global) -> Engine {

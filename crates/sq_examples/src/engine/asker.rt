@@ -1,4 +1,4 @@
-// Threads that have jobs answered.
+// Threads that post jobs and count the answers.
 use crossbeam_channel::{Receiver, Sender};
 use sq_audit::Job;
 use sq_node::Receipt;
@@ -8,10 +8,10 @@ use std::alloc::Global;
 use std::ops::Range;
 use std::sync::Wait;
 
-/// How many jobs a thread makes.
+/// How many jobs a thread creates.
 pub(crate) const JOBS: u64 = 1_000;
 
-/// A thread that hands in jobs, and counts their answers.
+/// A thread that posts jobs, and counts their answers.
 #[derive(Drop)]
 pub(crate) struct Asker {
     schema: Schema,
@@ -21,7 +21,8 @@ pub(crate) struct Asker {
 }
 
 impl Asker {
-    /// It has jobs of these ids, sends them over the one channel, and gets their answers over the other.
+    /// Returns a thread with jobs of these ids, which sends them over `jobs` and receives their
+    /// answers over `answers`.
     pub(crate) fn new(
         schema: Schema,
         ids: Range<u64>,
@@ -36,7 +37,7 @@ impl Asker {
         }
     }
 
-    /// Makes its jobs, hands them in, and counts their answers until no more can come.
+    /// Creates its jobs, sends them, and counts their answers until no more can arrive.
     pub(crate) fn ask<R: Wait>(self, rt: &R, alloc: Global) -> u64 {
         let Asker {
             schema,
@@ -53,7 +54,8 @@ impl Asker {
     }
 }
 
-// A job that adds 1 to the number of one of ten root keys. It is posted to partition 0, wherever the root key is.
+// Returns a job that adds 1 to the number of one of ten root keys. It is posted to partition 0,
+// wherever the root key is.
 fn make_job(alloc: Global, schema: Schema, id: u64) -> Option<Job> {
     let row = RowKey { table: 0, sub: 0 };
     let ops = vec![in alloc; Op::Add(row, 1)].ok()?;

@@ -9,22 +9,23 @@ use sq_schema::Schema;
 use std::alloc::Global;
 use std::sync::Wait;
 
-/// The client of the engine: it posts the jobs that two threads hand in, and sends each thread its answers.
+/// The client of the engine: it posts the jobs that two threads send, and sends each thread its
+/// answers.
 #[derive(Drop)]
 pub(crate) struct Broker<'a, R: Wait> {
     rt: &'a R,
     jobs: Receiver<Job>,
     first: Sender<Receipt>,
     second: Sender<Receipt>,
-    // A job that came back, to be posted again.
+    // A job that was returned, to be posted again.
     again: Option<Job>,
-    // How many jobs are done, and with how many an epoch ends.
+    // How many jobs are done, and how many end an epoch.
     done: u64,
     enough: u64,
 }
 
 impl<'a, R: Wait> Broker<'a, R> {
-    /// A broker and the two threads that it serves. `None` where there is no memory.
+    /// Returns a broker and the two threads that it serves, or `None` if memory runs out.
     pub(crate) fn open(
         rt: &'a R,
         alloc: Global,
@@ -48,7 +49,7 @@ impl<'a, R: Wait> Broker<'a, R> {
         Some((broker, first, second))
     }
 
-    /// From now on an epoch ends once so many jobs are done.
+    /// From now on an epoch ends once `jobs` jobs are done.
     pub(crate) fn end_after(&mut self, jobs: u64) {
         self.enough = jobs;
     }

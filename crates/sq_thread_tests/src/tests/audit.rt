@@ -7,8 +7,8 @@ use sq_audit::{Job, Verdict, audit};
 use sq_gather::Gathered;
 use sq_node::Receipt;
 use sq_ranges::Extent;
-use sq_runs::RunStore;
 use sq_schema::{Family, Root, Row, RowKey, Rows};
+use sq_slab::SlabStore;
 use sq_store::{FamilyStore, StoreAnswer, StoreCommand, run_store};
 use std::alloc::Global;
 use std::process::Abort;
@@ -57,7 +57,7 @@ fn opened<R: Abort>(rt: &R, alloc: Global, number: i64) -> Family {
 }
 
 // Takes the family of root key 5 out of the store of partition 0.
-fn take_family<R: Abort>(rt: &R, stores: &mut [RunStore]) -> Family {
+fn take_family<R: Abort>(rt: &R, stores: &mut [SlabStore]) -> Family {
     let Some(store) = stores.first_mut() else {
         rt.panic("no store")
     };
@@ -70,7 +70,7 @@ fn take_family<R: Abort>(rt: &R, stores: &mut [RunStore]) -> Family {
 fn put_family<R: Abort>(
     rt: &R,
     alloc: Global,
-    stores: &mut [RunStore],
+    stores: &mut [SlabStore],
     part: usize,
     family: Family,
 ) {

@@ -1,8 +1,8 @@
 // Four partitions; each gives its five root keys to the next one, with all workers at once.
 use super::run::TestRun;
 use sq_driver::OpenGate;
-use sq_runs::RunStore;
 use sq_schema::{Root, RowKey};
+use sq_slab::SlabStore;
 use sq_store::FamilyStore;
 use std::alloc::Global;
 use std::process::Abort;
@@ -49,14 +49,14 @@ fn worked<R: Threads + Wait + Abort + Sync>(rt: &R, alloc: Global) -> TestRun {
 }
 
 // The number of a root key, and how many transactions are in its log, where a store has it.
-fn number_and_log(store: &RunStore, key: u64) -> Option<(i64, usize)> {
+fn number_and_log(store: &SlabStore, key: u64) -> Option<(i64, usize)> {
     let family = store.get(Root::new(key)?)?;
     let row = family.rows().get(RowKey::ROOT)?;
     Some((row.number(), family.log().len()))
 }
 
 // How many root keys have the number 10 and ten transactions in their log at their new owner, the partition behind the old one.
-fn count_moved(stores: &[RunStore]) -> usize {
+fn count_moved(stores: &[SlabStore]) -> usize {
     let mut count = 0_usize;
     for key in 0..20_u64 {
         let home = (key as usize / 5 + 1) % 4;

@@ -168,7 +168,7 @@ impl TestRun {
         self.fabric.is_answered()
     }
 
-    /// Sends what is pending at the node of a partition, and makes each of its steps once.
+    /// A turn of the node of a partition.
     pub fn turn<R: Wait + Abort>(&mut self, rt: &R, part: usize) {
         assert!(rt; part < self.nodes.len(), "no such partition");
         turn_once(rt, &self.fabric, &mut self.nodes[part]);
@@ -298,14 +298,13 @@ fn are_commits(receipts: &[Receipt]) -> bool {
     true
 }
 
-// Sends what is pending at a node, and makes each of its steps once.
+// A turn of a node.
 fn turn_once<R: Wait>(rt: &R, fabric: &Fabric, node: &mut Node)
     requires { IsNodeOf fabric.now node.old }
     ensures of { IsNodeOf fabric.now node.new }
     ensures part { node.new.core.part ≡ node.old.core.part }
 {
-    node.send_pending(rt, fabric);
-    make_steps(rt, fabric, node);
+    node.turn(rt, fabric);
 }
 
 // Makes each step of a node once.

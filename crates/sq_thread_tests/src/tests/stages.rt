@@ -8,8 +8,8 @@ use super::run::{TestRun, job, read_opening, work_to_end};
 use sq_driver::OpenGate;
 use sq_node::{Fabric, RunParts};
 use sq_ranges::Opening;
-use sq_runs::RunStore;
 use sq_schema::Txn;
+use sq_slab::SlabStore;
 use std::alloc::{AllocError, Global};
 use std::process::Abort;
 use std::test::Fail;
@@ -24,15 +24,15 @@ fn many_left<R: Abort>(rt: &R, alloc: Global) -> Result<Vec<Vec<Txn>>, AllocErro
 }
 
 // The families of each of two partitions, which have none.
-fn no_families(alloc: Global) -> Result<Vec<RunStore>, AllocError> {
-    Ok(vec![in alloc; RunStore::new(alloc), RunStore::new(alloc)]?)
+fn no_families(alloc: Global) -> Result<Vec<SlabStore>, AllocError> {
+    Ok(vec![in alloc; SlabStore::new(alloc), SlabStore::new(alloc)]?)
 }
 
 // The stage of an opening that continues with these, with one pump.
 fn begun(
     alloc: Global,
     opening: &Opening,
-    stores: Vec<RunStore>,
+    stores: Vec<SlabStore>,
     left: Vec<Vec<Txn>>,
 ) -> Result<RunParts, Fail>
     ensures nodes { IfOk result (λ stage. All (IsNodeOf stage.fabric) stage.nodes.items) }

@@ -3,7 +3,7 @@ use sq_gather::{ClosedLink, Gathered};
 use sq_model::Answer;
 use sq_node::Receipt;
 use sq_plan::PartId;
-use sq_runs::RunStore;
+use sq_slab::SlabStore;
 use sq_store::FamilyStore;
 use sq_text::{WriteFault, write_answer, write_at, write_way};
 use sq_tree::{NODES, NodeId, Status};
@@ -40,7 +40,7 @@ fn write_gathered(text: &mut Vec<u8>, gathered: &Gathered) -> Result<(), WriteFa
 }
 
 // The families of each partition.
-fn write_stores(text: &mut Vec<u8>, stores: &[RunStore]) -> Result<(), WriteFault> {
+fn write_stores(text: &mut Vec<u8>, stores: &[SlabStore]) -> Result<(), WriteFault> {
     for (part, store) in (0..u8::MAX).zip(stores) {
         write_store(text, PartId::new(part), store)?;
     }
@@ -48,7 +48,7 @@ fn write_stores(text: &mut Vec<u8>, stores: &[RunStore]) -> Result<(), WriteFaul
 }
 
 // The families of a partition, as a dump has them.
-fn write_store(text: &mut Vec<u8>, part: PartId, store: &RunStore) -> Result<(), WriteFault> {
+fn write_store(text: &mut Vec<u8>, part: PartId, store: &SlabStore) -> Result<(), WriteFault> {
     let mut at = 0;
     for _family in 0..store.len() {
         // There are as many as are counted.
