@@ -18,7 +18,7 @@ top=$(dirname "$tests")
 examples=$top/examples
 
 # What is tried without a case, since it needs more than words and an input: each KIND by try_KIND in tests/run.sh.
-kinds='numbers plans pairs helps streams late_write memory threads session header_session terminal reports results serve pumps again rounds steps demo'
+kinds='numbers plans pairs helps tools streams late_write memory threads session header_session terminal reports results serve pumps again rounds steps demo'
 
 # --- cases ---
 

@@ -116,6 +116,38 @@ try_helps() {
     count columns_of_the_help "$(awk 'length > 80' "$room/help" | head -n 1; [ "$count" -ge 8 ] || echo "$count subcommands")"
 }
 
+# What tools/ makes of the help texts: the manual page has each subcommand with its options, and bash completes them.
+try_tools() {
+    local word
+    bash "$top/tools/manual.sh" "$squall" > "$room/manual"
+    bash "$top/tools/completions.sh" "$squall" > "$room/completions"
+    give /dev/null help
+    for word in $(sed -n '/^Commands:$/,/^$/s/^  \([a-z]*\) .*/\1/p' "$room/out" | grep -vx help); do
+        give /dev/null help "$word"
+        sed -n '/^Options:$/,/^$/s/^  \(    \|-., \)\(--[a-z-]*\).*/\2/p' "$room/out" > "$room/wanted"
+        sed -n "/^\.SS squall $word\$/,/^\.SS /s/^\.B \(\\\\-., \)*\(\\\\-\\\\-[a-z\\-]*\).*/\2/p" "$room/manual" | tr -d '\\' > "$room/got"
+        count "manual page of $word" "$(difference "$room/wanted" "$room/got"; [ -s "$room/got" ] || echo none)"
+        count "completions of $word" "$(completed "$word" -- > "$room/got"; difference "$room/wanted" "$room/got")"
+    done
+    count 'completion of a subcommand' "$(completed ru | grep -vx run; completed help ru | grep -vx run)"
+    count 'completion of a number' "$(completed live --pumps ''; completed explain '')"
+    count 'completion of a file' "$(completed live --old '' | grep -vx -e '-o default'; completed run x | grep -vx -e '-o default')"
+    count 'completion of a folder' "$(completed demo --stages x | grep -vx -e '-o dirnames')"
+}
+
+# completed WORD..: what bash completes behind the name of the program, or by which option it takes the names of files.
+completed() {
+    (
+        compopt() { COMPREPLY=("$*"); }
+        # shellcheck disable=SC1091
+        . "$room/completions"
+        # shellcheck disable=SC2034
+        COMP_WORDS=(squall "$@") COMP_CWORD=$#
+        _squall
+        if [ ${#COMPREPLY[@]} != 0 ]; then printf '%s\n' "${COMPREPLY[@]}"; fi
+    )
+}
+
 # An input without end ends the run, a directory can't be read, and a full device can't be written.
 try_streams() {
     local four_keys=$tests/cases/run/moves_four_keys/in jobs=$tests/cases/live/move_without_jobs/in
