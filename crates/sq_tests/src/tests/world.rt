@@ -70,10 +70,11 @@ fn run_plainly<R: Read, W: Write>(
     run(alloc, reader, writer, manner, &mut None)
 }
 
-// A writer that takes three bytes a call, and fails after this many calls.
+// A writer that takes at most `most` bytes a call, and fails after `calls` calls.
 #[derive(Drop)]
 struct Narrow {
     got: Vec<u8>,
+    most: usize,
     calls: usize,
 }
 
@@ -91,7 +92,7 @@ impl Narrow {
 impl Write for Narrow {
     fn write(&mut self, buf: &[u8]) -> io::Result<usize> {
         self.call()?;
-        let taken = buf.len().min(3);
+        let taken = buf.len().min(self.most);
         self.got.extend_from_slice(&buf[..taken])?;
         Ok(taken)
     }
@@ -111,6 +112,7 @@ fn short_reads_and_writes(rt: HostRuntime) -> Result<(), Fail> {
         };
         let mut writer = Narrow {
             got: Vec::new(rt.alloc()),
+            most: 3,
             calls: OUTPUT.len() * 2,
         };
         let ending = run_plainly(rt.alloc(), &mut reader, &mut writer)?;
@@ -259,15 +261,19 @@ fn readers_that_fail_in_a_script(rt: HostRuntime) -> Result<(), Fail> {
     Ok(())
 }
 
-// A header that isn't complete has the fault alone.
+// A header that isn't complete has the fault alone. The read fails before and after the end of each line, and at every sixteenth
+// byte.
 #[test]
 fn readers_that_fail_in_a_header(rt: HostRuntime) -> Result<(), Fail> {
     for length in 0..HEADER.len() {
-        let (output, ending) = run_failing(rt.alloc(), &HEADER[..length], 7)?;
-        assert!(rt;
-            ending.status() == 2 && output.as_slice() == b"fault 123\n".as_slice(),
-            "after {length}"
-        );
+        let ends = HEADER[length] == b'\n' || HEADER[length.saturating_sub(1)] == b'\n';
+        if ends || length % 16 == 0 {
+            let (output, ending) = run_failing(rt.alloc(), &HEADER[..length], 7)?;
+            assert!(rt;
+                ending.status() == 2 && output.as_slice() == b"fault 123\n".as_slice(),
+                "after {length}"
+            );
+        }
     }
     Ok(())
 }
@@ -285,14 +291,16 @@ fn readers_without_end(rt: HostRuntime) -> Result<(), Fail> {
     Ok(())
 }
 
-// How a run through a writer ends that fails after this many calls, and what the writer got.
+// How a run ends through a writer that takes at most `most` bytes a call and fails after `calls` calls, and what the writer got.
 fn run_narrowly(
     alloc: Global,
     mut input: &[u8],
+    most: usize,
     calls: usize,
 ) -> (Result<Ending, WriteFault>, Vec<u8>) {
     let mut writer = Narrow {
         got: Vec::new(alloc),
+        most,
         calls,
     };
     let ending = run_plainly(alloc, &mut input, &mut writer);
@@ -300,41 +308,51 @@ fn run_narrowly(
 }
 
 // Whether it fails, and the writer got the first of what is written otherwise.
-fn fails_narrowly(alloc: Global, input: &[u8], calls: usize, output: &[u8]) -> bool {
-    let (ending, got) = run_narrowly(alloc, input, calls);
+fn fails_narrowly(alloc: Global, input: &[u8], most: usize, calls: usize, output: &[u8]) -> bool {
+    let (ending, got) = run_narrowly(alloc, input, most, calls);
     ending == Err(WriteFault) && output.starts_with(&got)
 }
 
-// Each call that fails ends the run.
+// A call that fails ends the run, also in the middle of a text. Tries each call of a fault, and every seventh of a script's answers.
 #[test]
 fn writers_that_fail(rt: HostRuntime) {
     let fault = b"fault 101\n".as_slice();
     for calls in 0..5 {
         assert!(rt;
-            fails_narrowly(rt.alloc(), b"old {\n", calls, fault),
+            fails_narrowly(rt.alloc(), b"old {\n", 3, calls, fault),
             "after {calls}"
         );
     }
-    let (ending, got) = run_narrowly(rt.alloc(), b"old {\n", 5);
+    let (ending, got) = run_narrowly(rt.alloc(), b"old {\n", 3, 5);
     assert!(rt; ending.is_ok() && got.as_slice() == fault);
     for calls in 0..100 {
-        assert!(rt;
-            fails_narrowly(rt.alloc(), INPUT, calls, OUTPUT),
-            "after {calls}"
-        );
+        if calls % 7 == 0 {
+            assert!(rt;
+                fails_narrowly(rt.alloc(), INPUT, 3, calls, OUTPUT),
+                "after {calls}"
+            );
+        }
     }
     assert!(rt; WriteFault.number() == 124);
 }
 
-// The same of each call of a run, up to the first that needs no more calls.
+// The first step of the script, and what is written for the header with it.
+const STEP: &[u8] = b"prepare 0\n";
+
+const ANSWER: &[u8] = b"ok
+end preparing
+at 0 5 0 0.0=10/-
+";
+
+// Each call that a run makes of a writer that takes all that it is given fails once.
 #[test]
 fn writers_that_fail_at_each_call(rt: HostRuntime) -> Result<(), Fail> {
     let alloc = rt.alloc();
-    let input = input_of(alloc, SCRIPT)?;
+    let input = input_of(alloc, STEP)?;
     for calls in 0..100 {
-        if !fails_narrowly(alloc, &input, calls, ANSWERS) {
-            let (ending, got) = run_narrowly(alloc, &input, calls);
-            assert!(rt; ending == Ok(Ending::Done) && got.as_slice() == ANSWERS);
+        if !fails_narrowly(alloc, &input, usize::MAX, calls, ANSWER) {
+            let (ending, got) = run_narrowly(alloc, &input, usize::MAX, calls);
+            assert!(rt; ending == Ok(Ending::Done) && got.as_slice() == ANSWER);
             return Ok(());
         }
     }
