@@ -1,5 +1,5 @@
 // Families: the rows of a root key, with the transactions that led to them.
-ghost use Rattle.std.specs.Prelude.{◌≡◌, ◌<◌, ◌≤◌, ◌↔◌, true, [], ◌∷◌, length, IfOk, IfErr, OnErr, IsErrOf, IsTrue};
+ghost use Rattle.std.specs.Prelude.{◌≡◌, ◌<◌, ◌≤◌, ◌↔◌, true, [], ◌∷◌, length, vec_len, vec_capacity, IfOk, IfErr, OnOk, OnErr, IsErrOf, IsTrue};
 ghost use Rattle.std.specs.List.{All};
 ghost use Rattle.sq_schema.specs.Effect.{reply};
 ghost use Rattle.sq_rows.specs.Sizes.{rows_size};
@@ -12,7 +12,7 @@ use crate::pending::{RunOutcome, Stop, run};
 use crate::root::Root;
 use crate::txn::{Op, OpAnswers, Reply, Txn};
 use sq_rows::{Rows, ShortList};
-use std::alloc::Global;
+use std::alloc::{AllocError, Global};
 use std::marker::Model;
 
 /// The most transactions that a log holds.
@@ -91,7 +91,7 @@ impl Family {
         } = run(alloc, self.rows.rows(), txn.ops())?;
         if let Reply::Committed(_) = reply {
             let entry = txn.clone()?;
-            self.log.reserve(1)?;
+            make_room(&mut self.log)?;
             self.rows.write_all(alloc, writes, size)?;
             self.log.push_reserved(entry);
         }
@@ -110,7 +110,7 @@ impl Family {
     {
         let alloc = *self.log.allocator();
         let copy = txn.clone()?;
-        self.log.reserve(1)?;
+        make_room(&mut self.log)?;
         match self.rows.run_one(alloc, op) {
             Ok(answer) => {
                 self.log.push_reserved(copy);
@@ -174,4 +174,17 @@ impl Family {
     {
         !self.base().is_empty() || !self.log.is_empty()
     }
+}
+
+// Allocates room for one more transaction in `log`. A log grows by half, and not by doubling, since
+// most logs stay short.
+fn make_room(log: &mut Vec<Txn>) -> Result<(), AllocError>
+    ensures items { log.new.items ≡ log.old.items }
+    ensures room { OnOk result (vec_len log.new < vec_capacity log.new) }
+{
+    let len = log.len();
+    if len == log.capacity() {
+        log.reserve_exact(len / 2 + 1)?;
+    }
+    Ok(())
 }

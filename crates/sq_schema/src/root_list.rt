@@ -1,5 +1,5 @@
 // The rows of a database in memory, by root key.
-ghost use Rattle.std.specs.Prelude.{◌≡◌, ◌≤◌, ◌==◌, ◌&&◌, not, true, nat_le, nat_lt, [], length, filter, is_some, Some, None, IfOk, IfErr, OnOk, OnErr};
+ghost use Rattle.std.specs.Prelude.{◌≡◌, ◌≤◌, ◌==◌, ◌&&◌, ◌++◌, ◌∷◌, not, true, nat_le, nat_lt, [], length, filter, is_some, Some, None, IfOk, IfErr, IfSome, IfNone, OnOk, OnErr};
 ghost use Rattle.std.specs.List.{AllPass};
 ghost use Rattle.std.specs.Option.{option_copied};
 ghost use Rattle.std.specs.Ordering.{nat_cmp};
@@ -148,6 +148,19 @@ impl RootList {
                 Some(rows) => take(rows, key, row),
                 None => Err(NotExtended::NoRows(row)),
             },
+        }
+    }
+
+    /// Removes the greatest root key and returns it with its rows; `None` if there is none.
+    pub(crate) fn pop(&mut self) -> Option<(Root, Rows)>
+        ensures last { IfSome result (λ entry.
+            table_of self.old ≡ table_of self.new ++ entry ∷ []) }
+        ensures none { IfNone result (table_of self.old ≡ []) }
+        ensures kept { IfNone result (table_of self.new ≡ table_of self.old) }
+    {
+        match self {
+            RootList::Listed(rows) => rows.pop(),
+            RootList::Mapped(rows) => rows.pop_last(),
         }
     }
 

@@ -1,5 +1,5 @@
 // Tables without partitions.
-ghost use Rattle.std.specs.Prelude.{◌≡◌, ◌==◌, nat_le, nat_lt, ℕ, true, [], None, length, filter, MatchResult, IfErr, IfSome, IsSome, OnOk, OnErr};
+ghost use Rattle.std.specs.Prelude.{◌≡◌, ◌==◌, ◌++◌, ◌∷◌, nat_le, nat_lt, ℕ, true, [], None, length, filter, MatchResult, IfErr, IfSome, IfNone, IsSome, OnOk, OnErr};
 ghost use Rattle.std.specs.List.{AllPass};
 ghost use Rattle.std.specs.Option.{option_copied};
 ghost use Rattle.std.specs.Ordering.{nat_cmp};
@@ -180,6 +180,16 @@ impl Table {
     {
         self.rows.put(root, rows)?;
         Ok(())
+    }
+
+    /// Removes the greatest root key that has rows, and returns it with them; `None` if there is
+    /// none. It takes no memory.
+    pub fn pop(&mut self) -> Option<(Root, Rows)>
+        ensures last { IfSome result (λ entry. self.old ≡ self.new ++ entry ∷ []) }
+        ensures opening { IfSome result (λ entry. is_opening entry.1 ≡ true) }
+        ensures none { IfNone result (self.old ≡ []) }
+    {
+        self.rows.pop()
     }
 
     /// Returns the number of root keys that have rows.
