@@ -1,11 +1,11 @@
 -- Tables as functions of the root key.
-use Rattle.std.proofs.Common.{◌≡◌, ℕ, Bool, true, false, cond, not, ◌==◌, ◌&&◌, [], ◌∷◌, length, is_some, arith, Some, None, Option, Result, Ok, Err, OnOk, OnErr, IfSome, unwrap_or, if◌then◌else◌, inl, inr, refl, sym, ap, subst, ◌∙◌}
+use Rattle.std.proofs.Common.{◌≡◌, ℕ, Bool, true, false, cond, not, ◌==◌, ◌&&◌, [], ◌∷◌, ◌++◌, length, is_some, arith, Some, None, Option, Result, Ok, Err, OnOk, OnErr, IfSome, IfNone, unwrap_or, if◌then◌else◌, inl, inr, refl, sym, ap, subst, ◌∙◌}
 use Rattle.std.specs.declared.cmp.Ordering.TheVariants.{Less, Equal, Greater}
 use Rattle.std.specs.BTreeMap.{is_at, insert_entry}
 use Rattle.std.specs.List.{All}
 use Rattle.std.specs.Map.{lookup, set_value, remove_entry}
 use Rattle.std.specs.Ordering.{nat_cmp, is_lt, eq_by_cmp, match_ordering}
-use Rattle.std.specs.FinMap.Entries.{find, find-put, put, by_order, is_sorted-put}
+use Rattle.std.specs.FinMap.Entries.{find, find-put, put, by_order, below_all, is_sorted, is_sorted-put}
 use Rattle.std.proofs.lemmas.Bool.{and_from, and_parts, cases_eq, ne_eqb}
 use Rattle.std.proofs.lemmas.Bool.Decides.{nat_tests}
 use Rattle.std.proofs.lemmas.Cmp.{nat_cmp_total, eq_by_cmp_equiv}
@@ -164,3 +164,28 @@ pub IsTable-row : {A E : Type 0} (r : Result A E) (old now : TableValue) (root :
 IsTable-row (Ok x) old now root key row is given ok err =
     subst IsTable (sym ok) (IsTable-put old root (with_row (rows_in old root) key row) (is_opening-with_row (rows_in old root) key row given (is_rooted-rows_in old root is.opening)) is)
 IsTable-row (Err e) old now root key row is given ok err = subst IsTable (sym err) is
+
+-- a table without its last root key
+below_before : (key : ℕ) (table : TableValue) (last : ℕ × RowList) → below_all nat_cmp key (table ++ last ∷ []) ≡ true → below_all nat_cmp key table ≡ true
+below_before key [] last below = refl
+below_before key (entry ∷ table) last below =
+    let parts = and_parts (is_lt (nat_cmp key entry.0)) (below_all nat_cmp key (table ++ last ∷ [])) below in
+    and_from (is_lt (nat_cmp key entry.0)) (below_all nat_cmp key table) parts.0 (below_before key table last parts.1)
+
+rising_before : (table : TableValue) (last : ℕ × RowList) → is_sorted nat_cmp (table ++ last ∷ []) ≡ true → is_sorted nat_cmp table ≡ true
+rising_before [] last rising = refl
+rising_before (entry ∷ table) last rising =
+    let parts = and_parts (below_all nat_cmp entry.0 (table ++ last ∷ [])) (is_sorted nat_cmp (table ++ last ∷ [])) rising in
+    and_from (below_all nat_cmp entry.0 table) (is_sorted nat_cmp table) (below_before entry.0 table last parts.0) (rising_before table last parts.1)
+
+opening_parts : (table : TableValue) (last : ℕ × RowList) → All (λ entry. is_opening entry.1 ≡ true) (table ++ last ∷ []) → All (λ entry. is_opening entry.1 ≡ true) table × (is_opening last.1 ≡ true)
+opening_parts [] last all = (All-nil (λ (entry : ℕ × RowList). is_opening entry.1 ≡ true), All-head (λ e. is_opening e.1 ≡ true) last [] all)
+opening_parts (entry ∷ table) last all =
+    let rest = opening_parts table last (All-tail (λ e. is_opening e.1 ≡ true) entry (table ++ last ∷ []) all) in
+    (All-cons (λ e. is_opening e.1 ≡ true) entry table (All-head (λ e. is_opening e.1 ≡ true) entry (table ++ last ∷ []) all) rest.0, rest.1)
+
+pub IsTable-popped : (popped : Option (ℕ × RowList)) (old now : TableValue) → IsTable old → IfSome popped (λ entry. old ≡ now ++ entry ∷ []) → IfNone popped (now ≡ old) → IsTable now × IfSome popped (λ entry. is_opening entry.1 ≡ true)
+IsTable-popped None old now is some none = (subst IsTable (sym none) is, tt)
+IsTable-popped (Some entry) old now is some none =
+    let all = opening_parts now entry (subst (All (λ e. is_opening e.1 ≡ true)) some is.opening) in
+    (record { opening = all.0; rising = rising_before now entry (sym (ap (is_sorted nat_cmp) some) ∙ is.rising) }, all.1)
