@@ -5,6 +5,7 @@ use Rattle.std.proofs.lemmas.Bool.{cases_lt}
 use Rattle.std.proofs.lemmas.List.{length-set, length-map, map-set, map-append}
 use Rattle.std.proofs.lemmas.Option.{same_Some, none-some, slice_get_within}
 use Rattle.sq_ranges.specs.declared.opening.TheConstants.{MAX_WAITING}
+use Rattle.sq_node.specs.declared.fabric.TheConstants.{JOB_PLACES}
 use Rattle.sq_schema.specs.TxnValue.{TxnValue}
 use Rattle.sq_node_model.proofs.Lists.{stands_at, map_at, at_map}
 use Rattle.sq_node_model.proofs.Members.{set_kept, set_new, slice_get-front, slice_get-pushed}
@@ -86,7 +87,9 @@ module _ (waiting left rest : List (List TxnValue)) (rooms now : List Room) (one
 
     -- that room is as it was
     pub room_waits : (room : Room) → slice_get now (length rest) ≡ Some room → (room.0 ≡ []) × (MAX_WAITING ≤ room.1)
-    room_waits room there = are.each (length rest) room (sym (so_far.same (length rest) (omega (arith, longer))) ∙ there)
+    room_waits room there =
+        let is = are.each (length rest) room (sym (so_far.same (length rest) (omega (arith, longer))) ∙ there) in
+        (is.0, omega (arith, is.1))
 
     pub fills_more : (room : Room) → (length one ≤ MAX_WAITING → room.0 ≡ one) → Fills waiting rest rooms (slice_set now (length rest) room)
     fills_more room puts =
@@ -156,7 +159,7 @@ begins_still waiting old new begins grows part first jobs there at small =
 pub rooms_none : AreRooms 0 []
 rooms_none = record { count = refl; each = λ part room there. absurd (none-some room there) }
 
-pub rooms_more : (parts : ℕ) (rooms : List Room) (room : Room) → AreRooms parts rooms → room.0 ≡ [] → MAX_WAITING ≤ room.1 → AreRooms (parts + 1) (rooms ++ room ∷ [])
+pub rooms_more : (parts : ℕ) (rooms : List Room) (room : Room) → AreRooms parts rooms → room.0 ≡ [] → JOB_PLACES + MAX_WAITING ≤ room.1 → AreRooms (parts + 1) (rooms ++ room ∷ [])
 rooms_more parts rooms room are none roomy = record {
   count = length-append rooms (room ∷ []) ∙ ap (λ (n : ℕ). n + 1) are.count;
   each = λ part other there.
@@ -168,6 +171,6 @@ rooms_more parts rooms room are none roomy = record {
       let low = slice_get_within (rooms ++ room ∷ []) part other there in
       let last : length rooms ≡ part = omega (arith, low, past, length-append rooms (room ∷ [])) in
       let is : room ≡ other = same_Some room other (sym (slice_get-pushed rooms room) ∙ ap (slice_get (rooms ++ room ∷ [])) last ∙ there) in
-      (ap (λ (r : Room). r.0) (sym is) ∙ none, subst (λ (r : Room). MAX_WAITING ≤ r.1) is roomy))
+      (ap (λ (r : Room). r.0) (sym is) ∙ none, subst (λ (r : Room). JOB_PLACES + MAX_WAITING ≤ r.1) is roomy))
       (cases_lt part (length rooms));
 }

@@ -1,17 +1,19 @@
 -- The unanswered jobs, by partition.
-use Rattle.std.specs.Prelude.{◌≡◌, ℕ, ◌≤◌, List, [], length, slice_get, Some}
+use Rattle.std.specs.Prelude.{◌≡◌, ℕ, ◌+◌, ◌≤◌, List, [], length, slice_get, Some}
 use Rattle.sq_ranges.specs.declared.opening.TheConstants.{MAX_WAITING}
 use Rattle.sq_schema.specs.TxnValue.{TxnValue}
+use Rattle.sq_node.specs.declared.fabric.TheConstants.{JOB_PLACES}
 use Rattle.sq_node_model.specs.BeganWith.{BeginsWith}
 
 -- jobs, and the capacity of their list
 abbrev pub Room : Type 0
 Room = List TxnValue × ℕ
 
--- an empty list for each of `parts` partitions, with room for as many jobs as may wait there
+-- an empty list for each of `parts` partitions, with room for as many jobs as its queue holds and
+-- as may wait there
 pub record AreRooms (parts : ℕ) (rooms : List Room) : Type 0 where
   pub count : length rooms ≡ parts
-  pub each : (part : ℕ) (room : Room) → slice_get rooms part ≡ Some room → (room.0 ≡ []) × (MAX_WAITING ≤ room.1)
+  pub each : (part : ℕ) (room : Room) → slice_get rooms part ≡ Some room → (room.0 ≡ []) × (JOB_PLACES + MAX_WAITING ≤ room.1)
 
 -- the jobs of each partition begin with those that waited there, if these are at most as many as
 -- may wait
