@@ -18,6 +18,10 @@ owned_entries plan part table = filter (λ entry. owner plan entry.0 == part) ta
 abbrev pub opened_families : PlanValue → ℕ → TableValue → List FamilyValue
 opened_families plan part table = map opened_family (owned_entries plan part table)
 
+-- the same root keys, each without rows
+abbrev pub blank : TableValue → TableValue
+blank table = map (λ entry. (entry.0, [])) table
+
 -- each root key that the range holds has the range's owner
 abbrev pub IsOwned : PlanValue → PlanRange → Type 0
 IsOwned plan range = (key : ℕ) → holds range key ≡ true → owner plan key ≡ range.owner
