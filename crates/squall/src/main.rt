@@ -7,6 +7,7 @@ ghost use Rattle.sq_command.specs.Line.{IsWithin};
 ghost use Rattle.squall.specs.Session.{EndsTask, EndsWithRows, EndsParts, EndsMain, EndsWith};
 
 mod beginning;
+mod earlier;
 mod engine_front;
 mod engine_watch;
 mod explaining;
