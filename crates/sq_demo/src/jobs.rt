@@ -17,7 +17,7 @@ pub(crate) fn write_jobs<W: Write>(
     old: &Plan,
 ) -> io::Result<()> {
     let width = (sizes.hot_keys() + 4_095) / 4_096;
-    let limit = chunk_limit(width, sizes.rows_per_root);
+    let limit = chunk_limit(width, sizes);
     writeln!(writer, "config {width} {limit} 4")?;
     let mut keys = KeySource::new(sizes);
     for id in 0..sizes.jobs {
@@ -28,14 +28,18 @@ pub(crate) fn write_jobs<W: Write>(
     Ok(())
 }
 
-// How many bytes a chunk has that holds a leaf of `width` families: a power of two from 1,024 to
-// 65,536. A family has 32 bytes, 24 for each row, and 4 for the note of each row but the first.
-fn chunk_limit(width: u64, rows_per_root: u64) -> u64 {
-    let family = rows_per_root
+// How many bytes a chunk has: a 1,024th of those that move, up to 16,384, or those of a leaf of
+// `width` families if they are more, and then a power of two from 1,024 to 65,536. A family has 32
+// bytes, 24 for each row, and 4 for the note of each row but the first.
+fn chunk_limit(width: u64, sizes: &DemoSizes) -> u64 {
+    let family = sizes
+        .rows_per_root
         .saturating_mul(28)
         .saturating_add(28);
+    let share = (family.saturating_mul(sizes.hot_keys()) / 1_024).min(16_384);
     family
         .saturating_mul(width)
+        .max(share)
         .min(65_536)
         .next_power_of_two()
         .max(1_024)

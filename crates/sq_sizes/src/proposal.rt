@@ -13,13 +13,18 @@ const LEAST_LIMIT: u64 = 1_024;
 
 const MOST_LIMIT: u64 = 65_536;
 
+// How many chunks a large move is to have, unless they have more than so many bytes.
+const CHUNKS_OF_MOVE: u64 = 1_024;
+
+const LARGE_LIMIT: u64 = 16_384;
+
 // How many chunks in a link's queue are proposed.
 const CAPACITY: u64 = 4;
 
 /// The sizes that are proposed for the move of an opening: leaves so wide that the root keys that
 /// move make at most 4,096, or twice as wide, and so on, until there are few enough segments;
-/// chunks that hold a leaf of families of mean size, in bytes a power of two from 1,024 to 65,536;
-/// and 4 chunks in a queue.
+/// chunks of a 1,024th of the bytes that move, up to 16,384, or of a leaf of families of mean size
+/// if that is more, in bytes a power of two from 1,024 to 65,536; and 4 chunks in a queue.
 pub(crate) fn proposal(opening: &Opening) -> Config {
     let width = width_for(opening);
     Config {
@@ -54,7 +59,9 @@ fn keys_of(opening: &Opening) -> u64 {
 // The bytes in a chunk that are proposed, for leaves of `width` root keys.
 fn limit_for(size: Size, width: u64) -> u64 {
     let mean = size.bytes.div_ceil(size.families.max(1));
+    let share = (size.bytes / CHUNKS_OF_MOVE).min(LARGE_LIMIT);
     mean.saturating_mul(width)
+        .max(share)
         .min(MOST_LIMIT)
         .next_power_of_two()
         .max(LEAST_LIMIT)
