@@ -32,10 +32,7 @@ pub(crate) fn write_jobs<W: Write>(
 // `width` families if they are more, and then a power of two from 1,024 to 65,536. A family has 32
 // bytes, 24 for each row, and 4 for the note of each row but the first.
 fn chunk_limit(width: u64, sizes: &DemoSizes) -> u64 {
-    let family = sizes
-        .rows_per_root
-        .saturating_mul(28)
-        .saturating_add(28);
+    let family = sizes.rows_per_root.saturating_mul(28).saturating_add(28);
     let share = (family.saturating_mul(sizes.hot_keys()) / 1_024).min(16_384);
     family
         .saturating_mul(width)

@@ -1,5 +1,5 @@
 // The longest of the ranges that a move has.
-use sq_plan::{Plan, PlanRange};
+use sq_plan::{PartId, Plan, PlanRange};
 use sq_ranges::Range;
 use sq_schema::ROOT_END;
 use sq_tree::LEAVES;
@@ -35,21 +35,31 @@ impl Display for LongRange {
     }
 }
 
+// A range without root keys.
+const NO_KEYS: Range = Range {
+    lo: 0,
+    hi: 0,
+    src: PartId::new(0),
+    dst: PartId::new(0),
+};
+
 /// The longest range that moves between two plans, the first of these, with leaves of `width` root
 /// keys. Returns `None` if nothing moves.
 pub(crate) fn longest_range(old: &Plan, new: &Plan, width: u64) -> Option<LongRange> {
-    let mut longest: Option<Range> = None;
-    let mut last: Option<Range> = None;
+    let mut longest = NO_KEYS;
+    let mut last = NO_KEYS;
     for one in old.ranges() {
         for other in new.ranges() {
             if let Some(piece) = moving_piece(*one, *other) {
-                let range = joined(last, piece);
-                last = Some(range);
-                longest = Some(longer(longest, range));
+                last = joined(last, piece);
+                longest = longer(longest, last);
             }
         }
     }
-    let range = longest?;
+    if length(longest) == 0 {
+        return None;
+    }
+    let range = longest;
     Some(LongRange {
         lo: range.lo,
         hi: range.hi,
@@ -74,23 +84,21 @@ fn moving_piece(old: PlanRange, new: PlanRange) -> Option<Range> {
 }
 
 // A piece, with the range that ends where it begins if both move between the same partitions.
-fn joined(last: Option<Range>, piece: Range) -> Range {
-    match last {
-        Some(range) if range.hi == piece.lo && range.src == piece.src && range.dst == piece.dst => {
-            Range {
-                lo: range.lo,
-                ..piece
-            }
-        }
-        _ => piece,
-    }
+fn joined(last: Range, piece: Range) -> Range {
+    let goes_on = length(last) > 0
+        && last.hi == piece.lo
+        && last.src == piece.src
+        && last.dst == piece.dst;
+    let lo = if goes_on { last.lo } else { piece.lo };
+    Range { lo, ..piece }
 }
 
 // The longer one of two ranges, the first if they are as long.
-fn longer(first: Option<Range>, second: Range) -> Range {
-    match first {
-        Some(range) if length(range) >= length(second) => range,
-        _ => second,
+fn longer(first: Range, second: Range) -> Range {
+    if length(first) >= length(second) {
+        first
+    } else {
+        second
     }
 }
 

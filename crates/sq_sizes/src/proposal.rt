@@ -37,7 +37,10 @@ pub(crate) fn proposal(opening: &Opening) -> Config {
 // The width of a leaf that is proposed.
 fn width_for(opening: &Opening) -> u64 {
     let (old, new) = (opening.old_plan(), opening.new_plan());
-    let mut width = keys_of(opening).div_ceil(LEAVES_OF_MOVE).max(1).min(MAX_WIDTH);
+    let mut width = keys_of(opening)
+        .div_ceil(LEAVES_OF_MOVE)
+        .max(1)
+        .min(MAX_WIDTH);
     for _ in 0..DOUBLINGS {
         if Recon::fault(old, new, width).is_none() {
             return width;

@@ -49,7 +49,10 @@ enum Misfit<'a> {
     /// It isn't of its form.
     Flaw(ToldFlaw<'a>),
     /// One of its words isn't allowed there.
-    Word { word: ToldWord<'a>, hint: Hint<'a> },
+    Word {
+        word: ToldWord<'a>,
+        hint: Hint<'a>,
+    },
     /// A column of its record isn't of its form, or isn't allowed there.
     Column {
         column: ToldColumn<'a>,
@@ -69,7 +72,10 @@ enum Misfit<'a> {
     /// Its sizes cut the move into too many segments.
     Segments(ToldSegments),
     /// Its plan has another number of partitions than the plan in force.
-    Partitions { asked: u8, in_force: u8 },
+    Partitions {
+        asked: u8,
+        in_force: u8,
+    },
 }
 
 /// What is added to a word that isn't allowed.
