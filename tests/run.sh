@@ -754,7 +754,8 @@ demo_of() {
 }
 
 # try_demo_of NAME PARTITIONS ROOTS ROWS JOBS HOT SEED [WORD]: an input to begin with has these sizes, its move is one that
-# 'ranges' lists, and its live run is sound and answers each job once, with this number of rows at the end.
+# 'ranges' lists, which proposes the sizes that it has, and its live run is sound and answers each job once, with this number of rows at
+# the end.
 try_demo_of() {
     local files=$room/demo/$1 families=$3 why
     demo_of "$1" --partitions "$2" --roots "$3" --rows-per-root "$4" --jobs "$5" --hot "$6" --seed "$7" ${8:+"$8"}
@@ -764,6 +765,8 @@ try_demo_of() {
     count "sizes of demo $1" "$why"
     give "$files/jobs.txt" ranges --old "$files/old.json" --new "$files/new.json"
     count "moves of demo $1" "$(grep -q '^range .* 0 1$' "$room/out" || echo 'no range goes from 0 to 1')"
+    give "$files/jobs.txt" ranges --sizes --old "$files/old.json" --new "$files/new.json" --rows "$files/rows.txt"
+    count "sizes that suit demo $1" "$(cmp <(tail -n 1 "$room/out") <(head -n 1 "$files/jobs.txt") 2>&1)"
     echo "sound $families families $5 committed" > "$room/wanted"
     give "$files/jobs.txt" live --old "$files/old.json" --new "$files/new.json" --rows "$files/rows.txt" \
         --replies "$files/replies" --rows-out "$files/rows" --timeline "$files/moments.csv"
@@ -786,6 +789,8 @@ try_demo() {
     try_demo_of small 2 16 1 100 100 1
     try_demo_of stages 5 400 3 1000 70 7 --stages
     try_demo_of most 16 3000 2 4096 30 4294967295 --stages
+    try_demo_of large 2 2000 50 100 50 3
+    count 'chunks of a large demo' "$(head -n 1 "$room/demo/large/jobs.txt" | grep -vx 'config 1 2048 4')"
     demo_of again --partitions 5 --roots 400 --rows-per-root 3 --jobs 1000 --hot 70 --seed 7 --stages
     demo_of other --partitions 5 --roots 400 --rows-per-root 3 --jobs 1000 --hot 70 --seed 8 --stages
     demo_of stored --partitions 3 --roots 20 --rows-per-root 2 --jobs 8 --hot 40 --seed 9 --stages

@@ -77,6 +77,15 @@ impl Size {
         }
         size
     }
+
+    /// The size of an opening's whole move.
+    pub(crate) fn of_move(opening: &Opening) -> Size {
+        let mut size = Size::NONE;
+        for segment in opening.recon().segments() {
+            size = size.plus(Size::of_segment(opening, *segment));
+        }
+        size
+    }
 }
 
 impl MovePart {
