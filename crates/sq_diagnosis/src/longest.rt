@@ -1,6 +1,5 @@
 // The longest of the ranges that a move has.
-use sq_plan::{PartId, Plan, PlanRange};
-use sq_ranges::Range;
+use sq_plan::{Plan, PlanRange};
 use sq_schema::ROOT_END;
 use sq_tree::LEAVES;
 use std::fmt;
@@ -35,12 +34,21 @@ impl Display for LongRange {
     }
 }
 
-// A range without root keys.
-const NO_KEYS: Range = Range {
+// Root keys from `lo` up to `hi`, without `hi`, which move from partition `src` to `dst`.
+#[derive(Clone, Copy, Debug, PartialEq, Eq)]
+struct Run {
+    lo: u64,
+    hi: u64,
+    src: u8,
+    dst: u8,
+}
+
+// No root keys.
+const NO_KEYS: Run = Run {
     lo: 0,
     hi: 0,
-    src: PartId::new(0),
-    dst: PartId::new(0),
+    src: 0,
+    dst: 0,
 };
 
 /// The longest range that moves between two plans, the first of these, with leaves of `width` root
@@ -56,45 +64,45 @@ pub(crate) fn longest_range(old: &Plan, new: &Plan, width: u64) -> Option<LongRa
             }
         }
     }
-    if length(longest) == 0 {
+    let keys = length(longest);
+    if keys == 0 {
         return None;
     }
-    let range = longest;
     Some(LongRange {
-        lo: range.lo,
-        hi: range.hi,
-        src: range.src.number(),
-        segments: length(range).div_ceil(LEAVES.saturating_mul(width).max(1)),
+        lo: longest.lo,
+        hi: longest.hi,
+        src: longest.src,
+        segments: keys.div_ceil(LEAVES.saturating_mul(width).max(1)),
     })
 }
 
 // The root keys that are in both ranges, if they move.
-fn moving_piece(old: PlanRange, new: PlanRange) -> Option<Range> {
+fn moving_piece(old: PlanRange, new: PlanRange) -> Option<Run> {
     let lo = old.lo.max(new.lo);
     let hi = old.hi.min(new.hi);
     if lo >= hi || old.owner == new.owner {
         return None;
     }
-    Some(Range {
+    Some(Run {
         lo,
         hi,
-        src: old.owner,
-        dst: new.owner,
+        src: old.owner.number(),
+        dst: new.owner.number(),
     })
 }
 
-// A piece, with the range that ends where it begins if both move between the same partitions.
-fn joined(last: Range, piece: Range) -> Range {
+// A piece, with the run that ends where it begins if both move between the same partitions.
+fn joined(last: Run, piece: Run) -> Run {
     let goes_on = length(last) > 0
         && last.hi == piece.lo
         && last.src == piece.src
         && last.dst == piece.dst;
     let lo = if goes_on { last.lo } else { piece.lo };
-    Range { lo, ..piece }
+    Run { lo, ..piece }
 }
 
-// The longer one of two ranges, the first if they are as long.
-fn longer(first: Range, second: Range) -> Range {
+// The longer one of two runs, the first if they are as long.
+fn longer(first: Run, second: Run) -> Run {
     if length(first) >= length(second) {
         first
     } else {
@@ -102,7 +110,7 @@ fn longer(first: Range, second: Range) -> Range {
     }
 }
 
-// How many root keys a range has.
-fn length(range: Range) -> u64 {
-    range.hi.saturating_sub(range.lo)
+// How many root keys a run has.
+fn length(run: Run) -> u64 {
+    run.hi.saturating_sub(run.lo)
 }
