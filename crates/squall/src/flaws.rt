@@ -166,10 +166,10 @@ impl Display for Misfit<'_> {
 
 /// Writes to standard error what is wrong with the line that a fault of an input belongs to, if
 /// that can be found.
-pub fn tell_misfit<'a, T: Eprint + Files + AllocGlobal, R: Read>(
+pub fn tell_misfit<T: Eprint + Files + AllocGlobal, R: Read>(
     rt: &T,
-    source: &Source<'a>,
-    reader: &'a Recalling<R>,
+    source: &Source<'_>,
+    reader: &Recalling<R>,
     located: &LocatedFault,
 ) {
     let Some(line) = located.line else {
@@ -187,10 +187,10 @@ pub fn tell_misfit<'a, T: Eprint + Files + AllocGlobal, R: Read>(
 
 /// Writes to standard error why a line of a header isn't of `form`, or what its fault means if that
 /// can't be found, and then the form.
-pub fn tell_form<'a, T: Eprint + Files + AllocGlobal, R: Read>(
+pub fn tell_form<T: Eprint + Files + AllocGlobal, R: Read>(
     rt: &T,
-    source: &Source<'a>,
-    reader: &'a Recalling<R>,
+    source: &Source<'_>,
+    reader: &Recalling<R>,
     located: &LocatedFault,
     line: InputLine,
     form: &str,
@@ -316,10 +316,10 @@ pub fn tell_unread_stages<T: Eprint + AllocGlobal, R: Read>(
 }
 
 /// Writes to standard error what is wrong with the line of a faulty job, if that can be found.
-pub fn tell_misfit_of_job<'a, T: Eprint + Files + AllocGlobal, R: Read>(
+pub fn tell_misfit_of_job<T: Eprint + Files + AllocGlobal, R: Read>(
     rt: &T,
-    source: &Source<'a>,
-    reader: &'a Recalling<R>,
+    source: &Source<'_>,
+    reader: &Recalling<R>,
     job: JobLineFault,
 ) {
     let place = source.place(InputLine::Later(job.line));
@@ -399,10 +399,10 @@ pub struct HeaderPlace<'a> {
 
 /// Writes to standard error what is wrong with a faulty line of an engine's header, if that can be
 /// found.
-pub fn tell_misfit_of_header<'a, T: Eprint + Files + AllocGlobal>(
+pub fn tell_misfit_of_header<T: Eprint + Files + AllocGlobal>(
     rt: &T,
-    header: &'a FaultyHeader,
-    at: HeaderPlace<'a>,
+    header: &FaultyHeader,
+    at: HeaderPlace<'_>,
 ) {
     let place = at.place;
     if let (FaultPlace::File(name), InputFault::Plan(fault)) = (place, header.fault.located.fault) {
@@ -416,10 +416,10 @@ pub fn tell_misfit_of_header<'a, T: Eprint + Files + AllocGlobal>(
 
 /// Writes to standard error why a line of an engine's header isn't of `form`, or only its fault if
 /// that can't be found, and then the form.
-pub fn tell_form_of_header<'a, T: Eprint + Files + AllocGlobal>(
+pub fn tell_form_of_header<T: Eprint + Files + AllocGlobal>(
     rt: &T,
-    header: &'a FaultyHeader,
-    at: HeaderPlace<'a>,
+    header: &FaultyHeader,
+    at: HeaderPlace<'_>,
     form: &str,
 ) {
     let place = at.place;
