@@ -407,7 +407,7 @@ starts_in() {
             free = at + 11 * length(name)
             if (free > 1600) print name " ends at " free
         }
-        /class="axis" d="M[0-9]+ 148V160/ { ticks = gsub(/148V160/, "") }
+        /class="axis" d="M[0-9]+ 160V174/ { ticks = gsub(/160V174/, "") }
         END { if (named + ticks != stages) print named " names and " ticks " ticks" }' "$1"
 }
 

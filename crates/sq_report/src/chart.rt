@@ -112,7 +112,7 @@ fn scaled(part: u64, whole: u64, len: u64) -> u64
     share.min(u128::from(len)) as u64
 }
 
-// Writes a tick above the plot for each of these starts.
+// Writes a tick below the top of the plot for each of these starts.
 fn write_ticks<W: Write>(writer: &mut W, starts: &[StageStart], micros: u64) -> io::Result<()> {
     if starts.is_empty() {
         return Ok(());
@@ -120,7 +120,7 @@ fn write_ticks<W: Write>(writer: &mut W, starts: &[StageStart], micros: u64) -> 
     writer.write_all(b"<path class=\"axis\" d=\"")?;
     for start in starts {
         let place = place_of(start.micros, micros);
-        write!(writer, "M{place} 148V160")?;
+        write!(writer, "M{place} 160V174")?;
     }
     writer.write_all(b"\"/>\n")
 }

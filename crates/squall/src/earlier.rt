@@ -77,7 +77,8 @@ fn earlier_kept<'a, R: Read>(
     for earlier in 1..number {
         if let Recalled::Line(other) = reader.line(earlier as usize) {
             if once.is_common(line, other) {
-                return Some(source.place(InputLine::Later(earlier as u32)));
+                let earlier = u32::try_from(earlier).ok()?;
+                return Some(source.place(InputLine::Later(earlier)));
             }
         }
     }

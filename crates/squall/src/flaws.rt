@@ -323,13 +323,22 @@ pub fn tell_misfit_of_job<T: Eprint + Files + AllocGlobal, R: Read>(
     job: JobLineFault,
 ) {
     let place = source.place(InputLine::Later(job.line));
-    let misfit = match misfit_of_id(rt, source, reader, job) {
-        Some(misfit) => Some(misfit),
-        None => misfit_of_job(job.fault, reader.line(job.line as usize)),
-    };
-    if let Some(misfit) = misfit {
+    if let Some(misfit) = misfit_of_job_at(rt, source, reader, job) {
         let _ = eprintln!(rt; "squall: {place}: {misfit}");
     }
+}
+
+// What is wrong with a faulty job.
+fn misfit_of_job_at<'a, T: Files + AllocGlobal, R: Read>(
+    rt: &T,
+    source: &Source<'a>,
+    reader: &'a Recalling<R>,
+    job: JobLineFault,
+) -> Option<Misfit<'a>> {
+    if let Some(misfit) = misfit_of_id(rt, source, reader, job) {
+        return Some(misfit);
+    }
+    misfit_of_job(job.fault, reader.line(job.line as usize))
 }
 
 // What is wrong with a job whose id an earlier one has, if the earlier line is found.
