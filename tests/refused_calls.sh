@@ -1,14 +1,12 @@
 #!/usr/bin/env bash
 # Refused allocations of calls of the library: runs in each of which one allocation fails, each one of a call in turn.
 #
-#   tests/refused_calls.sh          some of the allocations of each call
-#   tests/refused_calls.sh --all    all of them
+#   tests/refused_calls.sh
 #
-# The program stands in tests/programs/refused_calls. `rt try` builds it once, without a proof, and gives it one input after
-# another: a letter that says which call is tried, and for a call on a stored run its header and the lines of its script. In
-# each run the allocation of the same number fails. The program makes as many allocations of its own as its input begins with
-# spaces, so that it is another one of the call that fails each time. CALLS=PATH takes a program that is built already, without a
-# sanitizer: what the C compiler makes of tests/programs/refuse.c refuses there. With KEEP=FOLDER what each run wrote stays there.
+# The program is the proved one, which `rt ci` leaves in crates/sq_refusals/out; CALLS=PATH takes another. Its input is the letter of
+# a call, and for a call on a stored run the lines of that run. The C compiler (cc, or the one that CC names) makes of
+# tests/programs/refuse.c what lets an allocation fail: in the first run the first one, in the next run the second one, and so on up
+# to a run that asks for fewer allocations. With KEEP=FOLDER the output of each run stays there.
 #
 #   steps        each step by `World::step`; one that answers 222 is made once more
 #   list         all steps by `run_world`; an opening that comes back is used once more
@@ -36,98 +34,54 @@
 # and are called once more with what came back; and so do the taking and the audit of a page, and the calls of an engine. So what
 # is gathered in the end is always the same.
 #
-# The workers of `engine` and `chain` run in threads, so that an allocation of the same number isn't always of the same call. If the
-# numbers that are tried of a call miss what is to be refused in it, all are tried, unless it is `steps`, `list` or `input`.
+# The workers of `engine` and `chain` run in threads, so that an allocation of the same number isn't always of the same call, and two
+# runs may ask for different numbers of allocations.
 set -eu
 . "$(dirname "$0")/lib.sh"
+program=${CALLS:-$top/crates/sq_refusals/out/sq_refusals}
 room=$(mktemp -d)
 trap 'rm -r "$room"' EXIT
 outputs=${KEEP:-$room/outputs}
 
-# The allocation that fails.
-failing=900
+# How many runs are made at once before it is looked at whether all had an allocation that failed.
+batch=40
 
-# The calls that are tried, each with the stored run that it is called on, with how many spaces its inputs begin with (the fewest and the
-# most, and which of those between are tried without --all), and with what takes memory in it. With the fewest none of its allocations
-# is refused, and with the most one is that comes before the call. Allocations of the program are refused by tests/refused.sh.
+# The calls that are tried, each with the stored run that it is called on and with what takes memory in it. Allocations of the
+# program are refused by tests/refused.sh.
 tries() {
     cat "$tests/programs/refused_calls/tries"
 }
 
-# spaces_of RANGE SOME: the numbers of spaces; of those between the fewest and the most these, or `all`.
-spaces_of() {
-    local range
-    {
-        echo "${1/-/$'\n'}"
-        for range in $(tr ',' ' ' <<< "${2/all/$1}"); do seq "${range%-*}" "${range#*-}"; done
-    } | sort -nu
+# The letter of a call, and the stored run that it is called on.
+input_of() {
+    printf '%s' "${1:0:1}"
+    cat "$(stored "$tests/cases/run/$2/in")"
 }
 
-# A repository of the same crates and the program, which uses those that it names.
-make_program() {
-    local source=$room/crates/refused_calls/src file
-    tar -C "$top" --exclude=out -cf - HANDLES crates | tar -C "$room" -xf -
-    mkdir -p "$source"
-    for file in "$tests"/programs/refused_calls/*.rt.txt; do cp "$file" "$source/$(basename "$file" .txt)"; done
-    cp "$top/crates/sq_thread_tests/src/tests/text.rt" "$source"
-    {
-        cat "$top/crates.txt"
-        echo "refused_calls: $(sed -nE 's/^use (sq_[a-z_]+)::.*/\1/p' "$source"/* | sort -u | tr '\n' ' ')"
-    } > "$room/crates.txt"
+# run_batch NAME FIRST: runs the program on $room/in where the allocation of this number fails, and so the next ones, four at once.
+# Leaves what each wrote in $outputs/NAME.NUMBER, with a line `died` if it ended by a signal or not in time, and a file
+# $room/refused.NUMBER where there was such an allocation.
+run_batch() {
+    # shellcheck disable=SC2016
+    seq "$2" $(($2 + batch - 1)) | xargs -P 4 -I NUMBER bash -c '
+        ended=0
+        REFUSE=NUMBER REFUSED=$1/refused.NUMBER LD_PRELOAD=$1/refuse.so timeout 60 "$2" < "$1/in" > "$3.NUMBER" 2> /dev/null || ended=$?
+        if [ "$ended" -gt 1 ]; then echo died >> "$3.NUMBER"; fi' run "$room" "$program" "$outputs/$1"
 }
 
-# make_inputs CALL RUN RANGE SOME: makes the inputs of a call on a stored run, or on none, but for those that were tried.
-make_inputs() {
-    local spaces
-    for spaces in $(spaces_of "$3" "$4"); do
-        if [ -e "$outputs/$1.$2.$spaces" ]; then continue; fi
-        { printf '%*s%s' "$spaces" '' "${1:0:1}"; cat "$(stored "$tests/cases/run/$2/in")"; } > "$room/inputs/$1.$2.$spaces"
+# try_all NAME: runs the program on $room/in where each allocation fails in turn. Leaves the number of the first run that had none that
+# failed in `last`.
+try_all() {
+    local first=1
+    last=
+    while [ -z "$last" ]; do
+        run_batch "$1" "$first"
+        for ((last = first; last < first + batch; last++)); do
+            if [ ! -e "$room/refused.$last" ]; then rm -f "$room"/refused.*; return; fi
+        done
+        first=$last
+        last=
     done
-}
-
-# lacks_one CALL RUN WORDS..: whether no input that was tried refused an allocation of one of these.
-lacks_one() {
-    local call=$1 run=$2 what
-    shift 2
-    for what; do
-        if ! cat "$outputs/$call.$run".* | grep -q -x "refused $what"; then return 0; fi
-    done
-    return 1
-}
-
-# What is tried: all numbers of a call of which no allocation of some word was refused (but of those whose outputs don't name it).
-# Their inputs are made.
-widened_tries() {
-    local call run range some words
-    while read -r call run range some words; do
-        case $call,$some in
-            steps,* | list,* | input,* | *,all) ;;
-            *)
-                # shellcheck disable=SC2086
-                if lacks_one "$call" "$run" $words; then
-                    some=all
-                    make_inputs "$call" "$run" "$range" all
-                fi
-                ;;
-        esac
-        echo "$call $run $range $some $words"
-    done < "$room/tries"
-}
-
-# Gives the program the inputs, and leaves what it wrote for each in a file, which is empty where it wrote nothing. Those that
-# it was given are away then. `--steps 0` leaves out the interpreter, which would take as long as the program.
-run_inputs() {
-    if [ -n "${CALLS:-}" ]; then
-        (cd "$room/inputs" && printf '%s\n' * | REFUSE=$failing xargs -P 4 -I NAME \
-            bash -c 'REFUSED=$0/refused.NAME LD_PRELOAD=$0/refuse.so "$1" < NAME > "$2/NAME" 2> /dev/null || true' "$room" "$CALLS" "$outputs")
-        rm -f "$room"/inputs/* "$room"/refused.*
-        return
-    fi
-    (cd "$room/crates/refused_calls" && rt try --steps 0 --cases "$room/inputs" --fail-alloc "$failing") \
-        > "$room/written" 2> "$room/got" || { cat "$room/got" >&2; exit 1; }
-    awk -v folder="$outputs/" '/^== / { close(file); file = folder $2; printf "" > file; next } { print > file }' \
-        "$room/written"
-    rm -f "$room"/inputs/*
 }
 
 # --- what is wanted of steps, a list and a store ---
@@ -196,111 +150,113 @@ of_nodes() {
 
 # --- judging ---
 
-# wrong CALL RUN SPACES WANTED: counts an input whose output isn't the wanted one.
-wrong() {
-    count "$1 of $2 with $3 spaces" "not the wanted output (<) but: $(diff - "$outputs/$1.$2.$3" <<< "$4" | head -n 4)"
-}
-
-# is_refused WORD: an allocation of this was refused, or `none` was.
-is_refused() {
-    met[$1]=1
-    if [ "$1" != none ]; then count "$1" ''; fi
-}
-
-# The number of the call of a store that was refused: one more than the calls that answered before it.
+# refused_call: the number of the call of a store that was refused: one more than the calls that answered before it.
 refused_call() {
     awk '/^refused / { print calls + 1; exit } /^(commit|took|gave)/ { calls++ }'
 }
 
-# judge_steps CALL RUN SPACES: judges what was written for an input of steps, a list or a store.
+# matches WANTED GOT WORD: says WORD if the output is the wanted one, and else that it is wrong.
+matches() {
+    if [ "$1" = "$2" ]; then echo "$3"; else echo "wrong: not the wanted output (<) but: $(diff <(echo "$1") <(echo "$2") | head -n 4)"; fi
+}
+
+# judge_steps CALL RUN GOT: says of which step of steps, a list, an input or a store an allocation was refused: `none`; `before` the
+# call; or that the output is wrong.
 judge_steps() {
-    local got step word=none
-    got=$(cat "$outputs/$1.$2.$3")
+    local got=$3 step word=none
     case $1,$got in
-        # Refused was an allocation of what reads the input, which is no part of the call.
-        steps,starts | list,starts | input,starts | vec,starts | block,starts) met[before]=1; return ;;
-        input,$'starts\nopened\nfault 222') is_refused header; return ;;
+        *,starts) echo before; return ;;
+        input,$'starts\nopened\nfault 222') echo header; return ;;
     esac
     if [ "$1" = list ] && [ "$(grep -n -x back <<< "$got")" = 3:back ]; then
-        is_refused back
-        word=
+        word=back
         got=$(grep -v -x back <<< "$got")
     fi
     case $1 in
-        vec | block) step=$(refused_call <<< "$got") ;;
-        *) step=$(grep -n -m 1 -x 'refused 222' <<< "$got" | cut -d : -f 1 || true) ;;
+        vec | block)
+            step=$(refused_call <<< "$got")
+            if [ -n "$step" ]; then word=$(calls | sed -n "${step}s/|.*//p"); fi
+            ;;
+        *)
+            step=$(grep -n -m 1 -x 'refused 222' <<< "$got" | cut -d : -f 1 || true)
+            if [ -n "$step" ]; then
+                step=$((step - 2))
+                word=$(grep -v -E '^(old|new|config|row) ' "$tests/cases/run/$2/in" | sed -n "${step}s/ .*//p")
+            fi
+            ;;
     esac
-    case $1 in steps | list | input) if [ -n "$step" ]; then step=$((step - 2)); fi ;; esac
-    if [ "$got" != "$(wanted "$1" "$2" "${step:-0}")" ]; then wrong "$1" "$2" "$3" "$(wanted "$1" "$2" "${step:-0}")"; return; fi
-    case $1,$step in
-        *,) ;;
-        vec,* | block,*) word=$(calls | sed -n "${step}s/|.*//p") ;;
-        *) word=$(grep -v -E '^(old|new|config|row) ' "$tests/cases/run/$2/in" | sed -n "${step}s/ .*//p") ;;
-    esac
-    if [ -n "$word" ]; then is_refused "$word"; fi
+    matches "$(wanted "$1" "$2" "${step:-0}")" "$got" "$word"
 }
 
-# judge_nodes CALL RUN SPACES: judges what was written for an input of nodes, of two stages, of a page or of an engine.
+# judge_nodes CALL GOT: says the same of an output of nodes, of two stages, of a page or of an engine.
 judge_nodes() {
-    local got whole refused
-    got=$(cat "$outputs/$1.$2.$3")
+    local got=$2 whole refused
     # Which parts of a segment a pump claims depends on the threads.
     case $1 in chain) got=$(grep -v -E '^(note|node) ' <<< "$got" || true) ;; esac
     whole=$(of_nodes "$1")
     # Refused was an allocation of what isn't tried: of reading the header, of a job, of the list of jobs or of the text.
     if [[ $got != "$whole" && $whole = "$got"* ]]; then
         case ${got##*$'\n'} in
-            starts) met[before]=1; return ;;
-            opened | worked | gathered | closed | Sound) return ;;
+            starts | opened | worked | gathered | closed | Sound) echo before; return ;;
         esac
     fi
-    if [ "$(grep -v '^refused ' <<< "$got")" != "$whole" ]; then wrong "$1" "$2" "$3" "$whole"; return; fi
     refused=$(sed -n 's/^refused //p' <<< "$got")
-    is_refused "${refused:-none}"
+    matches "$whole" "$(grep -v '^refused ' <<< "$got")" "${refused:-none}"
 }
 
-# judge_input CALL RUN SPACES: judges what was written for an input, and notes what was refused.
-judge_input() {
+# judge CALL RUN GOT: says what an output shows that was refused.
+judge() {
     case $1 in
-        nodes | two_stages | folds | page | engine | chain) judge_nodes "$@" ;;
+        nodes | two_stages | folds | page | engine | chain) judge_nodes "$1" "$3" ;;
         *) judge_steps "$@" ;;
     esac
 }
 
-# check CALL RUN RANGE SOME WORDS..: judges all inputs of a call on a stored run; an allocation of each of these was refused in some
-# input, and of nothing else; in the first none was, and in the last none, or one before the call.
+# judge_run CALL RUN NUMBER: counts a run, and leaves in `word` what was refused in it. An output that came before is judged as it was.
+judge_run() {
+    local got
+    IFS= read -r -d '' got < "$outputs/$1.$2.$3" || true
+    got=${got%$'\n'}
+    if [ -z "${judged[$got.]:-}" ]; then judged[$got.]=$(judge "$1" "$2" "$got"); fi
+    word=${judged[$got.]}
+    case $word in
+        wrong*) count "$1 of $2, allocation $3" "$word" ;;
+        *) count "$1" '' ;;
+    esac
+}
+
+# check CALL RUN WORDS..: judges all runs of a call; an allocation of each of these was refused in some run, and of nothing else, and in
+# the last run none was.
 check() {
-    local call=$1 run=$2 numbers what at
-    mapfile -t numbers < <(spaces_of "$3" "$4")
-    shift 4
-    declare -A met=()
-    judge_input "$call" "$run" "${numbers[0]}"
-    if [ "${!met[*]}" != none ]; then count "$call of $run" "with the fewest spaces an allocation was refused"; fi
-    for ((at = 1; at < ${#numbers[@]} - 1; at++)); do judge_input "$call" "$run" "${numbers[at]}"; done
+    local call=$1 run=$2 number what word last
+    shift 2
+    declare -A met=() judged=()
+    input_of "$call" "$run" > "$room/in"
+    try_all "$call.$run"
+    for ((number = 1; number < last; number++)); do
+        judge_run "$call" "$run" "$number"
+        case $word in wrong*) ;; *) met[$word]=1 ;; esac
+    done
     for what in "$@"; do
         if [ -z "${met[$what]:-}" ]; then count "$call of $run" "no allocation of $what was refused"; fi
         unset "met[$what]"
     done
-    judge_input "$call" "$run" "${numbers[at]}"
     unset 'met[none]' 'met[before]'
     for what in "${!met[@]}"; do count "$call of $run" "$what isn't to be refused memory, and was"; done
+    judge_run "$call" "$run" "$last"
+    if [ "$word" != none ]; then count "$call of $run" "without an allocation that fails: $word"; fi
+    echo "$call of $run: $((last - 1)) allocations"
 }
 
-mkdir -p "$room/inputs" "$outputs"
-if [ -n "${CALLS:-}" ]; then
-    "${CC:-cc}" -shared -fPIC -o "$room/refuse.so" "$tests/programs/refuse.c" -ldl
-else
-    make_program
+if [ ! -x "$program" ]; then
+    echo "tests: no program at $program: run 'rt ci' at the top first" >&2
+    exit 1
 fi
-if [ "${1:-}" = --all ]; then every=all; else every=; fi
-while read -r call run range some words; do echo "$call $run $range ${every:-$some} $words"; done < <(tries) > "$room/tries"
-while read -r call run range some _; do make_inputs "$call" "$run" "$range" "$some"; done < "$room/tries"
-run_inputs
-widened_tries > "$room/widened"
-if [ -n "$(ls "$room/inputs")" ]; then run_inputs; fi
-while read -r call run range some words; do
+mkdir -p "$outputs"
+"${CC:-cc}" -shared -fPIC -o "$room/refuse.so" "$tests/programs/refuse.c" -ldl
+while read -r call run words; do
     # shellcheck disable=SC2086
-    check "$call" "$run" "$range" "$some" $words
-done < "$room/widened"
+    check "$call" "$run" $words
+done < <(tries)
 echo "$passed refused allocations of calls passed, $failed failed"
 [ "$failed" = 0 ]

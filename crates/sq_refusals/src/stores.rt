@@ -1,0 +1,158 @@
+// Tries the calls of a store of families.
+use crate::input::schema;
+use crate::unfinished::Unfinished;
+use sq_model::{Answer, Step};
+use sq_plan::PartId;
+use sq_ranges::Extent;
+use sq_schema::{Family, ROOT_END, Reply, Txn};
+use sq_slab::SlabStore;
+use sq_store::{Cut, FamilyStore, VecStore};
+use sq_text::{WriteFault, read_step, write_answer, write_at};
+use std::alloc::Global;
+use std::io::Write;
+
+const LINES: [&str; 3] = [
+    "txn 0 1 5 put 0 0 5 61",
+    "txn 0 2 6 put 0 0 7 -",
+    "txn 0 3 5 add 0 0 1",
+];
+
+// The families of all root keys.
+const ALL: Extent = Extent {
+    lo: 0,
+    hi: ROOT_END,
+};
+
+/// Tries the calls of a `VecStore`.
+pub fn try_vec_store<W: Write>(alloc: Global, writer: &mut W) -> Result<(), Unfinished> {
+    writeln!(writer, "starts")?;
+    let txns = transactions(alloc)?;
+    writeln!(writer, "opened")?;
+    make_calls(writer, &mut VecStore::new(alloc), &txns)
+}
+
+/// Tries the calls of a `SlabStore`.
+pub fn try_block_store<W: Write>(alloc: Global, writer: &mut W) -> Result<(), Unfinished> {
+    writeln!(writer, "starts")?;
+    let txns = transactions(alloc)?;
+    writeln!(writer, "opened")?;
+    make_calls(writer, &mut SlabStore::new(alloc), &txns)
+}
+
+// Returns the transactions of [`LINES`].
+fn transactions(alloc: Global) -> Result<Vec<Txn>, Unfinished> {
+    let mut txns = Vec::with_capacity(alloc, LINES.len())?;
+    for line in LINES {
+        match read_step(alloc, &schema(), line.as_bytes())? {
+            Step::Submit(_, txn) => txns.push(txn)?,
+            _ => return Err(Unfinished::Malformed),
+        }
+    }
+    Ok(txns)
+}
+
+// Applies transactions, and takes a family out and gives it back. A call that is refused is made
+// once more.
+fn make_calls<W: Write, S: FamilyStore>(
+    writer: &mut W,
+    store: &mut S,
+    txns: &[Txn],
+) -> Result<(), Unfinished> {
+    for txn in txns {
+        apply(writer, store, txn)?;
+    }
+    let cut = take(writer, store)?;
+    give(writer, store, cut.families)
+}
+
+fn apply<W: Write, S: FamilyStore>(
+    writer: &mut W,
+    store: &mut S,
+    txn: &Txn,
+) -> Result<(), Unfinished> {
+    match store.apply(txn) {
+        Ok(reply) => write_reply(writer, txn, reply)?,
+        Err(_) => {
+            writeln!(writer, "refused apply")?;
+            dump(writer, store)?;
+            apply_again(writer, store, txn)?;
+        }
+    }
+    dump(writer, store)?;
+    Ok(())
+}
+
+fn apply_again<W: Write, S: FamilyStore>(
+    writer: &mut W,
+    store: &mut S,
+    txn: &Txn,
+) -> Result<(), Unfinished> {
+    match store.apply(txn) {
+        Ok(reply) => Ok(write_reply(writer, txn, reply)?),
+        Err(_) => Err(Unfinished::Memory),
+    }
+}
+
+fn write_reply<W: Write>(writer: &mut W, txn: &Txn, reply: Reply) -> Result<(), WriteFault> {
+    let id = txn.id();
+    write_answer(writer, &Answer::Replied { id, reply })
+}
+
+// Takes the first family out.
+fn take<W: Write, S: FamilyStore>(writer: &mut W, store: &mut S) -> Result<Cut, Unfinished> {
+    let cut = match store.take(ALL, 64) {
+        Ok(cut) => cut,
+        Err(_) => {
+            writeln!(writer, "refused take")?;
+            dump(writer, store)?;
+            store.take(ALL, 64)?
+        }
+    };
+    write_roots(writer, "took", &cut.families)?;
+    dump(writer, store)?;
+    Ok(cut)
+}
+
+fn give<W: Write, S: FamilyStore>(
+    writer: &mut W,
+    store: &mut S,
+    families: Vec<Family>,
+) -> Result<(), Unfinished> {
+    if let Err(back) = store.give(families) {
+        writeln!(writer, "refused give")?;
+        write_roots(writer, "back", &back)?;
+        dump(writer, store)?;
+        if store.give(back).is_err() {
+            return Err(Unfinished::Memory);
+        }
+    }
+    writeln!(writer, "gave")?;
+    dump(writer, store)?;
+    Ok(())
+}
+
+// Writes the root key of each family after `word`.
+fn write_roots<W: Write>(
+    writer: &mut W,
+    word: &str,
+    families: &[Family],
+) -> Result<(), Unfinished> {
+    for family in families {
+        let root = family.root().number();
+        writeln!(writer, "{word} {root}")?;
+    }
+    Ok(())
+}
+
+// Writes the families by rising root key.
+fn dump<W: Write, S: FamilyStore>(writer: &mut W, store: &S) -> Result<(), WriteFault> {
+    let mut at = 0;
+    for _family in 0..ROOT_END {
+        let Some(family) = store.walk(at) else {
+            break;
+        };
+        write_at(writer, PartId::new(0), family)?;
+        at = family.root().number() + 1;
+    }
+    Ok(())
+}
