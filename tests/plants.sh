@@ -41,7 +41,7 @@ section() {
 changed() {
     local name
     for name in $(grep -oE '^[a-z_]+' "$top/crates.txt"); do
-        case $name in sq_tests | sq_*_tests | sq_trial | sq_million | sq_examples) continue ;; esac
+        case $name in sq_tests | sq_*_tests | sq_trial | sq_million | sq_refusals | sq_examples) continue ;; esac
         section "$name" | grep "$1" | grep -q "$(checksum "$name")" || echo "$name"
     done
 }

@@ -22,7 +22,7 @@
 #                without a client
 #   chain        the epochs of an engine one by one: a move in two stages, a page between them, a move back, and the end
 #
-# All print first that they start, so that an output that is empty is a run that died.
+# All print first that they start. Where an allocation is refused that is of no call that is tried, the run ends with a line that says so.
 #
 # A step that answered 222 changed nothing: made once more it answers as it was to, and so do all later ones, with the same
 # dump. Of a list at most one step is refused, and the rest is what the rules say of the script without it. Of an input the same, or
@@ -160,14 +160,18 @@ matches() {
     if [ "$1" = "$2" ]; then echo "$3"; else echo "wrong: not the wanted output (<) but: $(diff <(echo "$1") <(echo "$2") | head -n 4)"; fi
 }
 
-# judge_steps CALL RUN GOT: says of which step of steps, a list, an input or a store an allocation was refused: `none`; `before` the
-# call; or that the output is wrong.
+# is_outside WHOLE GOT: whether the output says that an allocation was refused that is of no call that is tried, and is the beginning
+# of the whole output up to there.
+is_outside() {
+    [[ $2 = *$'\nno memory' && $1$'\n' = "${2%no memory}"* ]]
+}
+
+# judge_steps CALL RUN GOT: says of which step of steps, a list, an input or a store an allocation was refused: `none`; `outside` of
+# what is tried; or that the output is wrong.
 judge_steps() {
     local got=$3 step word=none
-    case $1,$got in
-        *,starts) echo before; return ;;
-        input,$'starts\nopened\nfault 222') echo header; return ;;
-    esac
+    if is_outside "$(wanted "$1" "$2" 0)" "$got"; then echo outside; return; fi
+    if [ "$1,$got" = $'input,starts\nopened\nfault 222' ]; then echo header; return; fi
     if [ "$1" = list ] && [ "$(grep -n -x back <<< "$got")" = 3:back ]; then
         word=back
         got=$(grep -v -x back <<< "$got")
@@ -194,12 +198,8 @@ judge_nodes() {
     # Which parts of a segment a pump claims depends on the threads.
     case $1 in chain) got=$(grep -v -E '^(note|node) ' <<< "$got" || true) ;; esac
     whole=$(of_nodes "$1")
-    # Refused was an allocation of what isn't tried: of reading the header, of a job, of the list of jobs or of the text.
-    if [[ $got != "$whole" && $whole = "$got"* ]]; then
-        case ${got##*$'\n'} in
-            starts | opened | worked | gathered | closed | Sound) echo before; return ;;
-        esac
-    fi
+    # Outside are reading the header, the jobs and the plans, posting by hand, and the text.
+    if is_outside "$whole" "$got"; then echo outside; return; fi
     refused=$(sed -n 's/^refused //p' <<< "$got")
     matches "$whole" "$(grep -v '^refused ' <<< "$got")" "${refused:-none}"
 }
@@ -241,7 +241,7 @@ check() {
         if [ -z "${met[$what]:-}" ]; then count "$call of $run" "no allocation of $what was refused"; fi
         unset "met[$what]"
     done
-    unset 'met[none]' 'met[before]'
+    unset 'met[none]' 'met[outside]'
     for what in "${!met[@]}"; do count "$call of $run" "$what isn't to be refused memory, and was"; done
     judge_run "$call" "$run" "$last"
     if [ "$word" != none ]; then count "$call of $run" "without an allocation that fails: $word"; fi

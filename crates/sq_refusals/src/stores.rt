@@ -1,5 +1,9 @@
 // Tries the calls of a store of families.
+ghost use Rattle.std.specs.Prelude.{IfOk, IsTrue};
+ghost use Rattle.sq_store.specs.StoreValue.{roots_differ, has_none_of};
+
 use crate::input::schema;
+use crate::telling::value_of;
 use crate::unfinished::Unfinished;
 use sq_model::{Answer, Step};
 use sq_plan::PartId;
@@ -8,7 +12,7 @@ use sq_schema::{Family, ROOT_END, Reply, Txn};
 use sq_slab::SlabStore;
 use sq_store::{Cut, FamilyStore, VecStore};
 use sq_text::{WriteFault, read_step, write_answer, write_at};
-use std::alloc::Global;
+use std::alloc::{AllocError, Global};
 use std::io::Write;
 
 const LINES: [&str; 3] = [
@@ -70,26 +74,24 @@ fn apply<W: Write, S: FamilyStore>(
     store: &mut S,
     txn: &Txn,
 ) -> Result<(), Unfinished> {
-    match store.apply(txn) {
-        Ok(reply) => write_reply(writer, txn, reply)?,
-        Err(_) => {
-            writeln!(writer, "refused apply")?;
-            dump(writer, store)?;
-            apply_again(writer, store, txn)?;
-        }
-    }
+    let reply = apply_twice(writer, store, txn)?;
+    write_reply(writer, txn, reply)?;
     dump(writer, store)?;
     Ok(())
 }
 
-fn apply_again<W: Write, S: FamilyStore>(
+fn apply_twice<W: Write, S: FamilyStore>(
     writer: &mut W,
     store: &mut S,
     txn: &Txn,
-) -> Result<(), Unfinished> {
+) -> Result<Reply, Unfinished> {
     match store.apply(txn) {
-        Ok(reply) => Ok(write_reply(writer, txn, reply)?),
-        Err(_) => Err(Unfinished::Memory),
+        Ok(reply) => Ok(reply),
+        Err(_) => {
+            writeln!(writer, "refused apply")?;
+            dump(writer, store)?;
+            value_of(store.apply(txn))
+        }
     }
 }
 
@@ -99,32 +101,54 @@ fn write_reply<W: Write>(writer: &mut W, txn: &Txn, reply: Reply) -> Result<(), 
 }
 
 // Takes the first family out.
-fn take<W: Write, S: FamilyStore>(writer: &mut W, store: &mut S) -> Result<Cut, Unfinished> {
-    let cut = match store.take(ALL, 64) {
-        Ok(cut) => cut,
-        Err(_) => {
-            writeln!(writer, "refused take")?;
-            dump(writer, store)?;
-            store.take(ALL, 64)?
-        }
-    };
+fn take<W: Write, S: FamilyStore>(writer: &mut W, store: &mut S) -> Result<Cut, Unfinished>
+    ensures differ { IfOk result (λ cut. IsTrue (roots_differ cut.families.items)) }
+    ensures absent { IfOk result
+        (λ cut. IsTrue (has_none_of (S.contents store.new) cut.families.items)) }
+{
+    let cut = take_twice(writer, store)?;
     write_roots(writer, "took", &cut.families)?;
     dump(writer, store)?;
     Ok(cut)
 }
 
+fn take_twice<W: Write, S: FamilyStore>(writer: &mut W, store: &mut S) -> Result<Cut, Unfinished>
+    ensures differ { IfOk result (λ cut. IsTrue (roots_differ cut.families.items)) }
+    ensures absent { IfOk result
+        (λ cut. IsTrue (has_none_of (S.contents store.new) cut.families.items)) }
+{
+    match take_once(store) {
+        Ok(cut) => Ok(cut),
+        Err(_) => {
+            writeln!(writer, "refused take")?;
+            dump(writer, store)?;
+            value_of(take_once(store))
+        }
+    }
+}
+
+fn take_once<S: FamilyStore>(store: &mut S) -> Result<Cut, AllocError>
+    ensures differ { IfOk result (λ cut. IsTrue (roots_differ cut.families.items)) }
+    ensures absent { IfOk result
+        (λ cut. IsTrue (has_none_of (S.contents store.new) cut.families.items)) }
+{
+    store.take(ALL, 64)
+}
+
+// Gives families back.
 fn give<W: Write, S: FamilyStore>(
     writer: &mut W,
     store: &mut S,
     families: Vec<Family>,
-) -> Result<(), Unfinished> {
+) -> Result<(), Unfinished>
+    requires differ { IsTrue (roots_differ families.items) }
+    requires absent { IsTrue (has_none_of (S.contents store.old) families.items) }
+{
     if let Err(back) = store.give(families) {
         writeln!(writer, "refused give")?;
         write_roots(writer, "back", &back)?;
         dump(writer, store)?;
-        if store.give(back).is_err() {
-            return Err(Unfinished::Memory);
-        }
+        value_of(store.give(back))?;
     }
     writeln!(writer, "gave")?;
     dump(writer, store)?;

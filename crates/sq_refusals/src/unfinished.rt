@@ -1,18 +1,22 @@
 // Why a call isn't tried to its end.
-use sq_text::{LineFault, LocatedFault, WriteFault};
+use sq_plan::PlanFault;
+use sq_text::{InputFault, LineFault, LocatedFault, WriteFault};
 use std::alloc::{AllocError, AllocFailed};
 use std::io;
+use std::io::ErrorKind;
 use thiserror::Error;
 
 /// Why a call isn't tried to its end.
 #[derive(Clone, Copy, Debug, PartialEq, Eq, Error)]
 pub enum Unfinished {
-    #[error("out of memory outside of the call, or twice in it")]
+    #[error("out of memory outside of the calls that are tried")]
     Memory,
+    #[error("a call is refused twice")]
+    Refused,
     #[error("the input is malformed")]
     Malformed,
-    #[error("a write failed")]
-    NotWritten,
+    #[error("a read or a write failed")]
+    Failed,
 }
 
 impl From<AllocError> for Unfinished {
@@ -28,25 +32,43 @@ impl<T: Drop> From<AllocFailed<T>> for Unfinished {
 }
 
 impl From<io::Error> for Unfinished {
-    fn from(_error: io::Error) -> Unfinished {
-        Unfinished::NotWritten
+    fn from(error: io::Error) -> Unfinished {
+        match error.kind() {
+            ErrorKind::OutOfMemory => Unfinished::Memory,
+            _ => Unfinished::Failed,
+        }
     }
 }
 
 impl From<WriteFault> for Unfinished {
     fn from(_fault: WriteFault) -> Unfinished {
-        Unfinished::NotWritten
+        Unfinished::Failed
     }
 }
 
 impl From<LocatedFault> for Unfinished {
-    fn from(_fault: LocatedFault) -> Unfinished {
-        Unfinished::Malformed
+    fn from(fault: LocatedFault) -> Unfinished {
+        match fault.fault {
+            InputFault::Memory => Unfinished::Memory,
+            _ => Unfinished::Malformed,
+        }
     }
 }
 
 impl From<LineFault> for Unfinished {
-    fn from(_fault: LineFault) -> Unfinished {
-        Unfinished::Malformed
+    fn from(fault: LineFault) -> Unfinished {
+        match fault {
+            LineFault::Memory => Unfinished::Memory,
+            _ => Unfinished::Malformed,
+        }
+    }
+}
+
+impl From<PlanFault> for Unfinished {
+    fn from(fault: PlanFault) -> Unfinished {
+        match fault {
+            PlanFault::Memory => Unfinished::Memory,
+            _ => Unfinished::Malformed,
+        }
     }
 }
