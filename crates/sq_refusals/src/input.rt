@@ -32,10 +32,7 @@ pub fn read_script(alloc: Global, input: &[u8]) -> Result<(Opening, Vec<Step>), 
 }
 
 // Returns the steps of the lines that are left.
-fn read_steps<R: Read>(
-    alloc: Global,
-    lines: &mut LineReader<R>,
-) -> Result<Vec<Step>, Unfinished> {
+fn read_steps<R: Read>(alloc: Global, lines: &mut LineReader<R>) -> Result<Vec<Step>, Unfinished> {
     let schema = schema();
     let mut steps = Vec::with_capacity(alloc, 64)?;
     for _line in 0..u64::MAX {

@@ -1,6 +1,6 @@
 // Tries the steps of a script: one by one, as a list, and from bytes to bytes.
 use crate::input::{read_all, read_script};
-use crate::telling::value_of;
+use crate::telling::{say, value_of};
 use crate::unfinished::Unfinished;
 use sq_model::{Answer, Refusal, Step};
 use sq_ranges::Opening;
@@ -46,11 +46,7 @@ fn open(alloc: Global, opening: Opening) -> Result<World, Unfinished> {
 }
 
 // Makes a step, and once more if there was no memory for it. Writes each answer.
-fn make_step<W: Write>(
-    writer: &mut W,
-    world: &mut World,
-    step: &Step,
-) -> Result<(), WriteFault> {
+fn make_step<W: Write>(writer: &mut W, world: &mut World, step: &Step) -> Result<(), WriteFault> {
     let answer = world.step(step);
     write_answer(writer, &answer)?;
     if is_out_of_memory(&answer) {
@@ -71,14 +67,18 @@ pub fn try_list<R: Read, W: Write>(
     reader: &mut R,
     writer: &mut W,
 ) -> Result<(), Unfinished> {
-    writeln!(writer, "starts")?;
+    say(writer, "starts");
     let input = read_all(alloc, reader)?;
     let (opening, steps) = read_script(alloc, &input)?;
-    writeln!(writer, "opened")?;
-    let (world, answers) = make_list(alloc, writer, opening, &steps)?;
-    write_answers(writer, &answers)?;
-    world.write_dump(writer)?;
-    Ok(())
+    say(writer, "opened");
+    match make_list(alloc, writer, opening, &steps) {
+        Ok((world, answers)) => {
+            write_answers(writer, &answers);
+            drop(world.write_dump(writer));
+            Ok(())
+        }
+        Err(unfinished) => Err(unfinished),
+    }
 }
 
 fn make_list<W: Write>(
@@ -90,17 +90,16 @@ fn make_list<W: Write>(
     match run_world(alloc, opening, steps) {
         Ok(ran) => Ok(ran),
         Err(back) => {
-            writeln!(writer, "back")?;
+            say(writer, "back");
             value_of(run_world(alloc, back, steps))
         }
     }
 }
 
-fn write_answers<W: Write>(writer: &mut W, answers: &[Answer]) -> Result<(), WriteFault> {
+fn write_answers<W: Write>(writer: &mut W, answers: &[Answer]) {
     for answer in answers {
-        write_answer(writer, answer)?;
+        drop(write_answer(writer, answer));
     }
-    Ok(())
 }
 
 /// Runs the whole text by `run`.
@@ -109,13 +108,18 @@ pub fn try_input<R: Read, W: Write>(
     reader: &mut R,
     writer: &mut W,
 ) -> Result<(), Unfinished> {
-    writeln!(writer, "starts")?;
+    say(writer, "starts");
     let input = read_all(alloc, reader)?;
-    writeln!(writer, "opened")?;
+    say(writer, "opened");
+    run_text(alloc, writer, &input);
+    Ok(())
+}
+
+fn run_text<W: Write>(alloc: Global, writer: &mut W, mut text: &[u8]) {
     let manner = ScriptManner {
         echoes: false,
         strict: false,
     };
-    run(alloc, &mut input.as_slice(), writer, manner, &mut None)?;
-    Ok(())
+    let mut kept = None;
+    drop(run(alloc, &mut text, writer, manner, &mut kept));
 }

@@ -3,7 +3,7 @@ ghost use Rattle.std.specs.Prelude.{IfOk, IsTrue};
 ghost use Rattle.sq_store.specs.StoreValue.{roots_differ, has_none_of};
 
 use crate::input::schema;
-use crate::telling::value_of;
+use crate::telling::{say, value_of};
 use crate::unfinished::Unfinished;
 use sq_model::{Answer, Step};
 use sq_plan::PartId;
@@ -11,7 +11,7 @@ use sq_ranges::Extent;
 use sq_schema::{Family, ROOT_END, Reply, Txn};
 use sq_slab::SlabStore;
 use sq_store::{Cut, FamilyStore, VecStore};
-use sq_text::{WriteFault, read_step, write_answer, write_at};
+use sq_text::{read_step, write_answer, write_at};
 use std::alloc::{AllocError, Global};
 use std::io::Write;
 
@@ -29,17 +29,17 @@ const ALL: Extent = Extent {
 
 /// Tries the calls of a `VecStore`.
 pub fn try_vec_store<W: Write>(alloc: Global, writer: &mut W) -> Result<(), Unfinished> {
-    writeln!(writer, "starts")?;
+    say(writer, "starts");
     let txns = transactions(alloc)?;
-    writeln!(writer, "opened")?;
+    say(writer, "opened");
     make_calls(writer, &mut VecStore::new(alloc), &txns)
 }
 
 /// Tries the calls of a `SlabStore`.
 pub fn try_block_store<W: Write>(alloc: Global, writer: &mut W) -> Result<(), Unfinished> {
-    writeln!(writer, "starts")?;
+    say(writer, "starts");
     let txns = transactions(alloc)?;
-    writeln!(writer, "opened")?;
+    say(writer, "opened");
     make_calls(writer, &mut SlabStore::new(alloc), &txns)
 }
 
@@ -75,8 +75,9 @@ fn apply<W: Write, S: FamilyStore>(
     txn: &Txn,
 ) -> Result<(), Unfinished> {
     let reply = apply_twice(writer, store, txn)?;
-    write_reply(writer, txn, reply)?;
-    dump(writer, store)?;
+    let id = txn.id();
+    drop(write_answer(writer, &Answer::Replied { id, reply }));
+    dump(writer, store);
     Ok(())
 }
 
@@ -88,16 +89,11 @@ fn apply_twice<W: Write, S: FamilyStore>(
     match store.apply(txn) {
         Ok(reply) => Ok(reply),
         Err(_) => {
-            writeln!(writer, "refused apply")?;
-            dump(writer, store)?;
+            say(writer, "refused apply");
+            dump(writer, store);
             value_of(store.apply(txn))
         }
     }
-}
-
-fn write_reply<W: Write>(writer: &mut W, txn: &Txn, reply: Reply) -> Result<(), WriteFault> {
-    let id = txn.id();
-    write_answer(writer, &Answer::Replied { id, reply })
 }
 
 // Takes the first family out.
@@ -107,8 +103,8 @@ fn take<W: Write, S: FamilyStore>(writer: &mut W, store: &mut S) -> Result<Cut, 
         (λ cut. IsTrue (has_none_of (S.contents store.new) cut.families.items)) }
 {
     let cut = take_twice(writer, store)?;
-    write_roots(writer, "took", &cut.families)?;
-    dump(writer, store)?;
+    write_roots(writer, "took", &cut.families);
+    dump(writer, store);
     Ok(cut)
 }
 
@@ -120,8 +116,8 @@ fn take_twice<W: Write, S: FamilyStore>(writer: &mut W, store: &mut S) -> Result
     match take_once(store) {
         Ok(cut) => Ok(cut),
         Err(_) => {
-            writeln!(writer, "refused take")?;
-            dump(writer, store)?;
+            say(writer, "refused take");
+            dump(writer, store);
             value_of(take_once(store))
         }
     }
@@ -132,7 +128,7 @@ fn take_once<S: FamilyStore>(store: &mut S) -> Result<Cut, AllocError>
     ensures absent { IfOk result
         (λ cut. IsTrue (has_none_of (S.contents store.new) cut.families.items)) }
 {
-    store.take(ALL, 64)
+    Ok(store.take(ALL, 64)?)
 }
 
 // Gives families back.
@@ -145,38 +141,32 @@ fn give<W: Write, S: FamilyStore>(
     requires absent { IsTrue (has_none_of (S.contents store.old) families.items) }
 {
     if let Err(back) = store.give(families) {
-        writeln!(writer, "refused give")?;
-        write_roots(writer, "back", &back)?;
-        dump(writer, store)?;
+        say(writer, "refused give");
+        write_roots(writer, "back", &back);
+        dump(writer, store);
         value_of(store.give(back))?;
     }
-    writeln!(writer, "gave")?;
-    dump(writer, store)?;
+    say(writer, "gave");
+    dump(writer, store);
     Ok(())
 }
 
 // Writes the root key of each family after `word`.
-fn write_roots<W: Write>(
-    writer: &mut W,
-    word: &str,
-    families: &[Family],
-) -> Result<(), Unfinished> {
+fn write_roots<W: Write>(writer: &mut W, word: &str, families: &[Family]) {
     for family in families {
         let root = family.root().number();
-        writeln!(writer, "{word} {root}")?;
+        drop(writeln!(writer, "{word} {root}"));
     }
-    Ok(())
 }
 
 // Writes the families by rising root key.
-fn dump<W: Write, S: FamilyStore>(writer: &mut W, store: &S) -> Result<(), WriteFault> {
+fn dump<W: Write, S: FamilyStore>(writer: &mut W, store: &S) {
     let mut at = 0;
     for _family in 0..ROOT_END {
         let Some(family) = store.walk(at) else {
             break;
         };
-        write_at(writer, PartId::new(0), family)?;
+        drop(write_at(writer, PartId::new(0), family));
         at = family.root().number() + 1;
     }
-    Ok(())
 }
