@@ -18,23 +18,23 @@
 #   folds        the same, with a fold in threads
 #   page         a page of a run at rest, which is taken and audited
 #   engine       an engine: a client of three jobs at rest, a pause, a page, a move with a client, a move back without one, and the
-#                end, with the verdict; where a teller has no memory for an answer the epoch ends, and the jobs are answered
+#                end, with the verdict; if a teller has no memory for an answer the epoch ends, and the jobs are answered
 #                without a client
 #   chain        the epochs of an engine one by one: a move in two stages, a page between them, a move back, and the end
 #
-# All print first that they start. Where an allocation is refused that is of no call that is tried, the run ends with a line that says so.
+# All print first that they start. If an allocation outside the calls that are tried is refused, the last line of the run says so.
 #
-# A step that answered 222 changed nothing: made once more it answers as it was to, and so do all later ones, with the same
-# dump. Of a list at most one step is refused, and the rest is what the rules say of the script without it. Of an input the same, or
-# the fault 222 is all that is written.
+# A step that answers 222 changes nothing: it is made once more, and it and all later ones answer as if nothing was refused, with the
+# same dump. Of a list at most one step is refused, and the rest is what the rules say of the script without it. Of an input the same,
+# or the fault 222 is all that is written.
 #
-# The runs of `nodes`, `two_stages` and `folds` are made by hand. Where an allocation of a tree, of a link, or of what a
-# run opens with (its trees, links, queues, nodes and pumps) is refused, it is opened once more. A step whose allocation is refused
-# answers so, and its work is done at a later turn. A gathering, a fold and a next stage whose allocation is refused hand all back,
-# and are called once more with what came back; and so do the taking and the audit of a page, and the calls of an engine. So what
-# is gathered in the end is always the same.
+# The runs of `nodes`, `two_stages`, `folds` and `page` are stepped by hand. If an allocation is refused of a tree, of a link, or of
+# what a run opens with (its trees, links, queues, nodes and pumps), it is opened once more. A step whose allocation is refused says
+# so, and a later turn does its work. A gathering, a fold, a next stage, the taking and the audit of a page, and the calls of an
+# engine return what they were given if an allocation of theirs is refused, and are called once more with it. So what is gathered in
+# the end is always the same.
 #
-# The workers of `engine` and `chain` run in threads, so that an allocation of the same number isn't always of the same call, and two
+# The workers of `engine` and `chain` run in threads, so an allocation of the same number isn't always of the same call, and two
 # runs may ask for different numbers of allocations.
 set -eu
 . "$(dirname "$0")/lib.sh"
@@ -43,11 +43,11 @@ room=$(mktemp -d)
 trap 'rm -r "$room"' EXIT
 outputs=${KEEP:-$room/outputs}
 
-# How many runs are made at once before it is looked at whether all had an allocation that failed.
+# How many runs are made before it is looked at whether an allocation failed in each.
 batch=40
 
-# The calls that are tried, each with the stored run that it is called on and with what takes memory in it. Allocations of the
-# program are refused by tests/refused.sh.
+# The calls that are tried, each with the stored run that it is called on and with what takes memory in it. tests/refused.sh refuses
+# allocations of the program `squall`.
 tries() {
     cat "$tests/programs/refused_calls/tries"
 }
@@ -141,9 +141,9 @@ wanted() {
     esac
 }
 
-# --- what is wanted of runs in threads ---
+# --- what is wanted of nodes, pages and engines ---
 
-# of_nodes CALL: what a call writes where nothing is refused.
+# of_nodes CALL: what a call writes if nothing is refused.
 of_nodes() {
     cat "$tests/programs/refused_calls/${1/folds/two_stages}.out"
 }
@@ -192,7 +192,7 @@ judge_steps() {
     matches "$(wanted "$1" "$2" "${step:-0}")" "$got" "$word"
 }
 
-# judge_nodes CALL GOT: says the same of an output of nodes, of two stages, of a page or of an engine.
+# judge_nodes CALL GOT: says the same of an output of the other calls.
 judge_nodes() {
     local got=$2 whole refused
     # Which parts of a segment a pump claims depends on the threads.
@@ -204,7 +204,7 @@ judge_nodes() {
     matches "$whole" "$(grep -v '^refused ' <<< "$got")" "${refused:-none}"
 }
 
-# judge CALL RUN GOT: says what an output shows that was refused.
+# judge CALL RUN GOT: says what was refused, by the output.
 judge() {
     case $1 in
         nodes | two_stages | folds | page | engine | chain) judge_nodes "$1" "$3" ;;
@@ -225,27 +225,44 @@ judge_run() {
     esac
 }
 
-# check CALL RUN WORDS..: judges all runs of a call; an allocation of each of these was refused in some run, and of nothing else, and in
-# the last run none was.
-check() {
-    local call=$1 run=$2 number what word last
-    shift 2
-    declare -A met=() judged=()
-    input_of "$call" "$run" > "$room/in"
+# judge_all CALL RUN: refuses each allocation in turn, and judges the runs. Leaves what was refused in `met`; in the last run nothing was.
+judge_all() {
+    local call=$1 run=$2 number word last
     try_all "$call.$run"
     for ((number = 1; number < last; number++)); do
         judge_run "$call" "$run" "$number"
         case $word in wrong*) ;; *) met[$word]=1 ;; esac
     done
+    judge_run "$call" "$run" "$last"
+    if [ "$word" != none ]; then count "$call of $run" "without an allocation that fails: $word"; fi
+    echo "$call of $run: $((last - 1)) allocations"
+}
+
+# lacks_one WORDS..: whether `met` lacks one of these.
+lacks_one() {
+    local what
+    for what in "$@"; do
+        if [ -z "${met[$what]:-}" ]; then return 0; fi
+    done
+    return 1
+}
+
+# check CALL RUN WORDS..: judges all runs of a call. An allocation of each word was refused in some run, and of nothing else. If
+# runs in threads missed one, all runs are made again, twice at most.
+check() {
+    local call=$1 run=$2 what
+    shift 2
+    declare -A met=() judged=()
+    input_of "$call" "$run" > "$room/in"
+    judge_all "$call" "$run"
+    if lacks_one "$@"; then judge_all "$call" "$run"; fi
+    if lacks_one "$@"; then judge_all "$call" "$run"; fi
     for what in "$@"; do
         if [ -z "${met[$what]:-}" ]; then count "$call of $run" "no allocation of $what was refused"; fi
         unset "met[$what]"
     done
     unset 'met[none]' 'met[outside]'
     for what in "${!met[@]}"; do count "$call of $run" "$what isn't to be refused memory, and was"; done
-    judge_run "$call" "$run" "$last"
-    if [ "$word" != none ]; then count "$call of $run" "without an allocation that fails: $word"; fi
-    echo "$call of $run: $((last - 1)) allocations"
 }
 
 if [ ! -x "$program" ]; then

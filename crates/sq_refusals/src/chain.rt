@@ -2,10 +2,10 @@
 // and the end. Their workers run in threads.
 ghost use Rattle.sq_engine.specs.History.{HasDoneStage, HasMoreStages, IsLastStage};
 
-use crate::gathered_text::{tell_both, tell_gathered};
+use crate::gathered_text::{print_both, print_gathered};
 use crate::hand_run::PUMPS;
 use crate::lines::{read_job, read_opening};
-use crate::telling::{tell, tell_refused, value_of};
+use crate::printing::{print_line, print_refused, value_of};
 use crate::unfinished::Unfinished;
 use sq_audit::Job;
 use sq_driver::OpenGate;
@@ -35,25 +35,25 @@ pub fn try_chain<R: Threads + Wait + Print + Sync>(
     rt: &R,
     alloc: Global,
 ) -> Result<(), Unfinished> {
-    tell(rt, "starts");
+    print_line(rt, "starts");
     let opening = read_opening(alloc, HEADER)?;
     let first = read_job(alloc, FIRST)?;
     let second = read_job(alloc, SECOND)?;
     let plan = Plan::read(alloc, BACK.as_bytes())?;
     let again = plan.clone()?;
-    tell(rt, "read");
-    let pause = make_stages(rt, alloc, opening, &first, &second)?;
+    print_line(rt, "read");
+    let pause = run_stages(rt, alloc, opening, &first, &second)?;
     let due = move_to(rt, alloc, pause, plan, again)?;
-    tell(rt, "moves");
+    print_line(rt, "moves");
     let epoch = begin(rt, alloc, due)?;
     let pause = end(rt, alloc, epoch)?;
     let closed = close(rt, alloc, pause)?;
-    tell(rt, "closed");
-    tell_both(rt, alloc, &closed.page.run, &closed.gathered)
+    print_line(rt, "closed");
+    print_both(rt, alloc, &closed.page.run, &closed.gathered)
 }
 
-// Makes the first stage, a page, and the second stage.
-fn make_stages<R: Threads + Wait + Print + Sync>(
+// Runs the first stage, takes a page, and runs the second stage.
+fn run_stages<R: Threads + Wait + Print + Sync>(
     rt: &R,
     alloc: Global,
     opening: Opening,
@@ -61,7 +61,7 @@ fn make_stages<R: Threads + Wait + Print + Sync>(
     second: &Job,
 ) -> Result<Pause, Unfinished> {
     let mut epoch = open(rt, alloc, opening)?;
-    tell(rt, "opened");
+    print_line(rt, "opened");
     post(rt, &mut epoch, first);
     let pause = end(rt, alloc, epoch)?;
     let pause = take_page(rt, alloc, pause)?;
@@ -79,7 +79,7 @@ fn open<R: Threads + Print + Sync>(
     match Epoch::open(rt, alloc, opening, PUMPS) {
         Ok(epoch) => Ok(epoch),
         Err(back) => {
-            tell_refused(rt, "open");
+            print_refused(rt, "open");
             value_of(Epoch::open(rt, alloc, back, PUMPS))
         }
     }
@@ -88,13 +88,13 @@ fn open<R: Threads + Print + Sync>(
 // Posts a job.
 fn post<R: Wait + Print>(rt: &R, epoch: &mut Epoch, job: &Job) {
     if epoch.post(rt, job.part, &job.txn).is_err() {
-        tell_refused(rt, "post");
+        print_refused(rt, "post");
         drop(epoch.post(rt, job.part, &job.txn));
     }
 }
 
-// Runs an epoch until its workers are idle, and once more if there was no memory to complete its
-// segments.
+// Runs an epoch until its workers are idle. If there was no memory to complete its segments, runs
+// it once more.
 fn run<R: Threads + Wait + Print + Sync>(rt: &R, epoch: Epoch) -> Epoch {
     let epoch = epoch.run(rt, u64::MAX, &OpenGate).0;
     let StageProgress {
@@ -105,7 +105,7 @@ fn run<R: Threads + Wait + Print + Sync>(rt: &R, epoch: Epoch) -> Epoch {
     if complete == segments {
         return epoch;
     }
-    tell_refused(rt, "run");
+    print_refused(rt, "run");
     epoch.run(rt, u64::MAX, &OpenGate).0
 }
 
@@ -115,13 +115,13 @@ fn end<R: Threads + Wait + Print + Sync>(
     alloc: Global,
     epoch: Epoch,
 ) -> Result<Pause, Unfinished> {
-    tell(rt, "works");
+    print_line(rt, "works");
     let epoch = run(rt, epoch);
-    tell(rt, "worked");
+    print_line(rt, "worked");
     match epoch.end(rt, alloc) {
         Ok(pause) => Ok(pause),
         Err(back) => {
-            tell_refused(rt, "end");
+            print_refused(rt, "end");
             value_of(back.end(rt, alloc))
         }
     }
@@ -134,8 +134,8 @@ fn take_page<R: Threads + Print + Sync>(
     pause: Pause,
 ) -> Result<Pause, Unfinished> {
     let (page, pause) = take_twice(rt, alloc, pause)?;
-    tell(rt, "taken");
-    let told = tell_gathered(rt, alloc, &page.run);
+    print_line(rt, "taken");
+    let told = print_gathered(rt, alloc, &page.run);
     drop(page);
     match told {
         Ok(()) => Ok(pause),
@@ -154,7 +154,7 @@ fn take_twice<R: Threads + Print + Sync>(
     match pause.take_page(rt, alloc) {
         Ok(taken) => Ok(taken),
         Err((_, back)) => {
-            tell_refused(rt, "page");
+            print_refused(rt, "page");
             value_of(back.take_page(rt, alloc))
         }
     }
@@ -178,13 +178,13 @@ fn begin_stage<R: Print>(rt: &R, alloc: Global, pause: Pause) -> Result<Epoch, U
     match pause.next_stage(alloc, PUMPS) {
         Ok(epoch) => Ok(epoch),
         Err(back) => {
-            tell_refused(rt, "stage");
+            print_refused(rt, "stage");
             value_of(back.next_stage(alloc, PUMPS))
         }
     }
 }
 
-// Prepares a move to a plan; `again` is the same plan.
+// Prepares a move to `plan`; `again` is the same plan.
 fn move_to<R: Print>(
     rt: &R,
     alloc: Global,
@@ -214,7 +214,7 @@ fn move_twice<R: Print>(
     match pause.move_to(alloc, plan) {
         Ok(due) => Ok(due),
         Err((_, back)) => {
-            tell_refused(rt, "move");
+            print_refused(rt, "move");
             value_of(back.move_to(alloc, again))
         }
     }
@@ -225,7 +225,7 @@ fn begin<R: Print>(rt: &R, alloc: Global, due: NextMove) -> Result<Epoch, Unfini
     match due.begin(alloc, PUMPS) {
         Ok(epoch) => Ok(epoch),
         Err(back) => {
-            tell_refused(rt, "begin");
+            print_refused(rt, "begin");
             value_of(back.begin(alloc, PUMPS))
         }
     }
@@ -240,7 +240,7 @@ fn close<R: Threads + Print + Sync>(
     match pause.close(rt, alloc) {
         Ok(closed) => Ok(closed),
         Err((_, back)) => {
-            tell_refused(rt, "close");
+            print_refused(rt, "close");
             value_of(back.close(rt, alloc))
         }
     }

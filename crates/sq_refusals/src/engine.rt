@@ -1,10 +1,10 @@
 // Tries an engine: a client of three jobs at rest, a pause, a page, a move with a client, a move
 // back without one, and the end. Its workers run in threads.
-use crate::gathered_text::{tell_both, tell_gathered};
+use crate::gathered_text::{print_both, print_gathered};
 use crate::hand_run::PUMPS;
 use crate::lines::{read_job, read_opening};
 use crate::poster::Poster;
-use crate::telling::{tell, tell_refused, value_of};
+use crate::printing::{print_line, print_refused, value_of};
 use crate::unfinished::Unfinished;
 use sq_audit::{Job, Verdict};
 use sq_driver::OpenGate;
@@ -46,24 +46,24 @@ pub fn try_engine<R: Threads + Wait + Print + Sync>(
     rt: &R,
     alloc: Global,
 ) -> Result<(), Unfinished> {
-    tell(rt, "starts");
+    print_line(rt, "starts");
     let opening = read_opening(alloc, HEADER)?;
-    tell(rt, "read");
+    print_line(rt, "read");
     let engine = open(rt, alloc, opening)?;
-    tell(rt, "opened");
+    print_line(rt, "opened");
     let engine = serve(rt, alloc, engine, &AT_REST)?;
     let engine = pause(rt, alloc, engine)?;
     let engine = take_page(rt, alloc, engine)?;
     let engine = move_to(rt, alloc, engine, THERE)?;
-    tell(rt, "moves");
+    print_line(rt, "moves");
     let engine = serve(rt, alloc, engine, &IN_MOVE)?;
     let engine = move_to(rt, alloc, engine, BACK)?;
-    tell(rt, "moves back");
+    print_line(rt, "moves back");
     let engine = run(rt, alloc, engine);
-    tell(rt, "ran");
+    print_line(rt, "ran");
     let closed = close(rt, alloc, engine)?;
-    tell(rt, "closed");
-    tell_closed(rt, alloc, &closed)
+    print_line(rt, "closed");
+    print_closed(rt, alloc, &closed)
 }
 
 // Opens an engine at rest.
@@ -75,7 +75,7 @@ fn open<R: Threads + Print + Sync>(
     match Engine::open(rt, alloc, opening, PUMPS) {
         Ok(engine) => Ok(engine),
         Err(back) => {
-            tell_refused(rt, "open");
+            print_refused(rt, "open");
             value_of(Engine::open(rt, alloc, back, PUMPS))
         }
     }
@@ -113,7 +113,7 @@ fn serve_jobs<R: Threads + Wait + Print + Sync>(
 ) -> Result<Engine, Unfinished> {
     let mut client = Poster::new(jobs);
     let mut engine = engine;
-    tell(rt, "serves");
+    print_line(rt, "serves");
     for _epoch in 0..EPOCHS {
         if engine.is_at_rest() && client.is_done() {
             break;
@@ -121,13 +121,13 @@ fn serve_jobs<R: Threads + Wait + Print + Sync>(
         engine = serve_epoch(rt, alloc, engine, &mut client)?;
     }
     if client.has_one_back() {
-        tell_refused(rt, "post");
+        print_refused(rt, "post");
     }
-    tell(rt, "served");
+    print_line(rt, "served");
     Ok(engine)
 }
 
-// Serves a client for an epoch.
+// Serves `client` for an epoch.
 fn serve_epoch<R: Threads + Wait + Print + Sync>(
     rt: &R,
     alloc: Global,
@@ -138,15 +138,15 @@ fn serve_epoch<R: Threads + Wait + Print + Sync>(
     match engine.serve(rt, alloc, u64::MAX, client) {
         Ok(served) => Ok(end_serving(rt, alloc, served, client)),
         Err(back) => {
-            tell_refused(rt, "serve");
+            print_refused(rt, "serve");
             let served = value_of(back.serve(rt, alloc, u64::MAX, client))?;
             Ok(end_serving(rt, alloc, served, client))
         }
     }
 }
 
-// Returns the engine after an epoch. If a teller had no memory for an answer, the jobs that were
-// posted are answered without a client.
+// Returns the engine after an epoch. If a teller had no memory for an answer, an epoch without a
+// client answers the posted jobs.
 fn end_serving<R: Threads + Wait + Print + Sync>(
     rt: &R,
     alloc: Global,
@@ -161,7 +161,7 @@ fn end_serving<R: Threads + Wait + Print + Sync>(
     if is_whole {
         return engine;
     }
-    tell_refused(rt, "teller");
+    print_refused(rt, "teller");
     client.await_none();
     engine.run_epoch(rt, alloc, u64::MAX, &OpenGate).0
 }
@@ -171,7 +171,7 @@ fn pause<R: Wait + Print>(rt: &R, alloc: Global, engine: Engine) -> Result<Engin
     match engine.pause(rt, alloc) {
         Ok(engine) => Ok(engine),
         Err((_, back)) => {
-            tell_refused(rt, "pause");
+            print_refused(rt, "pause");
             value_of(back.pause(rt, alloc))
         }
     }
@@ -184,8 +184,8 @@ fn take_page<R: Threads + Wait + Print + Sync>(
     engine: Engine,
 ) -> Result<Engine, Unfinished> {
     let (mut page, engine) = take_twice(rt, alloc, engine)?;
-    tell(rt, "taken");
-    let told = tell_page(rt, alloc, &mut page);
+    print_line(rt, "taken");
+    let told = print_page(rt, alloc, &mut page);
     drop(page);
     match told {
         Ok(()) => Ok(engine),
@@ -204,14 +204,14 @@ fn take_twice<R: Threads + Wait + Print + Sync>(
     match engine.take_page(rt, alloc) {
         Ok(taken) => Ok(taken),
         Err((_, back)) => {
-            tell_refused(rt, "page");
+            print_refused(rt, "page");
             value_of(back.take_page(rt, alloc))
         }
     }
 }
 
 // Prints a page with its verdict. After a teller broke off, some receipts are of a later epoch.
-fn tell_page<R: Threads + Print + Sync>(
+fn print_page<R: Threads + Print + Sync>(
     rt: &R,
     alloc: Global,
     page: &mut RestPage,
@@ -222,7 +222,7 @@ fn tell_page<R: Threads + Print + Sync>(
         .run
         .receipts
         .sort_unstable_by_key(|receipt| receipt.id);
-    tell_gathered(rt, alloc, &page.page.run)
+    print_gathered(rt, alloc, &page.page.run)
 }
 
 fn audit_page<R: Threads + Print + Sync>(
@@ -233,7 +233,7 @@ fn audit_page<R: Threads + Print + Sync>(
     match page.audit(rt, alloc) {
         Ok(verdict) => Ok(verdict),
         Err(_) => {
-            tell_refused(rt, "audit");
+            print_refused(rt, "audit");
             value_of(page.audit(rt, alloc))
         }
     }
@@ -246,7 +246,7 @@ fn move_to<R: Wait + Print>(
     engine: Engine,
     text: &str,
 ) -> Result<Engine, Unfinished> {
-    match read_twice(alloc, text) {
+    match read_and_copy(alloc, text) {
         Ok((plan, again)) => move_twice(rt, alloc, engine, plan, again),
         Err(unfinished) => {
             drop(engine);
@@ -255,8 +255,8 @@ fn move_to<R: Wait + Print>(
     }
 }
 
-// Reads a plan, and once more.
-fn read_twice(alloc: Global, text: &str) -> Result<(Plan, Plan), Unfinished> {
+// Returns the plan of `text`, and a copy.
+fn read_and_copy(alloc: Global, text: &str) -> Result<(Plan, Plan), Unfinished> {
     let plan = Plan::read(alloc, text.as_bytes())?;
     let again = plan.clone()?;
     Ok((plan, again))
@@ -272,19 +272,19 @@ fn move_twice<R: Wait + Print>(
     match engine.move_to(rt, alloc, plan) {
         Ok(engine) => Ok(engine),
         Err((_, back)) => {
-            tell_refused(rt, "move");
+            print_refused(rt, "move");
             value_of(back.move_to(rt, alloc, again))
         }
     }
 }
 
-// Runs an engine until it is at rest. One epoch is enough, unless there was no memory at its end.
+// Runs an engine until it is at rest: for one epoch, or two if there was no memory at its end.
 fn run<R: Threads + Wait + Print + Sync>(rt: &R, alloc: Global, engine: Engine) -> Engine {
     let engine = engine.run_epoch(rt, alloc, u64::MAX, &OpenGate).0;
     if engine.is_at_rest() {
         return engine;
     }
-    tell_refused(rt, "run");
+    print_refused(rt, "run");
     engine.run_epoch(rt, alloc, u64::MAX, &OpenGate).0
 }
 
@@ -297,14 +297,14 @@ fn close<R: Threads + Wait + Print + Sync>(
     match engine.close(rt, alloc) {
         Ok(closed) => Ok(closed),
         Err((_, back)) => {
-            tell_refused(rt, "close");
+            print_refused(rt, "close");
             value_of(back.close(rt, alloc))
         }
     }
 }
 
 // Prints the last page of an engine with its verdict, and what it left.
-fn tell_closed<R: Threads + Print + Sync>(
+fn print_closed<R: Threads + Print + Sync>(
     rt: &R,
     alloc: Global,
     closed: &Closed,
@@ -312,12 +312,12 @@ fn tell_closed<R: Threads + Print + Sync>(
     let verdict = match audit_closed(rt, alloc, closed) {
         Ok(verdict) => verdict,
         Err(_) => {
-            tell_refused(rt, "end");
+            print_refused(rt, "end");
             value_of(audit_closed(rt, alloc, closed))?
         }
     };
     drop(println!(rt; "{verdict:?}"));
-    tell_both(rt, alloc, &closed.page.run, &closed.gathered)
+    print_both(rt, alloc, &closed.page.run, &closed.gathered)
 }
 
 fn audit_closed<R: Threads + Sync>(

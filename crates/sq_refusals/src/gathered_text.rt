@@ -1,5 +1,5 @@
-// What is gathered of a run, in lines.
-use crate::telling::tell_text;
+// The text of what is gathered of a run.
+use crate::printing::print_text;
 use crate::unfinished::Unfinished;
 use sq_gather::{ClosedLink, Gathered};
 use sq_model::Answer;
@@ -12,10 +12,10 @@ use sq_tree::{NODES, NodeId, Status};
 use std::alloc::Global;
 use std::io::Write;
 
-/// Prints all that is gathered: the families of each partition; for each link the notes of its
-/// chunks, and then the chunks under way; for each segment the nodes that aren't free; the receipts.
-/// Nothing is printed if there is no memory for the lines.
-pub fn tell_gathered<R: Print>(
+/// Prints the families of each partition; for each link the notes of its chunks and its chunks
+/// under way; for each segment the nodes that aren't free; the receipts. If there is no memory for
+/// the text, it prints nothing.
+pub fn print_gathered<R: Print>(
     rt: &R,
     alloc: Global,
     gathered: &Gathered,
@@ -25,12 +25,12 @@ pub fn tell_gathered<R: Print>(
     if write_gathered(&mut text, gathered).is_err() {
         return Err(Unfinished::Memory);
     }
-    tell_text(rt, &text);
+    print_text(rt, &text);
     Ok(())
 }
 
-/// Prints what is gathered of two runs, in the same way.
-pub fn tell_both<R: Print>(
+/// Prints two runs as [`print_gathered`] does, or nothing.
+pub fn print_both<R: Print>(
     rt: &R,
     alloc: Global,
     first: &Gathered,
@@ -40,7 +40,7 @@ pub fn tell_both<R: Print>(
     if write_both(&mut text, first, second).is_err() {
         return Err(Unfinished::Memory);
     }
-    tell_text(rt, &text);
+    print_text(rt, &text);
     Ok(())
 }
 
@@ -132,7 +132,7 @@ fn write_status(text: &mut Vec<u8>, node: u64, status: Status) -> Result<(), Wri
     Ok(())
 }
 
-// Receipts, each with its root key and its position before the line of its answer.
+// The receipts, each with its root key and its position before its answer.
 fn write_receipts(text: &mut Vec<u8>, receipts: &[Receipt]) -> Result<(), WriteFault> {
     for receipt in receipts {
         write_receipt(text, receipt)?;

@@ -1,10 +1,10 @@
-// Runs whose steps are made by hand, in one thread.
+// Runs that are stepped by hand, in one thread.
 ghost use Rattle.std.specs.Prelude.{◌≡◌, ◌≤◌};
 ghost use Rattle.sq_node.specs.Prelude.{IsNodeOf};
 ghost use Rattle.sq_gather.specs.Gathered.{AreAllOf};
 
 use crate::lines::read_job;
-use crate::telling::{tell, tell_refused, value_of};
+use crate::printing::{print_line, print_refused, value_of};
 use crate::unfinished::Unfinished;
 use sq_audit::Job;
 use sq_gather::{Gathered, gather};
@@ -14,10 +14,10 @@ use sq_ranges::Opening;
 use std::alloc::{AllocError, Global};
 use std::sync::Wait;
 
-// How many pumps claim rows in the background.
+/// The number of pumps, which claim rows in the background.
 pub const PUMPS: u32 = 1;
 
-/// A run: what its nodes share, all nodes and all pumps.
+/// A run: what its nodes share, all its nodes and all its pumps.
 pub struct HandRun {
     fabric: Fabric,
     nodes: Vec<Node>,
@@ -36,12 +36,12 @@ impl Drop for HandRun {
 }
 
 impl HandRun {
-    /// Opens the run of `opening`, and once more if there was no memory for it.
+    /// Opens the run of `opening`; if there was no memory for it, opens it once more.
     pub fn open<R: Print>(rt: &R, alloc: Global, opening: &Opening) -> Result<HandRun, Unfinished> {
         match HandRun::open_once(alloc, opening) {
             Ok(run) => Ok(run),
             Err(_) => {
-                tell_refused(rt, "open");
+                print_refused(rt, "open");
                 Ok(HandRun::open_once(alloc, opening)?)
             }
         }
@@ -52,7 +52,7 @@ impl HandRun {
         Ok(HandRun::of(parts))
     }
 
-    /// Returns the run of its parts.
+    /// Returns the run of these parts.
     pub fn of(run: RunParts) -> HandRun
         requires { AreAllOf run.fabric run.nodes.items run.pumps.items }
     {
@@ -77,17 +77,17 @@ impl HandRun {
         }
     }
 
-    /// Makes a turn of the node of `part`, and prints the steps for which there was no memory. They
-    /// are made at a later turn.
+    /// Runs a turn of the node of `part`, and prints the steps for which there was no memory. A
+    /// later turn does their work.
     pub fn turn<R: Wait + Print>(&mut self, rt: &R, part: usize) {
         if part >= self.nodes.len() {
             return;
         }
-        let steps = make_steps(rt, &self.fabric, &mut self.nodes[part]);
-        tell_steps(rt, steps);
+        let steps = run_steps(rt, &self.fabric, &mut self.nodes[part]);
+        print_steps(rt, steps);
     }
 
-    /// Makes a turn of the first pump. If there was no memory for it, it claims at a later turn.
+    /// Runs a turn of the first pump. If there was no memory for it, a later turn claims.
     pub fn turn_pump<R: Wait>(&mut self, rt: &R) {
         if self.pumps.is_empty() {
             return;
@@ -97,7 +97,7 @@ impl HandRun {
         drop(turn);
     }
 
-    /// Gathers the run, and once more if there was no memory for it.
+    /// Gathers the run; if there was no memory for it, gathers it once more.
     pub fn gather<R: Wait + Print>(self, rt: &R, alloc: Global) -> Result<Gathered, Unfinished> {
         let HandRun {
             fabric,
@@ -110,7 +110,7 @@ impl HandRun {
             pumps,
         };
         let gathered = gather_twice(rt, alloc, run)?;
-        tell(rt, "gathered");
+        print_line(rt, "gathered");
         Ok(gathered)
     }
 }
@@ -125,14 +125,14 @@ fn gather_twice<R: Wait + Print>(
     match gather(rt, alloc, run) {
         Ok(gathered) => Ok(gathered),
         Err(back) => {
-            tell_refused(rt, "gather");
+            print_refused(rt, "gather");
             value_of(gather(rt, alloc, back))
         }
     }
 }
 
-// Sends what is pending at a node, and makes each of its steps once.
-fn make_steps<R: Wait>(rt: &R, fabric: &Fabric, node: &mut Node) -> [Stepped; 8]
+// Sends what is pending at a node, and runs each of its steps once.
+fn run_steps<R: Wait>(rt: &R, fabric: &Fabric, node: &mut Node) -> [Stepped; 8]
     requires { IsNodeOf fabric.now node.old }
     ensures of { IsNodeOf fabric.now node.new }
     ensures part { node.new.core.part ≡ node.old.core.part }
@@ -150,16 +150,16 @@ fn make_steps<R: Wait>(rt: &R, fabric: &Fabric, node: &mut Node) -> [Stepped; 8]
     ]
 }
 
-// The steps of a node, in their order.
+// The steps of a node, in the order of `run_steps`.
 const STEPS: [&str; 8] = [
     "job", "request", "cut", "send", "recv", "load", "complete", "resume",
 ];
 
 // Prints the steps for which there was no memory.
-fn tell_steps<R: Print>(rt: &R, steps: [Stepped; 8]) {
+fn print_steps<R: Print>(rt: &R, steps: [Stepped; 8]) {
     for (name, stepped) in STEPS.iter().zip(&steps) {
         if *stepped == Stepped::Memory {
-            tell_refused(rt, name);
+            print_refused(rt, name);
         }
     }
 }

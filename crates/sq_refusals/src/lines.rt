@@ -1,4 +1,4 @@
-// Reads openings and jobs.
+// Readers of openings and jobs.
 ghost use Rattle.std.specs.Prelude.{IfOk};
 ghost use Rattle.sq_audit.specs.Answers.{IdsDiffer};
 
@@ -18,7 +18,7 @@ pub fn read_opening(alloc: Global, header: &str) -> Result<Opening, Unfinished> 
     Ok(read_header(alloc, schema(), &mut lines)?)
 }
 
-/// Returns the job of a line, which names its partition.
+/// Returns the job of `line`, which names its partition.
 pub fn read_job(alloc: Global, line: &str) -> Result<Job, Unfinished> {
     match read_step(alloc, &schema(), line.as_bytes())? {
         Step::Submit(part, txn) if part < 256 => Ok(Job {

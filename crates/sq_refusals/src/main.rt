@@ -12,24 +12,24 @@ mod lines;
 mod nodes;
 mod page;
 mod poster;
+mod printing;
 mod steps;
 mod stores;
-mod telling;
 mod two_stages;
 mod unfinished;
 
 use anyhow::Context;
 use call::Call;
+use printing::print_line;
 use std::alloc::Global;
 use std::io;
 use std::io::Read;
 use std::sync::Wait;
 use std::thread::Threads;
-use telling::tell;
 use two_stages::Fold;
 use unfinished::Unfinished;
 
-// Tries a call. What `reader` gives is its input.
+// Tries `call`; what `reader` reads is its input.
 fn try_call<R: Threads + Wait + Print + Sync, I: Read>(
     rt: &R,
     alloc: Global,
@@ -52,7 +52,7 @@ fn try_call<R: Threads + Wait + Print + Sync, I: Read>(
     }
 }
 
-// If an allocation was refused that is of no call that is tried, the last line says so.
+// If an allocation outside the calls that are tried was refused, the last line says so.
 fn main(rt: HostRuntime) -> anyhow::Result<()> {
     let mut reader = rt.reader();
     let mut letter = [0];
@@ -60,7 +60,7 @@ fn main(rt: HostRuntime) -> anyhow::Result<()> {
     let call = Call::of(letter[0]).context("no call has this letter")?;
     let outcome = try_call(&rt, rt.alloc(), call, &mut reader);
     if outcome == Err(Unfinished::Memory) {
-        tell(&rt, "no memory");
+        print_line(&rt, "no memory");
     }
     outcome?;
     Ok(())

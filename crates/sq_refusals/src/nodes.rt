@@ -1,11 +1,10 @@
-// Tries a tree and a link by themselves, and two pulls of a leaf, the second of which is under way
-// in the end.
+// Tries a tree and a link by themselves, and two pulls of a leaf. The second one doesn't end.
 ghost use Rattle.std.specs.Prelude.{◌≡◌, IfOk};
 
-use crate::gathered_text::tell_gathered;
+use crate::gathered_text::print_gathered;
 use crate::hand_run::HandRun;
 use crate::lines::read_opening;
-use crate::telling::{tell, tell_refused};
+use crate::printing::{print_line, print_refused};
 use crate::unfinished::Unfinished;
 use sq_gather::Gathered;
 use sq_link::{RecvPass, SendPass, SharedLink};
@@ -25,16 +24,18 @@ row 6 0 0 7 -
 
 /// Tries a tree, a link, and two pulls.
 pub fn try_nodes<R: Wait + Print>(rt: &R, alloc: Global) -> Result<(), Unfinished> {
-    tell(rt, "starts");
+    print_line(rt, "starts");
     try_tree(rt, alloc)?;
     try_link(rt, alloc)?;
     let opening = read_opening(alloc, HEADER)?;
-    tell(rt, "read");
+    print_line(rt, "read");
     let run = HandRun::open(rt, alloc, &opening)?;
-    tell(rt, "opened");
+    print_line(rt, "opened");
     let gathered = try_pulls(rt, alloc, run)?;
-    let told = tell_gathered(rt, alloc, &gathered);
-    tell_left(rt, &gathered);
+    let told = print_gathered(rt, alloc, &gathered);
+    if told.is_ok() {
+        print_left(rt, &gathered);
+    }
     told
 }
 
@@ -53,7 +54,7 @@ fn open_tree<R: Print>(rt: &R, alloc: Global) -> Result<(StatusTree, TreeSeat), 
     match StatusTree::open(alloc) {
         Ok(opened) => Ok(opened),
         Err(_) => {
-            tell_refused(rt, "tree");
+            print_refused(rt, "tree");
             StatusTree::open(alloc)
         }
     }
@@ -80,7 +81,7 @@ fn open_link<R: Print>(
     match SharedLink::open(alloc, src, dst, 2) {
         Ok(opened) => Ok(opened),
         Err(_) => {
-            tell_refused(rt, "link");
+            print_refused(rt, "link");
             SharedLink::open(alloc, src, dst, 2)
         }
     }
@@ -93,16 +94,16 @@ fn try_pulls<R: Wait + Print>(
     mut run: HandRun,
 ) -> Result<Gathered, Unfinished> {
     run.post(rt, alloc, "txn 1 9 5 get 0 0")?;
-    tell(rt, "works");
+    print_line(rt, "works");
     turns(rt, &mut run, &[1, 0, 1]);
-    tell(rt, "worked");
+    print_line(rt, "worked");
     run.post(rt, alloc, "txn 1 10 6 get 0 0")?;
-    tell(rt, "posted");
+    print_line(rt, "posted");
     turns(rt, &mut run, &[1, 0]);
     run.gather(rt, alloc)
 }
 
-// Makes turns of these partitions, one after another.
+// Runs eight turns of each of `parts`, one partition after another.
 fn turns<R: Wait + Print>(rt: &R, run: &mut HandRun, parts: &[usize]) {
     for part in parts {
         for _turn in 0..8 {
@@ -111,8 +112,8 @@ fn turns<R: Wait + Print>(rt: &R, run: &mut HandRun, parts: &[usize]) {
     }
 }
 
-// Prints how many jobs are left at each partition.
-fn tell_left<R: Print>(rt: &R, gathered: &Gathered) {
+// Prints how many jobs each partition has left.
+fn print_left<R: Print>(rt: &R, gathered: &Gathered) {
     for jobs in &gathered.left {
         let left = jobs.len();
         drop(println!(rt; "left {left}"));

@@ -1,13 +1,13 @@
-// Tries a page of a run at rest, with a family that has a log, one that an abort names, and one that
-// is left. It is audited.
+// Tries a page of a run at rest and its audit. One family has a log, an abort names another one,
+// and the third one has neither.
 ghost use Rattle.sq_page.specs.Pages.{AllStored};
 ghost use Rattle.std.specs.Prelude.{IfOk};
 ghost use Rattle.sq_audit.specs.Answers.{IdsDiffer};
 
-use crate::gathered_text::tell_both;
+use crate::gathered_text::print_both;
 use crate::hand_run::HandRun;
 use crate::lines::{read_opening, read_two_jobs};
-use crate::telling::{tell, tell_refused, value_of};
+use crate::printing::{print_line, print_refused, value_of};
 use crate::unfinished::Unfinished;
 use sq_audit::{Job, Verdict};
 use sq_gather::Gathered;
@@ -29,19 +29,19 @@ const ABORT: &str = "txn 0 1 5 check 0 0 99";
 
 const COMMIT: &str = "txn 1 2 12 add 0 0 1";
 
-/// Tries a page and its audit, and prints them and what the page leaves.
+/// Tries a page and its audit; prints the verdict, the page and what the page leaves.
 pub fn try_page<R: Threads + Wait + Print + Sync>(rt: &R, alloc: Global) -> Result<(), Unfinished> {
-    tell(rt, "starts");
+    print_line(rt, "starts");
     let opening = read_opening(alloc, HEADER)?;
-    tell(rt, "read");
+    print_line(rt, "read");
     let gathered = worked(rt, alloc, &opening)?;
     let paged = take(rt, alloc, gathered)?;
-    tell(rt, "taken");
-    tell_paged(rt, alloc, &opening, &paged)
+    print_line(rt, "taken");
+    print_paged(rt, alloc, &opening, &paged)
 }
 
 // Prints the verdict on a page, the page and what it leaves.
-fn tell_paged<R: Threads + Print + Sync>(
+fn print_paged<R: Threads + Print + Sync>(
     rt: &R,
     alloc: Global,
     opening: &Opening,
@@ -51,29 +51,29 @@ fn tell_paged<R: Threads + Print + Sync>(
 {
     let verdict = verdict(rt, alloc, opening, &paged.page)?;
     drop(println!(rt; "{verdict:?}"));
-    tell_both(rt, alloc, &paged.page.run, &paged.left)
+    print_both(rt, alloc, &paged.page.run, &paged.left)
 }
 
-// Has both jobs answered, each by its partition, and gathers the run.
+// Posts both jobs, each to its partition, runs turns until they are answered, and gathers the run.
 fn worked<R: Wait + Print>(
     rt: &R,
     alloc: Global,
     opening: &Opening,
 ) -> Result<Gathered, Unfinished> {
     let mut run = HandRun::open(rt, alloc, opening)?;
-    tell(rt, "opened");
+    print_line(rt, "opened");
     run.post(rt, alloc, ABORT)?;
     run.post(rt, alloc, COMMIT)?;
-    tell(rt, "works");
+    print_line(rt, "works");
     for _turn in 0..4 {
         run.turn(rt, 0);
         run.turn(rt, 1);
     }
-    tell(rt, "worked");
+    print_line(rt, "worked");
     run.gather(rt, alloc)
 }
 
-// Takes a page of a run between whose partitions nothing moves.
+// Takes a page of a run without links.
 fn take<R: Threads + Print + Sync>(
     rt: &R,
     alloc: Global,
@@ -102,7 +102,7 @@ fn take_twice<R: Threads + Print + Sync>(
     match take_page(rt, alloc, gathered, jobs) {
         Ok(paged) => Ok(paged),
         Err(back) => {
-            tell_refused(rt, "take");
+            print_refused(rt, "take");
             value_of(take_page(rt, alloc, back.gathered, back.jobs))
         }
     }
@@ -120,7 +120,7 @@ fn verdict<R: Threads + Print + Sync>(
     match verdict_once(rt, alloc, opening, page) {
         Ok(verdict) => Ok(verdict),
         Err(_) => {
-            tell_refused(rt, "audit");
+            print_refused(rt, "audit");
             value_of(verdict_once(rt, alloc, opening, page))
         }
     }

@@ -4,20 +4,19 @@ use sq_engine::{Client, Command, PostFault, StageProgress};
 use sq_node::Receipt;
 use sq_plan::PartId;
 
-/// A client that posts jobs. It ends an epoch at rest once it has heard of each of them, or an
-/// answer isn't given.
+/// A client that posts jobs. It ends an epoch at rest once each of them is answered.
 #[derive(Drop)]
 pub struct Poster {
-    // The jobs that aren't posted.
+    // The jobs that it has not posted yet.
     left: Vec<Job>,
-    // How many answers it waits for.
+    // How many answers it awaits.
     awaited: usize,
     at_rest: bool,
     has_one_back: bool,
 }
 
 impl Poster {
-    /// Returns a client that posts `jobs`.
+    /// Returns a client that posts `jobs`, the last one first.
     pub fn new(jobs: Vec<Job>) -> Poster {
         Poster {
             awaited: jobs.len(),
@@ -32,7 +31,7 @@ impl Poster {
         self.at_rest = at_rest;
     }
 
-    /// Waits for no answers but those of the jobs that aren't posted.
+    /// Awaits only the answers of the jobs that it has not posted yet.
     pub fn await_none(&mut self) {
         self.awaited = self.left.len();
     }
@@ -54,8 +53,8 @@ impl Client for Poster {
     fn next(&mut self, progress: StageProgress) -> Command {
         match self.left.pop() {
             Some(job) => Command::Post(job),
-            // If there was no memory to come to rest after a move, the engine does so before it is
-            // served.
+            // If there was no memory to come to rest after a move, the engine comes to rest before
+            // it serves.
             None if (self.at_rest || progress.is_rest()) && self.is_done() => Command::End,
             None => Command::Rest,
         }

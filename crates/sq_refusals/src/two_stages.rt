@@ -1,13 +1,13 @@
-// Tries a move in two stages. The job on root key 9 is posted once the first stage has ended, and so
-// left; the logs are folded then.
+// Tries a move in two stages. The job on root key 9 is posted after the first stage, which leaves
+// it unanswered; then the logs are folded.
 ghost use Rattle.std.specs.Prelude.{OnOk};
 ghost use Rattle.sq_node_model.specs.Prelude.{IsStageDone};
 ghost use Rattle.sq_audit.specs.Answers.{IdsDiffer};
 
-use crate::gathered_text::tell_gathered;
+use crate::gathered_text::print_gathered;
 use crate::hand_run::{HandRun, PUMPS};
 use crate::lines::{read_opening, read_two_jobs};
-use crate::telling::{tell, tell_refused, value_of};
+use crate::printing::{print_line, print_refused, value_of};
 use crate::unfinished::Unfinished;
 use sq_audit::{Defect, Folded, Job, Unfolded, Verdict, audit, fold, fold_in_threads};
 use sq_gather::{Gathered, reopen};
@@ -40,10 +40,10 @@ pub fn try_two_stages<R: Threads + Wait + Print + Sync>(
     alloc: Global,
     kind: Fold,
 ) -> Result<(), Unfinished> {
-    tell(rt, "starts");
+    print_line(rt, "starts");
     let jobs = read_two_jobs(alloc, FIRST, SECOND)?;
     let opening = read_opening(alloc, HEADER)?;
-    tell(rt, "read");
+    print_line(rt, "read");
     let gathered = first_stage(rt, alloc, &opening)?;
     let Folded {
         opening,
@@ -62,17 +62,17 @@ fn first_stage<R: Wait + Print>(
     opening: &Opening,
 ) -> Result<Gathered, Unfinished> {
     let mut run = HandRun::open(rt, alloc, opening)?;
-    tell(rt, "opened");
+    print_line(rt, "opened");
     run.post(rt, alloc, FIRST)?;
-    tell(rt, "works");
+    print_line(rt, "works");
     work(rt, &mut run);
-    tell(rt, "worked");
+    print_line(rt, "worked");
     run.post(rt, alloc, SECOND)?;
-    tell(rt, "posted");
+    print_line(rt, "posted");
     run.gather(rt, alloc)
 }
 
-// Runs the second stage, and prints what is gathered of it.
+// Runs the second stage, gathers it, and prints what was gathered.
 fn second_stage<R: Wait + Print>(
     rt: &R,
     alloc: Global,
@@ -82,10 +82,10 @@ fn second_stage<R: Wait + Print>(
     let mut run = reopened(rt, alloc, opening, gathered)?;
     work(rt, &mut run);
     let gathered = run.gather(rt, alloc)?;
-    tell_gathered(rt, alloc, &gathered)
+    print_gathered(rt, alloc, &gathered)
 }
 
-// Makes turns of all workers. The pump claims a segment whole.
+// Runs turns of all workers. The pump claims a segment whole.
 fn work<R: Wait + Print>(rt: &R, run: &mut HandRun) {
     for _turn in 0..8 {
         run.turn_pump(rt);
@@ -109,11 +109,11 @@ fn folded<R: Threads + Print + Sync>(
     if let Err(unfinished) = check_done(&opening, &gathered, &jobs) {
         return Err(unfinished);
     }
-    tell(rt, "folds");
+    print_line(rt, "folds");
     fold_twice(rt, alloc, opening, gathered, jobs, kind)
 }
 
-// Fails unless the stage is done, and nothing is wrong but that a job isn't answered yet.
+// Fails unless the stage is done and the only defect is a job without an answer.
 fn check_done(opening: &Opening, gathered: &Gathered, jobs: &[Job]) -> Result<(), Unfinished>
     requires { IdsDiffer jobs.now }
     ensures { OnOk result (IsStageDone opening.now gathered.now) }
@@ -138,7 +138,7 @@ fn fold_twice<R: Threads + Print + Sync>(
     match fold_once(rt, alloc, opening, gathered, jobs, kind) {
         Ok(folded) => Ok(folded),
         Err(Unfolded::Memory(back)) => {
-            tell_refused(rt, "fold");
+            print_refused(rt, "fold");
             value_of(fold_once(rt, alloc, back.opening, back.gathered, back.jobs, kind))
         }
         Err(Unfolded::Unsound(_)) => Err(Unfinished::Refused),
@@ -162,7 +162,7 @@ fn fold_once<R: Threads + Sync>(
     }
 }
 
-// Opens the next stage, and once more if there was no memory for it.
+// Opens the next stage; if there was no memory for it, opens it once more.
 fn reopened<R: Print>(
     rt: &R,
     alloc: Global,
@@ -172,7 +172,7 @@ fn reopened<R: Print>(
     match reopen_once(alloc, opening, gathered) {
         Ok(run) => Ok(run),
         Err(back) => {
-            tell_refused(rt, "reopen");
+            print_refused(rt, "reopen");
             value_of(reopen_once(alloc, opening, back))
         }
     }

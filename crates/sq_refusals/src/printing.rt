@@ -1,4 +1,4 @@
-// What the calls return, and what is printed of them.
+// Values of calls, and lines of output.
 ghost use Rattle.std.specs.Prelude.{◌≡◌, Ok, IfOk};
 
 use crate::unfinished::Unfinished;
@@ -15,22 +15,20 @@ pub fn value_of<T, E: Drop>(outcome: Result<T, E>) -> Result<T, Unfinished>
     }
 }
 
-/// Writes a line. Whoever judges the output misses a line that isn't written.
+/// Writes a line. If that fails, the line is missing, and the output is judged to be wrong.
 pub fn say<W: Write>(writer: &mut W, line: &str) {
     drop(writeln!(writer, "{line}"));
 }
 
-/// Prints a line.
-pub fn tell<R: Print>(rt: &R, line: &str) {
+pub fn print_line<R: Print>(rt: &R, line: &str) {
     drop(rt.println(line));
 }
 
-/// Prints that there was no memory for a call.
-pub fn tell_refused<R: Print>(rt: &R, call: &str) {
+/// Prints that there was no memory for `call`.
+pub fn print_refused<R: Print>(rt: &R, call: &str) {
     drop(println!(rt; "refused {call}"));
 }
 
-/// Prints lines.
-pub fn tell_text<R: Print>(rt: &R, text: &[u8]) {
+pub fn print_text<R: Print>(rt: &R, text: &[u8]) {
     drop(io::writer(rt).write_all(text));
 }

@@ -2,7 +2,7 @@ use Rattle.std.proofs.Common.{ap, ◌∙◌}
 use Rattle.sq_node.specs.NodeState.{NodeState}
 use Rattle.sq_driver.specs.declared.gate.NodeStep.TheVariants.{Job, Request, Cut, Send, Recv, Load, Complete, Resume}
 use Rattle.sq_driver.proofs.Parts.{step_part}
-use Rattle.sq_refusals.proofs.hand_run.make_steps.Goals as goal
+use Rattle.sq_refusals.proofs.hand_run.run_steps.Goals as goal
 
 pub returns-clause-part : goal.returns-clause-part
 returns-clause-part g c =
