@@ -1,8 +1,9 @@
 // Tries a move in two stages. The job on root key 9 is posted after the first stage, which leaves
 // it unanswered; then the logs are folded.
-ghost use Rattle.std.specs.Prelude.{OnOk};
-ghost use Rattle.sq_node_model.specs.Prelude.{IsStageDone};
+ghost use Rattle.std.specs.Prelude.{OnOk, IfErr};
+ghost use Rattle.sq_node_model.specs.Prelude.{IsStageDone, AllGrown};
 ghost use Rattle.sq_audit.specs.Answers.{IdsDiffer};
+ghost use Rattle.sq_audit.specs.Folding.{IsUnfolded};
 
 use crate::gathered_text::print_gathered;
 use crate::hand_run::{HandRun, PUMPS};
@@ -119,8 +120,20 @@ fn check_done(opening: &Opening, gathered: &Gathered, jobs: &[Job]) -> Result<()
     ensures { OnOk result (IsStageDone opening.now gathered.now) }
 {
     match audit(opening, gathered, jobs)? {
-        Verdict::Unsound(Defect::Unanswered) if gathered.is_stage_done(opening) => Ok(()),
+        Verdict::Unsound(Defect::Unanswered) => check_segments(opening, gathered),
         _ => Err(Unfinished::Refused),
+    }
+}
+
+// Fails unless each segment of the stage is complete.
+fn check_segments(opening: &Opening, gathered: &Gathered) -> Result<(), Unfinished>
+    requires { AllGrown gathered.now.statuses }
+    ensures { OnOk result (IsStageDone opening.now gathered.now) }
+{
+    if gathered.is_stage_done(opening) {
+        Ok(())
+    } else {
+        Err(Unfinished::Refused)
     }
 }
 
@@ -155,6 +168,7 @@ fn fold_once<R: Threads + Sync>(
 ) -> Result<Folded, Unfolded>
     requires done { IsStageDone opening gathered }
     requires ids { IdsDiffer jobs.items }
+    ensures { IfErr result (IsUnfolded opening gathered jobs.items) }
 {
     match kind {
         Fold::InOneThread => fold(alloc, opening, gathered, jobs),
