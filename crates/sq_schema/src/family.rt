@@ -53,6 +53,19 @@ impl Family {
     }
 
     /// Creates a family of `root` that starts from `rows`, which have rows of other tables only
+    /// under the root row. It takes no memory.
+    pub fn starting(alloc: Global, root: Root, rows: Rows) -> Family
+        requires { IsTrue (is_rooted rows) }
+        ensures { result ≡ record { root = root; base = rows; log = [] } }
+    {
+        Family {
+            root,
+            rows: LoggedRows::new(rows),
+            log: Vec::new(alloc),
+        }
+    }
+
+    /// Creates a family of `root` that starts from `rows`, which have rows of other tables only
     /// under the root row. If memory runs out, `rows` are returned.
     pub fn opened(alloc: Global, root: Root, rows: Rows) -> Result<Family, Rows>
         requires { IsTrue (is_rooted rows) }
@@ -60,11 +73,7 @@ impl Family {
             ≡ record { root = root; base = rows; log = [] }) }
         ensures err { IfErr result (λ back. back ≡ rows) }
     {
-        Ok(Family {
-            root,
-            rows: LoggedRows::new(rows),
-            log: Vec::new(alloc),
-        })
+        Ok(Family::starting(alloc, root, rows))
     }
 
     /// Runs `txn`, a transaction of this root key, on the rows and returns its reply. If it

@@ -16,6 +16,7 @@ pub mod SetRuns
 pub mod MadeRuns
 pub mod OneRoots
 pub mod OpenedRuns
+pub mod Blanks
 pub mod Indexes
 pub mod Swaps
 pub mod GivenBlocks

@@ -42,6 +42,20 @@ pub(crate) fn apply_at(
     runs.apply(run, at, txn)
 }
 
+// Replaces the family at `at` in the run at `run` by `family`, which has its root key.
+pub(crate) fn put_at(runs: &mut Runs, run: usize, at: usize, family: Family)
+    requires runs { AreRuns ROOT_END runs.old }
+    requires place { IsFamilyAt runs.old family.root run at }
+    ensures store { store_of_runs runs.new
+        ≡ insert_at_key (store_of_runs runs.old) family.root family }
+    ensures runs { AreRuns ROOT_END runs.new }
+{
+    let mut families = Vec::new(runs.allocator());
+    runs.swap(run, &mut families);
+    families[at] = family;
+    runs.swap(run, &mut families);
+}
+
 // Inserts `family`. If memory runs out, it is returned.
 pub(crate) fn insert_family(runs: &mut Runs, family: Family) -> Result<(), Family>
     requires runs { AreRuns ROOT_END runs.old }
