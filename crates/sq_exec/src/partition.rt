@@ -1,7 +1,7 @@
 // The partitions of an opening.
 ghost use Rattle.std.specs.Prelude.{◌≡◌, map, IfOk};
 ghost use Rattle.std.specs.List.{range_with_len};
-ghost use Rattle.sq_exec.specs.Opened.{opened_part, blank_part, with_opened, AreBlank, HasOwned, IsOpenStore};
+ghost use Rattle.sq_exec.specs.Opened.{blank_part, with_opened, AreBlank, IsOpenStore};
 
 use crate::part_core::PartCore;
 use sq_plan::{PartId, Plan};
@@ -10,43 +10,12 @@ use sq_schema::Table;
 use sq_slab::SlabStore;
 use std::alloc::{AllocError, Global};
 
-/// Opens all partitions of the plan before the move, which hasn't started.
-pub fn open_partitions(
-    alloc: Global,
-    opening: &Opening,
-) -> Result<Vec<PartCore<SlabStore>>, AllocError>
-    ensures { IfOk result (λ cores. map (λ part. part.core) cores.items
-        ≡ map (opened_part opening.now) (range_with_len 0 opening.now.old.parts)) }
-{
-    let mut cores = Vec::new(alloc);
-    for number in 0..opening.old_plan().parts() {
-        cores.push(open_partition(alloc, opening, PartId::new(number))?)?;
-    }
-    Ok(cores)
-}
-
 /// Returns the families of the root keys that `part` owns before the move.
 pub fn open_store(alloc: Global, opening: &Opening, part: PartId) -> Result<SlabStore, AllocError>
     ensures { IfOk result (IsOpenStore opening.now part) }
 {
     let store = SlabStore::opened(alloc, opening.old_plan(), part, opening.table())?;
     Ok(store)
-}
-
-/// Opens partition `part` with the families of the root keys that it owns. Its move hasn't started.
-pub fn open_partition(
-    alloc: Global,
-    opening: &Opening,
-    part: PartId,
-) -> Result<PartCore<SlabStore>, AllocError>
-    ensures core { IfOk result (λ opened. opened.core ≡ opened_part opening.now part) }
-    ensures families { IfOk result (λ opened. HasOwned opening.now part opened.core.store) }
-{
-    let store = open_store(alloc, opening, part)?;
-    match PartCore::open(alloc, opening, part, store) {
-        Ok(core) => Ok(core),
-        Err(_) => Err(AllocError),
-    }
 }
 
 /// Opens all partitions of the plan before the move, which hasn't started, with a family without
