@@ -15,4 +15,5 @@ pub mod Coming
 pub mod Readies
 pub mod Enters
 pub mod Families
+pub mod Fills
 pub mod Tiles

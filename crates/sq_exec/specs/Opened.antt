@@ -1,18 +1,36 @@
 -- What the partitions of an opening hold.
-use Rattle.std.specs.Prelude.{◌≡◌, ℕ, ◌==◌, not, if◌then◌else◌, length, Option, Some, None}
+use Rattle.std.specs.Prelude.{◌≡◌, ℕ, true, ◌==◌, not, if◌then◌else◌, List, length, map, Option, Some, None}
+use Rattle.std.specs.List.{range_with_len}
+use Rattle.std.specs.Ordering.{nat_cmp}
 use Rattle.std.specs.FinMap.{get, empty}
+use Rattle.std.specs.FinMap.Entries.{is_sorted}
 use Rattle.sq_schema.specs.Effect.{RowList}
 use Rattle.sq_schema.specs.Family.{FamilyValue}
-use Rattle.sq_schema.specs.Table.{rows_in}
-use Rattle.sq_plan.specs.PlanValue.{owner}
+use Rattle.sq_schema.specs.Table.{TableValue, rows_in}
+use Rattle.sq_plan.specs.PlanValue.{PlanValue, owner}
 use Rattle.sq_ranges.specs.OpeningValue.{OpeningValue}
 use Rattle.sq_store.specs.StoreValue.{StoreValue, with_families}
-use Rattle.sq_store.specs.Opened.{opened_family, opened_families}
+use Rattle.sq_store.specs.Opened.{blank, opened_family, opened_families}
 use Rattle.sq_exec.specs.CoreValue.{CoreValue, opened_core}
 
 -- a partition with the families of the root keys that it owns, before the move
 abbrev pub opened_part : OpeningValue → ℕ → CoreValue
 opened_part o part = opened_core o part (with_families empty (opened_families o.old part o.table))
+
+-- a partition with those families, each without rows
+abbrev pub blank_part : OpeningValue → ℕ → CoreValue
+blank_part o part = opened_core o part (with_families empty (opened_families o.old part (blank o.table)))
+
+-- the partition with the families of the root keys of a table that it owns, in place of those that
+-- it had
+abbrev pub with_opened : PlanValue → TableValue → CoreValue → CoreValue
+with_opened plan table core = record core { store = with_families empty (opened_families plan core.part table) }
+
+-- these are all partitions of the plan, with a family without rows for each root key of the table
+pub record AreBlank (plan : PlanValue) (table : TableValue) (cores : List CoreValue) : Type 0 where
+  pub rising : is_sorted nat_cmp table ≡ true
+  pub parts : map (λ core. core.part) cores ≡ range_with_len 0 plan.parts
+  pub stores : map (with_opened plan (blank table)) cores ≡ cores
 
 -- the family that a root key with these rows opens with, if it has rows
 abbrev pub opened_at : RowList → ℕ → Option FamilyValue

@@ -6,4 +6,4 @@ pub use Rattle.sq_exec.specs.CoreValue.{CoreValue, entered_core, out_at, inbox_a
 pub use Rattle.sq_exec.specs.Kept.{IsCore}
 pub use Rattle.sq_exec.specs.Serving.{IsTaken, IsResumed}
 pub use Rattle.sq_exec.specs.Moving.{begun_core, CutsFor, may_load, LoadsFrom}
-pub use Rattle.sq_exec.specs.Opened.{opened_part, HasOwned, IsOpenStore}
+pub use Rattle.sq_exec.specs.Opened.{opened_part, blank_part, with_opened, AreBlank, HasOwned, IsOpenStore}

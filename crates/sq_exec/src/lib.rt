@@ -17,4 +17,4 @@ pub use fault::{CutFault, LoadFault, ResumeFault, SubmitFault};
 pub use out_link::OutLink;
 pub use outcome::{Outcome, Resumed};
 pub use part_core::{CoreParts, PartCore};
-pub use partition::{open_partition, open_partitions, open_store};
+pub use partition::{fill_partitions, open_blank_partitions, open_store};

@@ -25,7 +25,7 @@ const ROWS: &str = "rows.txt";
 
 const JOBS: &str = "jobs.txt";
 
-/// Files that don't exist yet: none replaces another file.
+/// Writes files like [`SystemFolder`], but replaces none: a rename fails if the name is taken.
 #[derive(Drop)]
 struct NewFiles<'a, T> {
     rt: &'a T,

@@ -41,7 +41,6 @@ pub struct EngineInput<'a> {
     pub files: Option<EngineFiles<'a>>,
     /// The name of the file that is read before standard input, if there is one.
     pub file: Option<&'a str>,
-    /// The report files.
     pub reports: EngineReports<'a>,
 }
 

@@ -11,8 +11,8 @@ use sq_steps::write_script;
 use std::io::{Read, Write};
 use std::rt::Files;
 
-/// Writes the script that makes the whole move of the header in `reader`. Standard error explains a
-/// fault. Returns the exit status.
+/// Writes the script of the whole move that the header in `reader` describes. Standard error
+/// explains a fault. Returns the exit status.
 pub fn steps<T: Eprint + Files + AllocGlobal, R: Read, W: Write>(
     rt: &T,
     reader: &mut Recalling<R>,

@@ -1,6 +1,9 @@
 // Opens a partition.
-ghost use Rattle.std.specs.Prelude.{◌≡◌, true, replicate, length, map, IfOk, IfErr, []};
+ghost use Rattle.std.specs.Prelude.{◌≡◌, true, replicate, length, map, IfOk, IfErr, IsSome, IsTrue, []};
 ghost use Rattle.std.specs.List.{list_all};
+ghost use Rattle.std.specs.FinMap.{get, insert};
+ghost use Rattle.sq_schema.specs.Rows.{is_rooted};
+ghost use Rattle.sq_store.specs.Opened.{opened_family};
 ghost use Rattle.sq_exec.specs.GivenUp.{none_given_up};
 ghost use Rattle.sq_exec.specs.OutLink.{new_out_link};
 ghost use Rattle.sq_exec.specs.CoreValue.{opened_core, entered_core, has_ends};
@@ -12,6 +15,8 @@ use crate::run::Run;
 use sq_chunk::Chunk;
 use sq_plan::{PartId, Plan};
 use sq_ranges::{Opening, Recon};
+use sq_schema::{Root, Rows};
+use sq_slab::SlabStore;
 use sq_store::FamilyStore;
 use sq_waiting::Waiting;
 use std::alloc::{AllocError, Global};
@@ -93,6 +98,20 @@ impl<S: FamilyStore> PartCore<S> {
         let mut opened = PartCore::open(alloc, opening, part, store)?;
         opened.enter(stage);
         Ok(opened)
+    }
+}
+
+impl PartCore<SlabStore> {
+    /// Replaces the family of `root` by one that starts from `rows`, which have rows of other
+    /// tables only under the root row. It takes no memory.
+    pub(crate) fn fill(&mut self, root: Root, rows: Rows)
+        requires here { IsSome (get self.old.core.store root) }
+        requires rooted { IsTrue (is_rooted rows) }
+        ensures { self.new.core ≡ record self.old.core {
+          store = insert self.old.core.store root (opened_family (root, rows));
+        } }
+    {
+        self.store.fill(root, rows);
     }
 }
 

@@ -3,19 +3,19 @@ ghost use Rattle.std.specs.Prelude.{◌≡◌, ℕ, [], map, IfOk, IfErr};
 ghost use Rattle.std.specs.List.{range_with_len};
 ghost use Rattle.sq_ranges.specs.Prelude.{IsSetUp};
 ghost use Rattle.sq_transition.specs.Prelude.{Holds};
-ghost use Rattle.sq_exec.specs.Prelude.{opened_part};
+ghost use Rattle.sq_exec.specs.Prelude.{blank_part};
 ghost use Rattle.sq_state.specs.Openings.{AreNewTrees, AreNewQueues};
 
 use crate::queue::Queue;
 use crate::state::State;
-use sq_exec::{PartCore, open_partitions};
+use sq_exec::{PartCore, fill_partitions, open_blank_partitions};
 use sq_leader::{Idle, Leader};
 use sq_ranges::{Opening, Range, Recon};
 use sq_slab::SlabStore;
 use sq_tree::PlainTree;
 use std::alloc::{AllocError, Global};
 
-// The parts of a state that aren't in its opening.
+// The parts of a state that aren't in its opening; the families have no rows yet.
 #[derive(Drop)]
 struct Fresh {
     moves: Recon,
@@ -25,16 +25,19 @@ struct Fresh {
 }
 
 impl State {
-    /// Creates the state that a world opens in. If memory runs out, `opening` is returned.
+    /// Creates the state that a world opens in. The rows of `opening` are moved, once all memory is
+    /// taken. If memory runs out, `opening` is returned.
     pub fn open(alloc: Global, opening: Opening) -> Result<State, Opening>
         ensures opened { IfOk result (Holds opening []) }
         ensures set_up { IfOk result (λ _. IsSetUp opening) }
         ensures back { IfErr result (λ back. back ≡ opening) }
     {
-        let Ok(fresh) = fresh_state(alloc, &opening) else {
+        let Ok(mut fresh) = fresh_state(alloc, &opening) else {
             return Err(opening);
         };
         let parts = opening.into_parts();
+        let table = parts.table;
+        fill_partitions(&mut fresh.cores, &parts.old, table);
         let leader = Leader::Idle(Idle::new(&parts.old, fresh.moves));
         Ok(State {
             alloc,
@@ -54,7 +57,7 @@ impl State {
 // Creates the parts of a state that aren't in `opening`.
 fn fresh_state(alloc: Global, opening: &Opening) -> Result<Fresh, AllocError>
     ensures cores { IfOk result (λ fresh. map (λ part. part.core) fresh.cores.items
-        ≡ map (opened_part opening.now) (range_with_len 0 opening.now.old.parts)) }
+        ≡ map (blank_part opening.now) (range_with_len 0 opening.now.old.parts)) }
     ensures moves { IfOk result (λ fresh. fresh.moves ≡ opening.now.recon) }
     ensures trees { IfOk result
         (λ fresh. AreNewTrees opening.now.recon.segments fresh.trees.items) }
@@ -63,7 +66,7 @@ fn fresh_state(alloc: Global, opening: &Opening) -> Result<Fresh, AllocError>
 {
     Ok(Fresh {
         moves: opening.recon().clone()?,
-        cores: open_partitions(alloc, opening)?,
+        cores: open_blank_partitions(alloc, opening)?,
         trees: trees(alloc, opening.recon().segments())?,
         queues: queues(alloc, opening.recon())?,
     })

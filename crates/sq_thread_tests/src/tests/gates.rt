@@ -95,7 +95,8 @@ impl Gate for Recorder {
 
 impl Watch for Recorder {}
 
-/// Keeps each worker at its first step until all have come there. One that waits too long has missed the others.
+/// Holds each worker at its first step until all have reached it. A worker that waits too long
+/// gives up, which `missed` counts.
 #[derive(Drop)]
 pub struct Meeting {
     came: Vec<AtomicBool>,
@@ -119,7 +120,7 @@ impl Meeting {
         })
     }
 
-    /// Whether all workers came there, and none has missed the others.
+    /// Returns true if all workers reached the gate, and none gave up waiting for the others.
     pub fn was_full(&self) -> bool {
         self.count.load(Ordering::SeqCst) == self.came.len() as u64
             && self.missed.load(Ordering::SeqCst) == 0

@@ -1,8 +1,0 @@
-use Rattle.std.proofs.Common.{◌≡◌, map}
-use Rattle.std.specs.List.{range_with_len}
-use Rattle.sq_exec.specs.Opened.{opened_part}
-use Rattle.sq_exec.proofs.partition.open_partitions.Given as goal
-
--- the partitions so far are there
-abbrev pub invariant-loop-number : goal.invariant-loop-number
-invariant-loop-number l = map (λ part. part.core) l.cores.items ≡ map (opened_part l.opening) (range_with_len 0 l.number)
