@@ -1,6 +1,6 @@
 // Tries the steps of a script: one by one, as a list, and from bytes to bytes.
 use crate::input::{read_all, read_script};
-use crate::telling::{say, value_of};
+use crate::printing::{say, value_of};
 use crate::unfinished::Unfinished;
 use sq_model::{Answer, Refusal, Step};
 use sq_ranges::Opening;

@@ -3,7 +3,7 @@ ghost use Rattle.std.specs.Prelude.{IfOk, IsTrue};
 ghost use Rattle.sq_store.specs.StoreValue.{roots_differ, has_none_of};
 
 use crate::input::schema;
-use crate::telling::{say, value_of};
+use crate::printing::{say, value_of};
 use crate::unfinished::Unfinished;
 use sq_model::{Answer, Step};
 use sq_plan::PartId;
