@@ -61,7 +61,7 @@ replaced store root first second (next ∷ later) none =
     ∙ replaced (insert store next.root next) root first second later none.1
     ∙ ap (λ s. insert (with_families s later) root second) (sym (insert_swapped store root next.root first next none.0))
 
--- the rows behind a root key are those of others
+-- the rows after a root key are those of others
 none_owned : (plan : PlanValue) (part root : ℕ) (back : TableValue) → below_all nat_cmp root back ≡ true → IsNoneOf root (opened_families plan part back)
 none_owned plan part root [] below = tt
 none_owned plan part root (entry ∷ back) below =
@@ -124,7 +124,7 @@ module _ (plan : PlanValue) (part : ℕ) where
           subst (λ o. IsSome o)
           (sym (ap (λ store. get store root) (seen rows rows) ∙ get-insert_same (opened_store plan part (with_rows_of rows)) root (opened_family (root, rows)) root refl)) refl
 
--- what was filled so far: the rows that were taken out of the table, behind the root keys that are left
+-- what was filled so far: the rows that were taken out of the table, after the root keys that are left
 pub record IsFilled (plan : PlanValue) (whole left : TableValue) (cores now : List CoreValue) : Type 0 where
   pub taken : TableValue
   pub parted : whole ≡ left ++ taken

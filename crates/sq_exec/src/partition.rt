@@ -7,7 +7,7 @@ use crate::part_core::PartCore;
 use sq_plan::{PartId, Plan};
 use sq_ranges::Opening;
 use sq_schema::Table;
-use sq_slab::SlabStore;
+use sq_slab::{Place, SlabStore};
 use std::alloc::{AllocError, Global};
 
 /// Returns the families of the root keys that `part` owns before the move.
@@ -56,8 +56,9 @@ pub fn fill_partitions(cores: &mut [PartCore<SlabStore>], plan: &Plan, mut table
     ensures { map (λ part. part.core) cores.new
         ≡ map (with_opened plan.now table) (map (λ part. part.core) cores.old) }
 {
+    let mut near = Place::new();
     while let Some((root, rows)) = table.pop() {
         let at = usize::from(plan.owner(root).number());
-        cores[at].fill(root, rows);
+        cores[at].fill(root, rows, &mut near);
     }
 }

@@ -117,9 +117,7 @@ fn read_input<R: Read>(
     ensures partitions { IfOk result (λ input. HavePartitions input.0.old.parts input.1) }
     ensures fault { IfErr result (ComesToFail MAX_TABLES lines.old) }
 {
-    let Some(schema) = Schema::new(MAX_TABLES) else {
-        unreachable!()
-    };
+    let schema = Schema::largest();
     let opening = read_header(alloc, schema, lines)?;
     let jobs = read_jobs(alloc, &schema, opening.old_plan().parts(), lines)?;
     Ok((opening, jobs))

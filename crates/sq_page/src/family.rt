@@ -10,9 +10,7 @@ use std::alloc::{AllocError, Global};
 pub(crate) fn copy_family(alloc: Global, family: &Family) -> Result<Family, AllocError>
     ensures { IfOk result (λ copy. copy ≡ family.now) }
 {
-    let Ok(mut copy) = Family::opened(alloc, family.root(), family.base().clone()?) else {
-        return Err(AllocError);
-    };
+    let mut copy = Family::opened(alloc, family.root(), family.base().clone()?);
     let log = family.log();
     for txn in log {
         run_again(&mut copy, txn)?;

@@ -54,7 +54,7 @@ impl Family {
 
     /// Creates a family of `root` that starts from `rows`, which have rows of other tables only
     /// under the root row. It takes no memory.
-    pub fn starting(alloc: Global, root: Root, rows: Rows) -> Family
+    pub fn opened(alloc: Global, root: Root, rows: Rows) -> Family
         requires { IsTrue (is_rooted rows) }
         ensures { result ≡ record { root = root; base = rows; log = [] } }
     {
@@ -63,17 +63,6 @@ impl Family {
             rows: LoggedRows::new(rows),
             log: Vec::new(alloc),
         }
-    }
-
-    /// Creates a family of `root` that starts from `rows`, which have rows of other tables only
-    /// under the root row. If memory runs out, `rows` are returned.
-    pub fn opened(alloc: Global, root: Root, rows: Rows) -> Result<Family, Rows>
-        requires { IsTrue (is_rooted rows) }
-        ensures ok { IfOk result (λ family. family
-            ≡ record { root = root; base = rows; log = [] }) }
-        ensures err { IfErr result (λ back. back ≡ rows) }
-    {
-        Ok(Family::starting(alloc, root, rows))
     }
 
     /// Runs `txn`, a transaction of this root key, on the rows and returns its reply. If it
@@ -185,15 +174,16 @@ impl Family {
     }
 }
 
-// Allocates room for one more transaction in `log`. A log grows by half, and not by doubling, since
-// most logs stay short.
+// Allocates room for one more transaction in `log`: for 1 and then for 4, since most logs stay short,
+// and after that for half as many again.
 fn make_room(log: &mut Vec<Txn>) -> Result<(), AllocError>
     ensures items { log.new.items ≡ log.old.items }
     ensures room { OnOk result (vec_len log.new < vec_capacity log.new) }
 {
     let len = log.len();
-    if len == log.capacity() {
-        log.reserve_exact(len / 2 + 1)?;
+    if len < log.capacity() {
+        return Ok(());
     }
-    Ok(())
+    let more = if len == 1 { 3 } else { len / 2 + 1 };
+    log.reserve_exact(more)
 }

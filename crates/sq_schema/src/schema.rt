@@ -2,6 +2,7 @@
 ghost use Rattle.std.specs.Prelude.{◌≡◌, ◌≤◌, None, OnOk};
 ghost use Rattle.std.specs.Option.{SomeIff};
 ghost use Rattle.std.specs.Result.{result_err};
+ghost use Rattle.sq_schema.specs.declared.schema.TheConstants.{MAX_TABLES};
 ghost use Rattle.sq_schema.specs.Refusals.{key_fault, row_fault};
 
 use crate::fault::TxnFault;
@@ -40,6 +41,13 @@ impl Schema {
         } else {
             None
         }
+    }
+
+    /// Returns the schema of [`MAX_TABLES`] tables.
+    pub fn largest() -> Schema
+        ensures { result ≡ MAX_TABLES }
+    {
+        Schema { tables: MAX_TABLES }
     }
 
     /// Returns the number of tables, 1 to [`MAX_TABLES`].

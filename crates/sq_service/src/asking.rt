@@ -38,7 +38,7 @@ fn read_asks(alloc: Global, line: &[u8]) -> Result<ServeLine, FaultyLine>
 fn asked_by(alloc: Global, line: &[u8]) -> Result<ServeLine, ServeFault>
     ensures { IsServeLine result (serve_line_of MAX_TABLES line.now) }
 {
-    shared(read_serve_line(alloc, &largest_schema(), line)?)
+    shared(read_serve_line(alloc, &Schema::largest(), line)?)
 }
 
 // The same, with a transaction whose copies share its operations.
@@ -60,14 +60,4 @@ fn broken(fault: InputFault, place: LinePlace) -> InputEnd {
         fault: fault.number(),
         place,
     }
-}
-
-/// The schema with the most tables.
-pub(crate) fn largest_schema() -> Schema
-    ensures { result ≡ MAX_TABLES }
-{
-    let Some(schema) = Schema::new(MAX_TABLES) else {
-        unreachable!()
-    };
-    schema
 }

@@ -1,5 +1,5 @@
 // The reader of an engine's input.
-use crate::asking::{fed_of, largest_schema};
+use crate::asking::fed_of;
 use crate::feeds::{Feeds, Refused};
 use crate::plan_line::{header_start, line_at, on_later_line, on_one_line, unread_line};
 use sq_lines::{LineReader, MAX_LINES, MAX_UNENDED, Next};
@@ -119,7 +119,7 @@ fn read_first<R: Wait, I: Read + Drop, P: LinePlaces + Drop>(
         feeds.refuse(rt, Refused::for_memory());
         return None;
     };
-    match read_header(alloc, largest_schema(), &mut lines) {
+    match read_header(alloc, Schema::largest(), &mut lines) {
         Ok(opening) => read_after_rows(rt, alloc, feeds, 0, opening, &mut lines),
         Err(located) => {
             let line = faulty_line(alloc, &lines, &located);

@@ -73,10 +73,7 @@ fn tell_of_lines<R: Read, W: Write, T: OpeningTelling>(
         (TellsOpeningOfLines (T.tells telling.now) MAX_TABLES lines.old
         (W.contents writer.old) (W.contents writer.new)) }
 {
-    let Some(schema) = Schema::new(MAX_TABLES) else {
-        unreachable!()
-    };
-    match read_header(alloc, schema, lines) {
+    match read_header(alloc, Schema::largest(), lines) {
         Ok(opening) => tell(alloc, writer, telling, &opening),
         Err(fault) => refuse(writer, fault),
     }

@@ -6,10 +6,11 @@ use Rattle.std.proofs.lemmas.List.{take-append-drop, get_or-take, take_at}
 use Rattle.sq_schema.specs.declared.root.TheConstants.{ROOT_END}
 use Rattle.sq_schema.specs.Family.{FamilyValue}
 use Rattle.sq_store.specs.InOrder.{are_within, family_from}
-use Rattle.sq_store.specs.Listed.{roots_rise, store_of, IsStart}
-use Rattle.sq_slab.specs.Run.{Run}
-use Rattle.sq_slab.specs.Runs.{families_in_runs, store_of_runs, between, first_bound, AreRuns, IsBoundPlace, IsRunOf, IsSpan}
-use Rattle.sq_slab.proofs.Within.{within_append, within_below, filter_below, filter_above}
+use Rattle.sq_store.specs.Listed.{roots_rise, store_of, IsRootAt, IsStart}
+use Rattle.sq_store.specs.StoreValue.{absent}
+use Rattle.sq_slab.specs.Run.{Run, empty_run}
+use Rattle.sq_slab.specs.Runs.{families_in_runs, store_of_runs, nth_run, between, first_bound, AreRuns, IsBoundPlace, IsFamilyAt, IsRunOf, IsSpan}
+use Rattle.sq_slab.proofs.Within.{within_append, within_below, within_each, filter_below, filter_above}
 use Rattle.sq_slab.proofs.InRuns.{IsLast, run_at, read_at, last_below, run_stands, found_run, front_within, families_append, runs_back, runs_rise, behind_within}
 use Rattle.sq_slab.proofs.RunSpans.{family_behind}
 
@@ -104,4 +105,27 @@ span runs lo hi first last rise are low high =
       within = high.within;
       before = none_before runs lo hi first are low;
       after = filter_above hi (hi + ROOT_END) (families_in_runs (drop last runs)) (behind_within hi (drop last runs) behind high.from) lo hi (omega arith);
+    }
+
+-- a family of a run stands there, and its root key belongs to the run
+pub family_at : (runs : List Run) (root run at : ℕ) (items : List FamilyValue) → AreRuns ROOT_END runs → run < length runs → items ≡ (nth_run runs run).families → IsRootAt items root at → IsFamilyAt runs root run at
+family_at runs root run at items are inside is here =
+    let place = run_at runs run inside in
+    let own = place.run.families in
+    let same : items ≡ own = is ∙ ap (λ (r : Run). r.families) (read_at runs place.front place.back place.run run empty_run place.whole place.count) in
+    let stands = run_stands runs place.front place.back place.run are place.whole in
+    let found : IsRootAt own root at = subst (λ fs. IsRootAt fs root at) same here in
+    let each = within_each place.run.lo (first_bound ROOT_END place.back) own stands.own at (absent root) found.within in
+    let key : (get_or own at (absent root)).root ≡ root = found.here (absent root) in
+    record {
+      of = record {
+        front = place.front;
+        run = place.run;
+        back = place.back;
+        whole = place.whole;
+        count = place.count;
+        low = omega (arith, each.0, key);
+        high = omega (arith, each.1, key);
+      };
+      here = found;
     }

@@ -11,4 +11,5 @@ mod slab_store;
 mod taking;
 
 pub use run_iter::RunIter;
+pub use search::Place;
 pub use slab_store::SlabStore;

@@ -32,6 +32,62 @@ pub(crate) fn find(runs: &Runs, root: Root) -> Option<(usize, usize)>
     }
 }
 
+/// A place of a family in a slab, which may be out of date.
+#[derive(Clone, Copy, Debug)]
+pub struct Place {
+    run: usize,
+    // The place after it in the run; the last family of the run if it has fewer.
+    end: usize,
+}
+
+impl Place {
+    /// Returns a place to begin with.
+    pub fn new() -> Place {
+        Place { run: 0, end: 0 }
+    }
+
+    // Returns the place before that of the family at `at` in the run at `run`.
+    pub(crate) fn before(run: usize, at: usize) -> Place {
+        if at > 0 {
+            Place { run, end: at }
+        } else {
+            Place {
+                run: run.saturating_sub(1),
+                end: usize::MAX,
+            }
+        }
+    }
+}
+
+// Returns what `find` does; it looks at `near` first.
+pub(crate) fn find_near(runs: &Runs, root: Root, near: Place) -> Option<(usize, usize)>
+    requires { AreRuns ROOT_END runs.now }
+    ensures some { IfSome result (λ found. IsFamilyAt runs.now root found.0 found.1) }
+    ensures none { IfNone result (get (store_of_runs runs.now) root ≡ None) }
+{
+    match at_place(runs, root, near) {
+        Some(found) => Some(found),
+        None => find(runs, root),
+    }
+}
+
+// Returns the place `near`, if the family of `root` is there.
+fn at_place(runs: &Runs, root: Root, near: Place) -> Option<(usize, usize)>
+    requires { AreRuns ROOT_END runs.now }
+    ensures { IfSome result (λ found. IsFamilyAt runs.now root found.0 found.1) }
+{
+    if near.run >= runs.len() {
+        return None;
+    }
+    let families = runs.families(near.run);
+    let at = families.len().min(near.end).checked_sub(1)?;
+    if families[at].root() == root {
+        Some((near.run, at))
+    } else {
+        None
+    }
+}
+
 // Returns the family with the least root key from `key` on.
 pub(crate) fn first_from(runs: &Runs, key: u64) -> Option<&Family>
     requires { AreRuns ROOT_END runs.now }

@@ -62,10 +62,7 @@ fn write_for_header<R: Read, W: Write>(
     ensures { IfOk result (WritesScriptOf MAX_TABLES lines.old
         (W.contents writer.old) (W.contents writer.new)) }
 {
-    let Some(schema) = Schema::new(MAX_TABLES) else {
-        unreachable!()
-    };
-    match read_header(alloc, schema, lines) {
+    match read_header(alloc, Schema::largest(), lines) {
         Ok(opening) => write_from(alloc, opening, u64::from(lines.lines_left()), writer),
         Err(fault) => end_by(writer, fault),
     }

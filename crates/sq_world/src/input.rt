@@ -68,9 +68,7 @@ fn run_lines<R: Read, W: Write>(
         (KeepsDumped kept.new (W.contents writer.old) (W.contents writer.new)) }
     ensures led { IfOk result (KeepsLed (IsLedByLines MAX_TABLES lines.old) kept.new) }
 {
-    let Some(schema) = Schema::new(MAX_TABLES) else {
-        unreachable!()
-    };
+    let schema = Schema::largest();
     match open_world(alloc, schema, lines) {
         Ok(world) => run_script(alloc, &schema, kept.insert(world), lines, writer, manner),
         Err(fault) => end_by(writer, fault),

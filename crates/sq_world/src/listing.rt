@@ -89,10 +89,7 @@ fn list_moves<R: Read, W: Write, T: Telling>(
         (TellsLines (T.tells telling.now) MAX_TABLES lines.old (W.contents writer.old)
         (W.contents writer.new)) }
 {
-    let Some(schema) = Schema::new(MAX_TABLES) else {
-        unreachable!()
-    };
-    match read_plans(alloc, schema, lines) {
+    match read_plans(alloc, Schema::largest(), lines) {
         Ok(opening) => tell(alloc, writer, telling, opening.recon()),
         Err(fault) => end_by(writer, fault),
     }

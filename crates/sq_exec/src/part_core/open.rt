@@ -16,7 +16,7 @@ use sq_chunk::Chunk;
 use sq_plan::{PartId, Plan};
 use sq_ranges::{Opening, Recon};
 use sq_schema::{Root, Rows};
-use sq_slab::SlabStore;
+use sq_slab::{Place, SlabStore};
 use sq_store::FamilyStore;
 use sq_waiting::Waiting;
 use std::alloc::{AllocError, Global};
@@ -103,15 +103,16 @@ impl<S: FamilyStore> PartCore<S> {
 
 impl PartCore<SlabStore> {
     /// Replaces the family of `root` by one that starts from `rows`, which have rows of other
-    /// tables only under the root row. It takes no memory.
-    pub(crate) fn fill(&mut self, root: Root, rows: Rows)
+    /// tables only under the root row. The family is looked for at `near` first, which becomes the
+    /// place before it. It takes no memory.
+    pub(crate) fn fill(&mut self, root: Root, rows: Rows, near: &mut Place)
         requires here { IsSome (get self.old.core.store root) }
         requires rooted { IsTrue (is_rooted rows) }
         ensures { self.new.core ≡ record self.old.core {
           store = insert self.old.core.store root (opened_family (root, rows));
         } }
     {
-        self.store.fill(root, rows);
+        self.store.fill(root, rows, near);
     }
 }
 

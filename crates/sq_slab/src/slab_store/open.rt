@@ -7,7 +7,7 @@ ghost use Rattle.sq_store.specs.StoreValue.{with_families};
 
 use crate::putting::{put_at, put_behind};
 use crate::runs::Runs;
-use crate::search::find;
+use crate::search::{Place, find_near};
 use crate::slab_store::SlabStore;
 use sq_plan::{PartId, Plan};
 use sq_schema::{Family, Root, Rows, Table};
@@ -28,9 +28,7 @@ impl SlabStore {
     {
         let mut runs = Runs::new(alloc);
         for (root, rows) in OwnedEntries::new(plan, part, table) {
-            let Ok(family) = Family::opened(alloc, *root, rows.clone()?) else {
-                return Err(AllocError);
-            };
+            let family = Family::opened(alloc, *root, rows.clone()?);
             // Called for what it ensures, that the number is below `ROOT_END`.
             let _ = root.number();
             put_behind(&mut runs, family)?;
@@ -58,15 +56,17 @@ impl SlabStore {
     }
 
     /// Replaces the family of `root` by one that starts from `rows`, which have rows of other
-    /// tables only under the root row. It takes no memory.
-    pub fn fill(&mut self, root: Root, rows: Rows)
+    /// tables only under the root row. The family is looked for at `near` first, which becomes the
+    /// place before it, so falling root keys need no search. It takes no memory.
+    pub fn fill(&mut self, root: Root, rows: Rows, near: &mut Place)
         requires here { IsSome (get self.old root) }
         requires rooted { IsTrue (is_rooted rows) }
         ensures { self.new ≡ insert self.old root (opened_family (root, rows)) }
     {
-        if let Some((run, at)) = find(&self.runs, root) {
-            let family = Family::starting(self.runs.allocator(), root, rows);
+        if let Some((run, at)) = find_near(&self.runs, root, *near) {
+            let family = Family::opened(self.runs.allocator(), root, rows);
             put_at(&mut self.runs, run, at, family);
+            *near = Place::before(run, at);
         }
     }
 }

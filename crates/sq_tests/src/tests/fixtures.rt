@@ -62,7 +62,7 @@ pub fn family(alloc: Global, key: u32) -> Result<Family, Fail>
     let root = Root::new(u64::from(key)).ok_or("not a root key")?;
     let mut rows = Rows::new(alloc);
     rows.insert(RowKey::ROOT, Row::new(7 * i64::from(key), Vec::new(alloc)))?;
-    Ok(Family::opened(alloc, root, rows)?)
+    Ok(Family::opened(alloc, root, rows))
 }
 
 /// Whether these families have the root keys.

@@ -53,7 +53,7 @@ fn opened<R: Abort>(rt: &R, alloc: Global, number: i64) -> Family {
     let mut rows = Rows::new(alloc);
     let inserted = rows.insert(RowKey::ROOT, Row::new(number, Vec::new(alloc)));
     inserted.expect(rt, "no memory for a row");
-    Family::opened(alloc, root, rows).expect(rt, "no memory for a family")
+    Family::opened(alloc, root, rows)
 }
 
 // Takes the family of root key 5 out of the store of partition 0.

@@ -24,8 +24,8 @@ use Rattle.sq_slab.proofs.slab_store.SlabStore.opened.Goals as goal
 abbrev has_rows : ℕ × RowList → Type 0
 has_rows entry = is_opening entry.1 ≡ true
 
-pub opened-requires : goal.opened-requires
-opened-requires c =
+pub opened-family-requires : goal.opened-family-requires
+opened-family-requires c =
     let rows = c.in-Some.rows.now in
     let all = subst (AllPass (λ (entry : ℕ × RowList). is_opening entry.1)) c.in-Some.ensures.steps c.loop-root.invariant.5 in
     ap is_rooted c.in_ok-clone.ensures.cases ∙ (and_parts (not (length rows == 0)) (is_rooted rows) (all 0 (c.in-Some.root.now, rows) (omega arith))).1
@@ -54,16 +54,16 @@ loop-root-preserved c =
     let so_far = c.loop-root.invariant in
     let all = opened_families c.args.plan.now c.args.part c.args.table.now in
     let runs = c.put_behind.new.runs in
-    let family : c.in-Ok.family ≡ opened_family entry = c.in-Ok.ensures.ok ∙ ap (λ (given : RowList). opened_family (entry.0, given)) c.in_ok-clone.ensures.cases in
+    let family : c.opened-family.result ≡ opened_family entry = c.opened-family.ensures ∙ ap (λ (given : RowList). opened_family (entry.0, given)) c.in_ok-clone.ensures.cases in
     let rising : is_sorted nat_cmp (entry ∷ rest) ≡ true = ap (is_sorted nat_cmp) (sym steps) ∙ so_far.4 in
-    let own : c.in-Ok.family.root ≡ entry.0 = ap (λ (f : FamilyValue). f.root) family in
-    let upto : c.in-Ok.family.root + 1 ≤ first_key rest = let next = next_key entry rest (omega (arith, c.number.ensures.number, c.number.ensures.bound)) rising in omega (arith, next, own) in (
+    let own : c.opened-family.result.root ≡ entry.0 = ap (λ (f : FamilyValue). f.root) family in
+    let upto : c.opened-family.result.root + 1 ≤ first_key rest = let next = next_key entry rest (omega (arith, c.number.ensures.number, c.number.ensures.bound)) rising in omega (arith, next, own) in (
       tt,
       tt,
       ap (λ fs. fs ++ map opened_family rest) (c.in_ok-put_behind.ensures.families ∙ ap (λ f. families_in_runs c.loop-root.runs ++ f ∷ []) family)
           ∙ append_assoc (families_in_runs c.loop-root.runs) (opened_family entry ∷ []) (map opened_family rest)
           ∙ next_kept (families_in_runs c.loop-root.runs) all entry rest c.loop-root.root-iterator steps so_far.2,
-      runs_raised (c.in-Ok.family.root + 1) (first_key rest) runs c.in_ok-put_behind.ensures.runs upto,
+      runs_raised (c.opened-family.result.root + 1) (first_key rest) runs c.in_ok-put_behind.ensures.runs upto,
       rest_rises entry rest rising,
       All-tail has_rows entry rest (subst (AllPass (λ (e : ℕ × RowList). is_opening e.1)) steps so_far.5),
     )
