@@ -50,10 +50,7 @@ pub(crate) fn put_at(runs: &mut Runs, run: usize, at: usize, family: Family)
         ≡ insert_at_key (store_of_runs runs.old) family.root family }
     ensures runs { AreRuns ROOT_END runs.new }
 {
-    let mut families = Vec::new(runs.allocator());
-    runs.swap(run, &mut families);
-    families[at] = family;
-    runs.swap(run, &mut families);
+    runs.put(run, at, family);
 }
 
 // Inserts `family`. If memory runs out, it is returned.
@@ -193,7 +190,7 @@ pub(crate) fn put_behind(runs: &mut Runs, family: Family) -> Result<(), AllocErr
 {
     if let Some(last) = runs.len().checked_sub(1) {
         if runs.families(last).len() < OPENED_RUN {
-            return push_to(runs, last, family);
+            return runs.push(last, family);
         }
     }
     let lo = family.root();
@@ -203,22 +200,6 @@ pub(crate) fn put_behind(runs: &mut Runs, family: Family) -> Result<(), AllocErr
         return Err(AllocError);
     };
     Ok(())
-}
-
-// Appends `family` to the run at `at`.
-fn push_to(runs: &mut Runs, at: usize, family: Family) -> Result<(), AllocError>
-    requires { at < length runs.old }
-    ensures { OnOk result (runs.new ≡ set runs.old at
-        (refilled runs.old at ((nth_run runs.old at).families ++ family ∷ []))) }
-{
-    let mut families = Vec::new(runs.allocator());
-    runs.swap(at, &mut families);
-    let pushed = families.push(family);
-    runs.swap(at, &mut families);
-    match pushed {
-        Ok(()) => Ok(()),
-        Err(_) => Err(AllocError),
-    }
 }
 
 // Folds the logs of all families, then drops the families without rows and the empty runs.

@@ -1,5 +1,5 @@
 // Runs of families in a slab.
-ghost use Rattle.std.specs.Prelude.{◌≡◌, ◌==◌, ◌+◌, ◌<◌, ◌≤◌, ◌↔◌, not, nat_lt, length, set, filter, [], vec_len, vec_capacity, IsTrue, IsErrOf, OnOk, OnErr, IfErr};
+ghost use Rattle.std.specs.Prelude.{◌≡◌, ◌==◌, ◌+◌, ◌++◌, ◌∷◌, ◌<◌, ◌≤◌, ◌↔◌, not, nat_lt, length, set, filter, [], vec_len, vec_capacity, IsTrue, IsErrOf, OnOk, OnErr, IfErr};
 ghost use Rattle.std.specs.List.{insert as put_in};
 ghost use Rattle.slab.specs.Slab.{HasRoomFor};
 ghost use Rattle.sq_schema.specs.declared.root.TheConstants.{ROOT_END};
@@ -119,6 +119,29 @@ impl Runs {
         ensures { self.new ≡ set self.old at (with_lo self.old at lo) }
     {
         self.index[at].lo = lo;
+    }
+
+    /// Appends `family` to the families of the run at `at`.
+    pub(crate) fn push(&mut self, at: usize, family: Family) -> Result<(), AllocError>
+        requires { at < length self.old }
+        ensures { OnOk result (self.new ≡ set self.old at
+            (refilled self.old at ((nth_run self.old at).families ++ family ∷ []))) }
+    {
+        let pushed = self.slab[self.index[at].key].push(family);
+        match pushed {
+            Ok(()) => Ok(()),
+            Err(_) => Err(AllocError),
+        }
+    }
+
+    /// Puts `family` in the place of the one at `at` in the run at `run`.
+    pub(crate) fn put(&mut self, run: usize, at: usize, family: Family)
+        requires run { run < length self.old }
+        requires at { at < length (nth_run self.old run).families }
+        ensures { self.new ≡ set self.old run
+            (refilled self.old run (set (nth_run self.old run).families at family)) }
+    {
+        self.slab[self.index[run].key][at] = family;
     }
 
     /// Runs `txn` on the family of its root key, which is at `at` in the run at `run`.

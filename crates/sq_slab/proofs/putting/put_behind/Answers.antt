@@ -31,9 +31,9 @@ returns-then-families-lt-OPENED_RUN-clause-families c =
     let some = c.in-Some.ensures in
     let end : at + 1 ≡ length runs = omega (arith, some, c.len.ensures) in
     let other : Run = refilled runs at ((nth_run runs at).families ++ c.args.family ∷ []) in
-    on_ok c.push_to.result
-    (λ (put : c.push_to.new.runs ≡ set runs at other). ap families_in_runs put ∙ put_last_families runs at (nth_run runs at) other c.args.family end (nth_of runs at (omega (arith, end))) refl refl)
-    c.push_to.ensures
+    on_ok c.push.result
+    (λ (put : c.push.new.self ≡ set runs at other). ap families_in_runs put ∙ put_last_families runs at (nth_run runs at) other c.args.family end (nth_of runs at (omega (arith, end))) refl refl)
+    c.push.ensures
 
 pub returns-then-families-lt-OPENED_RUN-clause-runs : goal.returns-then-families-lt-OPENED_RUN-clause-runs
 returns-then-families-lt-OPENED_RUN-clause-runs c =
@@ -42,7 +42,7 @@ returns-then-families-lt-OPENED_RUN-clause-runs c =
     let some = c.in-Some.ensures in
     let end : at + 1 ≡ length runs = omega (arith, some, c.len.ensures) in
     let other : Run = refilled runs at ((nth_run runs at).families ++ c.args.family ∷ []) in
-    on_ok c.push_to.result
-    (λ (put : c.push_to.new.runs ≡ set runs at other).
+    on_ok c.push.result
+    (λ (put : c.push.new.self ≡ set runs at other).
     subst (AreRuns (c.args.family.root + 1)) (sym put) (put_last_runs runs at (nth_run runs at) other c.args.family end (nth_of runs at (omega (arith, end))) refl refl c.requires))
-    c.push_to.ensures
+    c.push.ensures
