@@ -115,7 +115,6 @@ fn folded<R: Threads + Print + Sync>(
 }
 
 // Fails unless the stage is done and the only defect is a job without an answer.
-#[tactic(auto, using(crate::proofs::Done::grown))]
 fn check_done(opening: &Opening, gathered: &Gathered, jobs: &[Job]) -> Result<(), Unfinished>
     requires { IdsDiffer jobs.now }
     ensures { OnOk result (IsStageDone opening.now gathered.now) }
