@@ -6,7 +6,7 @@ use Rattle.sq_page.specs.declared.page.Paged.{Paged}
 use Rattle.sq_refusals.proofs.page.take_twice.Goals as goal
 
 pub take_page-requires-in-Err : goal.take_page-requires-in-Err
-take_page-requires-in-Err g c = subst AllStored (sym c.in-Err.ensures.gathered_returned) c.requires.stored
+take_page-requires-in-Err g c = (c.type_bounds.sync-R, subst AllStored (sym c.in-Err.ensures.gathered_returned) c.requires.stored)
 
 pub returns-in-Ok : goal.returns-in-Ok
 returns-in-Ok g c = subst IdsDiffer (sym c.in-Ok.ensures.jobs) c.requires.ids
