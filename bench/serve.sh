@@ -3,8 +3,8 @@
 #
 #   SQUALL=PROGRAM bash bench/serve.sh FOLDER
 #
-# writes into FOLDER the tables serve.md, the series of the runs (NAME.series) and the picture serve.svg (bench/serve_picture.sh), in some
-# four minutes. bench/load.c says what is posted and what the figures are. There are four partitions; a job adds one to a number.
+# writes into FOLDER the tables serve.md, the series of the runs (NAME.series) and the pictures serve.svg (bench/serve_picture.sh) and
+# half-moves.svg (bench/half_moves.sh), in some four minutes. bench/load.c says what is posted and what the figures are. There are four partitions; a job adds one to a number.
 #
 # First, a hot partition: half of the jobs are for root keys of partition 0, by a Zipf law, and in the middle the hotter half of
 # its root keys goes to the other partitions. There are ROOTS families (100000 if left out); a third of JOBS jobs (1200000) is
@@ -198,6 +198,7 @@ all=(many-8k many-64k many-1m many-stop) all_half=(many-8k-half many-64k-half ma
     goal "the same, half of $many families" "$(range 6 during "${all_half[@]:0:3}")" '5 ms'
 } > "$folder/serve.md"
 
-# The picture, from the series that stay beside it.
+# The pictures, from the series that stay beside them.
 cp "$room"/*.series "$folder"
 bash "$top/bench/serve_picture.sh" "$folder" > "$folder/serve.svg"
+bash "$top/bench/half_moves.sh" "$folder" > "$folder/half-moves.svg"

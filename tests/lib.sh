@@ -112,9 +112,13 @@ form() {
 
 # said NUMBER [LINE [MISFIT]]: what is to be said on standard error of the fault of this number, which belongs to this line
 # of the input, in which this doesn't fit. Its text stands in tests/texts. The text of a plan's fault begins with 'plan';
-# which plan it is stands before it.
+# which plan it is stands before it. What doesn't fit the form of a line comes first, and then the form.
 said() {
     local number text line=${2:+line $2: }
+    if [ "$1" = 121 ] && [ -n "${3:-}" ]; then
+        printf 'squall: line %s\n' "$2: fault 121: $3" "$2 is to be $(form "$2")"
+        return
+    fi
     while read -r number text; do
         case $text in
             plan*) if [ "${2:-}" = 1 ]; then text="the old $text"; else text="the new $text"; fi ;;

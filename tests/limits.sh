@@ -369,3 +369,19 @@ fault live_with_4097_jobs 125 4101
 echo 'fault 231' | output live_with_a_line_of_65537_bytes
 echo 2 > live_with_a_line_of_65537_bytes/status
 echo 'squall: line 5: fault 231: a line has more than 65536 bytes' > live_with_a_line_of_65537_bytes/err
+
+# A line that repeats an earlier one says which, unless that was read long ago from standard input.
+far_row() { header; seq -f 'row %.0f 0 0 1 -' 6 9999; echo 'row 5 0 0 11 -'; }
+far_job() { header_of_a_live_run; seq -f 'txn 0 %.0f 9 get 0 0' 1 4000; echo 'txn 0 1 9 get 0 0'; }
+far_row | input row_far_from_its_double
+fault row_far_from_its_double 136 9999 "word 2 is '5'"
+far_job | input job_far_from_its_double live
+fault job_far_from_its_double 127 4005 "word 3 is '1'"
+input row_of_a_file_far_from_its_double < /dev/null
+far_row > row_of_a_file_far_from_its_double/script
+echo limits/row_of_a_file_far_from_its_double/script >> row_of_a_file_far_from_its_double/words
+fault row_of_a_file_far_from_its_double 136 9999 'words 2 to 4 are those of line 4'
+input job_of_a_file_far_from_its_double live < /dev/null
+far_job > job_of_a_file_far_from_its_double/jobs
+echo limits/job_of_a_file_far_from_its_double/jobs >> job_of_a_file_far_from_its_double/words
+fault job_of_a_file_far_from_its_double 127 4005 "word 3 is '1', as in line 5"

@@ -259,9 +259,8 @@ make_faults_in_parts() {
     case=parts/sizes_without_a_line_end
     parts "$case" run/moves_four_keys run
     printf 'config 1 64 1' > "$case/in"
-    fault_in_parts "$case" 121 'standard input: line 1' "$(sed -n 's/^121 //p' "$tests/texts")" \
-        "it has no line end (the byte 0A)"
-    sed -i "1a squall: standard input: line 1 is to be $(form 3)" "$case/err"
+    fault_in_parts "$case" 121 'standard input: line 1' "it has no line end (the byte 0A)"
+    echo "squall: standard input: line 1 is to be $(form 3)" >> "$case/err"
     case=parts/sizes_of_the_main_part
     parts "$case" run/moves_four_keys live
     sed -i 's/^config [0-9]*/config 0/' "$case/in"
@@ -269,7 +268,7 @@ make_faults_in_parts() {
     case=parts/row_in_a_file
     parts "$case" run/moves_four_keys run
     printf '\nrow 6 0 0 1 -\nrow 7 99 0 1 -' >> "$case/rows.txt"
-    fault_in_parts "$case" 133 "$case/rows.txt: line 3" "a table isn't in the schema" "word 3 is '99'"
+    fault_in_parts "$case" 133 "$case/rows.txt: line 3" "a table isn't in the schema" "word 3 is '99', and tables are 0 to 7"
     case=parts/open_quote_before_many_rows
     parts "$case" run/moves_four_keys run
     sed -i 's/rows\.txt/rows.csv/' "$case/words"
@@ -279,7 +278,7 @@ make_faults_in_parts() {
     case=parts/row_in_the_main_part
     parts "$case" run/moves_four_keys run
     sed -i '1a row 6 0 0 1 -\nrow 7 99 0 1 -' "$case/in"
-    fault_in_parts "$case" 133 'standard input: line 3' "a table isn't in the schema" "word 3 is '99'"
+    fault_in_parts "$case" 133 'standard input: line 3' "a table isn't in the schema" "word 3 is '99', and tables are 0 to 7"
     case=parts/job_in_the_main_part
     parts "$case" live/moves_in_two_stages live
     echo 'txn 0 1' >> "$case/in"

@@ -385,6 +385,49 @@ summary() {
     judge "live --summary $1 ${*:4}" 0 "$case/out" "$room/said"
 }
 
+# many_stages: an input whose move has 16 stages, each of one segment.
+many_stages() {
+    awk 'BEGIN {
+        print "old {\"version\":2,\"partitions\":17,\"stages\":\"one\",\"ranges\":[[0,4294967296,0]]}"
+        printf "new {\"version\":2,\"partitions\":17,\"stages\":\"auto\",\"ranges\":["
+        for (part = 1; part <= 16; part++) printf "[%d,%d,%d],", part - 1, part, part
+        print "[16,4294967296,0]]}"
+        print "config 1 64 1"
+    }'
+}
+
+# starts_in CHART STAGES: what is wrong with the starts of stages in a chart, of which there are so many. The first one is where the axis
+# begins; a name begins after the one before it, and ends within the chart, with 11 units for each letter; each other one is a tick.
+starts_in() {
+    awk -v stages="$2" '
+        /class="stage" d="/ {
+            at = $0; sub(/.* d="M/, "", at); sub(/ .*/, "", at); name = $0; sub(/.*font-size="20">/, "", name); sub(/<.*/, "", name)
+            if (!named++ && (at != 130 || name != "stage 0")) print name " at " at
+            if (at + 0 < free) print name " at " at " is before " free
+            free = at + 11 * length(name)
+            if (free > 1600) print name " ends at " free
+        }
+        /class="axis" d="M[0-9]+ 160V174/ { ticks = gsub(/160V174/, "") }
+        END { if (named + ticks != stages) print named " names and " ticks " ticks" }' "$1"
+}
+
+# waits_in CHART: what is wrong with the curve of the jobs that wait: it begins at the bottom, goes on to the right, and its highest point is
+# what its name says.
+waits_in() {
+    awk '
+        /jobs waiting, up to / { most = $0; sub(/.*up to /, "", most); sub(/<.*/, "", most) }
+        /jobs answered, of / { jobs = $0; sub(/.*answered, of /, "", jobs); sub(/<.*/, "", jobs) }
+        /class="waiting" d="M130 760H/ {
+            curves++; gsub(/.*M130 760H|H1530"\/>/, ""); count = split($0, points, "H"); top = 760
+            for (i = 1; i <= count; i++) {
+                split(points[i], point, "V")
+                if (point[1] < x || point[1] > 1530 || point[2] > 760) print "point " points[i]
+                x = point[1]; if (point[2] < top) top = point[2]
+            }
+        }
+        END { if (curves != 1 || 760 - top != int(600 * most / jobs)) print curves " curves, up to " top " for " most " of " jobs }' "$1"
+}
+
 # What a live run reports besides its line: a summary, and a timeline of jobs and segments. Nothing of a fault.
 try_reports() {
     local links why chart stages=$tests/cases/live/jobs_of_each_stage
@@ -396,10 +439,11 @@ try_reports() {
     try_figures "$stages"
     give "$stages/in" live --timeline "$room/moments.csv"
     judge 'live --timeline moments.csv' 0 "$stages/out" /dev/null
-    # One more job or segment on each line, no sooner than on the line before. An answer has its job, posted once the run had begun.
+    # One more job or segment on each line, no sooner than on the line before. An answer has its job, posted as the first thread starts, from
+    # which time is counted.
     why=$(awk -F, 'NR == 1 { if ($0 != "milliseconds,jobs,segments,partition,id,microseconds_since_post,waited,microseconds_waited") print "heading " $0; next }
         NF != 8 || $1 + 0 < at + 0 || $1 !~ /^[0-9]+\.[0-9][0-9][0-9]$/ || $2 + $3 != NR - 1 || $2 < jobs || $3 < segments { print "line " NR ": " $0 }
-        $2 > jobs && ($4 !~ /^[012]$/ || seen[$5]++ || $6 !~ /^[0-9]+$/ || $6 > $1 * 1000 + 0.5 || ($7 == "yes" ? $8 !~ /^[0-9]+$/ || $8 > $6 + 0 : $7 $8 != "no")) { print "answer " $0 }
+        $2 > jobs && ($4 !~ /^[012]$/ || seen[$5]++ || $6 !~ /^[0-9]+$/ || $1 != sprintf("%.3f", $6 / 1000) || ($7 == "yes" ? $8 !~ /^[0-9]+$/ || $8 > $6 + 0 : $7 $8 != "no")) { print "answer " $0 }
         $2 == jobs && $4 $5 $6 $7 $8 != "" { print "segment " $0 }
         { at = $1; jobs = $2 + 0; segments = $3 + 0 }
         END { if (jobs != 21 || segments != 3 || NR != 25) print "ends with " $0 }' "$room/moments.csv")
@@ -411,10 +455,14 @@ try_reports() {
     judge 'live --timeline moments.svg' 0 "$stages/out" /dev/null
     chart=$(cat "$room/moments.svg")
     why=
-    case $chart in '<svg xmlns='*'A live run of 21 jobs while 3 segments move<'*'>stage 0<'*'>stage 1<'*'jobs answered, of 21<'*'segments complete, of 3<'*'</svg>') ;; *) why='another chart' ;; esac
+    case $chart in '<svg xmlns='*'A live run of 21 jobs while 3 segments move<'*'>stage 0<'*'jobs answered, of 21<'*'segments complete, of 3<'*'jobs waiting, up to '*'</svg>') ;; *) why='another chart' ;; esac
     # Both curves have a step for each moment.
     if [ "$(grep -E 'class="(jobs|segments)"' "$room/moments.svg" | grep -oE 'H[0-9]+V[0-9]+' | wc -l)" != 48 ]; then why='another number of steps'; fi
-    count chart_of_a_run "$why"
+    count chart_of_a_run "$why$(starts_in "$room/moments.svg" 2)"
+    count jobs_that_wait_in_a_chart "$(waits_in "$room/moments.svg")"
+    many_stages > "$room/many_stages"
+    give "$room/many_stages" live --timeline "$room/many.svg"
+    count chart_of_many_stages "$([ "$ended" = 0 ] || echo "status $ended; ")$(starts_in "$room/many.svg" 16)"
     give "$stages/in" live --timeline "$room/nowhere/moments.csv"
     echo "squall: the file '$room/nowhere/moments.csv' can't be written: No such file or directory (os error 2)" > "$room/said"
     judge 'live --timeline in no folder' 2 /dev/null "$room/said"
@@ -754,7 +802,8 @@ demo_of() {
 }
 
 # try_demo_of NAME PARTITIONS ROOTS ROWS JOBS HOT SEED [WORD]: an input to begin with has these sizes, its move is one that
-# 'ranges' lists, and its live run is sound and answers each job once, with this number of rows at the end.
+# 'ranges' lists, which proposes the sizes that it has, and its live run is sound and answers each job once, with this number of rows at
+# the end.
 try_demo_of() {
     local files=$room/demo/$1 families=$3 why
     demo_of "$1" --partitions "$2" --roots "$3" --rows-per-root "$4" --jobs "$5" --hot "$6" --seed "$7" ${8:+"$8"}
@@ -764,6 +813,8 @@ try_demo_of() {
     count "sizes of demo $1" "$why"
     give "$files/jobs.txt" ranges --old "$files/old.json" --new "$files/new.json"
     count "moves of demo $1" "$(grep -q '^range .* 0 1$' "$room/out" || echo 'no range goes from 0 to 1')"
+    give "$files/jobs.txt" ranges --sizes --old "$files/old.json" --new "$files/new.json" --rows "$files/rows.txt"
+    count "sizes that suit demo $1" "$(cmp <(tail -n 1 "$room/out") <(head -n 1 "$files/jobs.txt") 2>&1)"
     echo "sound $families families $5 committed" > "$room/wanted"
     give "$files/jobs.txt" live --old "$files/old.json" --new "$files/new.json" --rows "$files/rows.txt" \
         --replies "$files/replies" --rows-out "$files/rows" --timeline "$files/moments.csv"
@@ -786,6 +837,8 @@ try_demo() {
     try_demo_of small 2 16 1 100 100 1
     try_demo_of stages 5 400 3 1000 70 7 --stages
     try_demo_of most 16 3000 2 4096 30 4294967295 --stages
+    try_demo_of large 2 2000 50 100 50 3
+    count 'chunks of a large demo' "$(head -n 1 "$room/demo/large/jobs.txt" | grep -vx 'config 1 2048 4')"
     demo_of again --partitions 5 --roots 400 --rows-per-root 3 --jobs 1000 --hot 70 --seed 7 --stages
     demo_of other --partitions 5 --roots 400 --rows-per-root 3 --jobs 1000 --hot 70 --seed 8 --stages
     demo_of stored --partitions 3 --roots 20 --rows-per-root 2 --jobs 8 --hot 40 --seed 9 --stages

@@ -214,11 +214,13 @@ served_rows_in_a_move() {
 # A line that is refused while rows move says which move is under way, and one that asks for too many segments how many they are.
 served_refused_moves() {
     local answer side=1 tries plan='{"version":1,"partitions":2,"ranges":[[0,50000,OWNER],[50000,4294967296,0]]}'
+    local few="there would be 1563 segments, and 256 is the most: the width of a leaf is to be 7 at least ('config 7 ..'); "
+    few+='1563 segments are of the range from 0 to 50000, in which keys without rows count too'
     begin_engine
     printf '%s\n' "plan ${plan/OWNER/0}" 'config 1 64 1' >&8
     ask "move ${plan/OWNER/1}" 'refused 113'
     said_so_far "squall: line 3: refused 113: $(sed -n 's/^113 //p' "$tests/texts")" \
-        'squall: line 3: there would be 1563 segments, and 256 is the most: the width of a leaf is to be 7 at least'
+        "squall: line 3: $few"
     refused=1
     end_engine 'serve: a move of too many segments' 'sound 0 families 0 committed'
     begin_engine
@@ -263,7 +265,7 @@ served_faults() {
     said_so_far "squall: line 6: fault 126: $no_line" 'squall: line 7: fault 231: a line has more than 65536 bytes' \
         'squall: line 8: fault 127: a job has the id of one before it (id 1)' "squall: line 8: word 3 is '1'" \
         'squall: line 9: fault 219: there is no such partition (id 2)' "squall: line 9: word 2 is '2'" \
-        "squall: line 10: fault 133: a table isn't in the schema (id 2)" "squall: line 10: word 6 is '99'" \
+        "squall: line 10: fault 133: a table isn't in the schema (id 2)" "squall: line 10: word 6 is '99', and tables are 0 to 7" \
         "squall: line 11: fault 126: $no_line (id 2)" \
         'squall: line 11: word 7 is missing: a sub key, a number up to 4294967295 in decimal digits without a leading zero' \
         "squall: line 12: fault 126: $no_line" \
@@ -305,27 +307,29 @@ served_places() {
     printf 'squall: %s\n' "$room/begin: line 3: fault 126: $no_line" "line 1: fault 126: $no_line" \
         'line 2: fault 219: there is no such partition (id 4)' "line 2: word 2 is '9'" '3 lines were refused' > "$room/said"
     judge 'serve: lines of two files and standard input' 0 "$room/wanted" "$room/said"
-    place_of_row rows.txt 2 "it is to be $(form 4)" '' 'row 5 0 0 10 -' '' 'row 9 0 0 20 -'
-    place_of_row rows.txt 2 "it is to be $(form 4)" "$no_note" 'row 5 0 0 10 -' 'row 9 0 0 20'
-    place_of_row rows.csv 3 "it is to be $table_form" 'column 4 is empty' root,table,sub,number,note 5,0,0,10, 9,0,0,
-    place_of_row rows.csv 2 "it is to be $table_form" "column 5 begins with a quote that isn't closed before the file ends" \
+    place_of_row rows.txt 4 "$(form 4)" "it isn't a row" 'row 5 0 0 10 -' '' '# no row' 'rows 9 0 0 20 -' 'row 9 0 0 20 -'
+    place_of_row rows.txt 2 "$(form 4)" "$no_note" 'row 5 0 0 10 -' 'row 9 0 0 20'
+    place_of_row rows.csv 3 "$table_form" 'column 4 is empty' root,table,sub,number,note 5,0,0,10, 9,0,0,
+    place_of_row rows.csv 2 "$table_form" "column 5 begins with a quote that isn't closed before the file ends" \
         5,0,0,10, '9,0,0,20,"ab'
     { opening; echo; } > "$room/begin"
     give /dev/null serve "$room/begin"
     echo 'fault 121 5' > "$room/wanted"
-    printf "squall: $room/begin: line 5: %s\n" "fault 121: it is to be $(form 4)" "$empty_word" > "$room/said"
+    printf "squall: $room/begin: line 5%s\n" ": fault 121: $empty_word" " is to be $(form 4)" > "$room/said"
     judge 'serve: a line of the file that is no row' 2 "$room/wanted" "$room/said"
     place_of_fault rows.txt 2 132 "word 2 is '4294967296'" 'row 5 0 0 10 -' 'row 4294967296 0 0 20 -'
+    place_of_fault rows.txt 4 136 'words 2 to 4 are those of line 2' '' 'row 5 0 0 10 -' '# again' 'row 5 0 0 10 -'
+    place_of_fault rows.csv 2 136 'columns 1 to 3 are those of line 1' 5,0,0,10, 5,0,0,20,
     place_of_fault rows.csv 2 132 "column 1 is '4294967296'" 5,0,0,10, 4294967296,0,0,20,
 }
 
 # place_of_row FILE LINE FORM MISFIT LINES..: in this file of rows, which has these lines, this one is no row, and standard error says so,
-# and what doesn't fit in it if that is known.
+# and what doesn't fit in it.
 place_of_row() {
     printf '%s\n' "${@:5}" > "$room/$1"
     give <(echo 'config 64 64 1'; echo status) serve --plan "$room/plan.json" --rows "$room/$1"
     echo "fault 121 $2" > "$room/wanted"
-    printf "squall: $room/$1: line $2: %s\n" "fault 121: $3" ${4:+"$4"} > "$room/said"
+    printf "squall: $room/$1: line $2%s\n" ": fault 121: $4" " is to be $3" > "$room/said"
     judge "serve: line $2 of $1 is no row, $4" 2 "$room/wanted" "$room/said"
 }
 
@@ -439,7 +443,10 @@ said_of_header() {
         *) form=$(form 4) ;;
     esac
     text=$(sed -n "s/^$1 plan/a plan/p; s/^$1 //p" "$tests/texts")
-    if [ "$1" = 121 ]; then text="it is to be $form"; fi
+    if [ "$1" = 121 ]; then
+        printf 'squall: line %s\n' "$2: fault 121: $3" "$2 is to be $form"
+        return
+    fi
     printf "squall: line $2: %s\n" "fault $1: $text" "$3"
 }
 
@@ -474,7 +481,7 @@ served_headers() {
 114|2|word 3 is '63'|plan $all_at_0;config 1 63 1
 115|2|word 4 is '0'|plan $all_at_0;config 1 64 0
 132|3|word 2 is '4294967296'|plan $all_at_0;config 1 64 1;row 4294967296 0 0 1 -
-133|3|word 3 is '8'|plan $all_at_0;config 1 64 1;row 5 8 0 1 -
+133|3|word 3 is '8', and tables are 0 to 7|plan $all_at_0;config 1 64 1;row 5 8 0 1 -
 136|4|word 2 is '5'|plan $all_at_0;config 1 64 1;row 5 0 0 1 -;row 5 0 0 1 -
 END
     give <(echo "plan $all_at_0") serve

@@ -134,7 +134,8 @@ and with --svg a picture.
 
 With --sizes the rows are read too, and lines, or the JSON value, add how many
 families (a root key with its rows), rows, bytes and chunks move in each range,
-segment and stage. The picture adds it for each range.
+segment and stage, and after these the line 'config W L C' that suits the rows.
+The picture adds how much moves in each range.
 
 Example:
 

@@ -9,7 +9,7 @@ use sq_schema::{ROOT_END, Root};
 use std::io;
 use std::io::Write;
 
-/// Writes the sizes, with leaves so wide that there are few segments, and the jobs, each for the
+/// Writes the sizes that `squall ranges --sizes` proposes for the rows, and the jobs, each for the
 /// partition that owns its root key before the move.
 pub(crate) fn write_jobs<W: Write>(
     writer: &mut W,
@@ -17,7 +17,8 @@ pub(crate) fn write_jobs<W: Write>(
     old: &Plan,
 ) -> io::Result<()> {
     let width = (sizes.hot_keys() + 4_095) / 4_096;
-    writeln!(writer, "config {width} 1024 4")?;
+    let limit = chunk_limit(width, sizes);
+    writeln!(writer, "config {width} {limit} 4")?;
     let mut keys = KeySource::new(sizes);
     for id in 0..sizes.jobs {
         let root = keys.draw();
@@ -25,6 +26,20 @@ pub(crate) fn write_jobs<W: Write>(
         writeln!(writer, "txn {part} {id} {root} add 0 0 1")?;
     }
     Ok(())
+}
+
+// How many bytes a chunk has: a 1,024th of those that move, up to 16,384, or those of a leaf of
+// `width` families if they are more, and then a power of two from 1,024 to 65,536. A family has 32
+// bytes, 24 for each row, and 4 for the note of each row but the first.
+fn chunk_limit(width: u64, sizes: &DemoSizes) -> u64 {
+    let family = sizes.rows_per_root.saturating_mul(28).saturating_add(28);
+    let share = (family.saturating_mul(sizes.hot_keys()) / 1_024).min(16_384);
+    family
+        .saturating_mul(width)
+        .max(share)
+        .min(65_536)
+        .next_power_of_two()
+        .max(1_024)
 }
 
 // The partition that owns a root key.

@@ -3,6 +3,8 @@
 
 mod form;
 mod lines;
+mod longest;
+mod once;
 mod plans;
 mod stages;
 mod told;
@@ -11,9 +13,11 @@ mod widths;
 mod words;
 
 pub use lines::{LineFlaw, job_flaw, plan_line_flaw, row_flaw, sizes_flaw};
+pub use longest::LongRange;
+pub use once::Once;
 pub use plans::{PlanFlaw, plan_flaw};
 pub use stages::has_unread_stages;
 pub use told::{ToldFlaw, ToldLine, ToldWord};
 pub use wanted::Wanted;
-pub use widths::{MoveLines, SegmentFlaw, segment_flaw};
+pub use widths::{MoveLines, SegmentFlaw, ToldSegments, segment_flaw};
 pub use words::{job_word, opening_word};

@@ -3,6 +3,7 @@ ghost use Rattle.std.specs.Prelude.{◌≡◌, ◌↔◌, None, IsTrue, IfSome, 
 ghost use Rattle.sq_ranges.specs.Between.{segment_limit, recon_fault};
 ghost use Rattle.sq_diagnosis.specs.Widths.{HasNoWidth, IsLeastWidth, IsSegmentFlaw};
 
+use crate::longest::{LongRange, longest_range};
 use sq_plan::{Plan, Version};
 use sq_ranges::{FIRST_SEGMENT_LIMIT, MAX_WIDTH, OpeningFault, Recon, ReconFault, SEGMENT_LIMIT};
 use sq_text::{Words, unsigned};
@@ -46,7 +47,7 @@ impl Display for SegmentFlaw {
                 least_width,
             } => write!(
                 f,
-                "there would be {segments} segments, and {limit} is the most: the width of a leaf is to be {least_width} at least"
+                "there would be {segments} segments, and {limit} is the most: the width of a leaf is to be {least_width} at least ('config {least_width} ..')"
             ),
             SegmentFlaw::Large { segments, limit } => {
                 let keys = limit.saturating_mul(LEAVES * MAX_WIDTH);
@@ -59,13 +60,30 @@ impl Display for SegmentFlaw {
     }
 }
 
+/// Why a move has too many segments, and the longest range that moves.
+#[derive(Clone, Copy, Debug, PartialEq, Eq)]
+pub struct ToldSegments {
+    pub flaw: SegmentFlaw,
+    pub longest: Option<LongRange>,
+}
+
+impl Display for ToldSegments {
+    fn fmt<W: Write>(&self, f: &mut Formatter<W>) -> fmt::Result {
+        write!(f, "{}", self.flaw)?;
+        match self.longest {
+            Some(range) if range.segments > 1 => write!(f, "; {range}"),
+            _ => Ok(()),
+        }
+    }
+}
+
 /// Why the move that `lines` define has too many segments. Returns `None` if `fault` is another
 /// fault, or if memory runs out.
 pub fn segment_flaw(
     alloc: Global,
     fault: OpeningFault,
     lines: MoveLines<'_>,
-) -> Option<SegmentFlaw> {
+) -> Option<ToldSegments> {
     if fault != OpeningFault::Recon(ReconFault::TooManySegments) {
         return None;
     }
@@ -74,7 +92,9 @@ pub fn segment_flaw(
     let mut words = Words::of(lines.sizes);
     words.next()?;
     let width = unsigned(words.next()?)?;
-    flaw_between(&old, &new, width)
+    let flaw = flaw_between(&old, &new, width)?;
+    let longest = longest_range(&old, &new, width);
+    Some(ToldSegments { flaw, longest })
 }
 
 // Why the move between two plans has too many segments with leaves of this width, if it does.

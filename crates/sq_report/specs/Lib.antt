@@ -3,3 +3,5 @@ pub mod Counts
 pub mod Measures
 pub mod Figures
 pub mod SummaryValue
+pub mod Waiting
+pub mod Chart

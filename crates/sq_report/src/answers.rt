@@ -120,23 +120,35 @@ impl AnswerMarks {
         Ok(answers)
     }
 
-    /// Adds an event for each answer, with the microseconds since `began`. Fails if memory runs
-    /// out.
+    /// Adds an event for each answer, with the microseconds since the jobs were posted, at
+    /// `posted`. Fails if memory runs out.
     pub(crate) fn add_to(
         &self,
         events: &mut Vec<Event>,
         posted: u64,
-        began: u64,
         begins: &WaitBegins,
     ) -> Result<(), AllocError> {
         let count = self.count.load(Ordering::SeqCst) as usize;
         for mark in self.marks.iter().take(count) {
-            let micros = mark.micros.load(Ordering::SeqCst).saturating_sub(began);
+            let answer = mark.answer(posted, begins);
             events.push(Event {
-                micros,
-                what: Happened::JobAnswered(mark.answer(posted, begins)),
+                micros: answer.micros_since_post,
+                what: Happened::JobAnswered(answer),
             })?;
         }
         Ok(())
+    }
+
+    /// When jobs that had waited were answered, in microseconds since `began`, in any order. Fails
+    /// if memory runs out.
+    pub(crate) fn wait_ends(&self, alloc: Global, began: u64) -> Result<Vec<u64>, AllocError> {
+        let count = self.count.load(Ordering::SeqCst) as usize;
+        let mut ends = Vec::new(alloc);
+        for mark in self.marks.iter().take(count) {
+            if mark.has_waited.load(Ordering::SeqCst) {
+                ends.push(mark.micros.load(Ordering::SeqCst).saturating_sub(began))?;
+            }
+        }
+        Ok(ends)
     }
 }

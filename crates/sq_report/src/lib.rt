@@ -4,6 +4,7 @@
 #![tactic(auto)]
 
 mod answers;
+mod chart;
 mod clock;
 mod counts;
 mod figures;
@@ -16,6 +17,7 @@ mod summary;
 mod table;
 mod timeline;
 mod wait_marks;
+mod waiting;
 mod waits;
 
 pub use clock::Stopwatch;

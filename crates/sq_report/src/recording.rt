@@ -2,6 +2,7 @@
 ghost use Rattle.std.specs.Prelude.{◌≡◌, ◌↔◌, IsTrue, codes, nat_eq};
 ghost use Rattle.std.specs.List.{ends_with};
 
+use crate::chart::{Course, write_chart};
 use crate::clock::{Elapsed, Stopwatch};
 use crate::counts::PartCount;
 use crate::figures::KeptLinks;
@@ -17,7 +18,7 @@ use sq_node::Node;
 use sq_ranges::{Opening, SEGMENT_LIMIT};
 use sq_summary::{
     FiguresForm, PartFigures, RunFigures, Times, figures_json, moments_of, write_csv,
-    write_figures, write_svg, write_times,
+    write_figures, write_times,
 };
 use std::alloc::{AllocError, Global};
 use std::io;
@@ -62,7 +63,7 @@ pub struct RecordingWatch<'a, R, W> {
 pub enum TimelineForm {
     /// Comma-separated values: [`write_csv`].
     Csv,
-    /// A chart: [`write_svg`].
+    /// A chart: [`write_svg`](sq_summary::write_svg), with how many jobs wait.
     Svg,
 }
 
@@ -135,7 +136,14 @@ impl<'a, R: Wait + Clock, W: Watch> RecordingWatch<'a, R, W> {
             TimelineForm::Csv => write_csv(writer, &moments),
             TimelineForm::Svg => {
                 let stages = timeline.stage_starts(alloc)?;
-                write_svg(alloc, writer, &moments, &stages, timeline.all())
+                let waiting = timeline.waiting(alloc)?;
+                let course = Course {
+                    moments: &moments,
+                    stages: &stages,
+                    waiting: &waiting,
+                    all: timeline.all(),
+                };
+                write_chart(alloc, writer, &course)
             }
         }
     }

@@ -2,6 +2,7 @@
 use crate::answers::AnswerMarks;
 use crate::clock::Stopwatch;
 use crate::wait_marks::WaitMarks;
+use crate::waiting::{WaitCount, WaitTimes};
 use sq_driver::{NodeStep, WorkerEvent};
 use sq_node::Node;
 use sq_summary::{Event, Happened, Moment, StageStart, TimedAnswer};
@@ -23,8 +24,7 @@ pub struct Timeline<'a, C> {
     /// How many jobs and segments there are.
     jobs: AtomicU64,
     segments: AtomicU64,
-    /// When it began, and when it ended.
-    began: AtomicU64,
+    /// When the last stage ended.
     ended: AtomicU64,
 }
 
@@ -45,19 +45,17 @@ impl<'a, C: Clock> Timeline<'a, C> {
             stages: Marks::new(alloc, segments)?,
             jobs: AtomicU64::new(0),
             segments: AtomicU64::new(0),
-            began: AtomicU64::new(0),
             ended: AtomicU64::new(0),
         })
     }
 
-    /// Records that the run begins now, with `jobs` jobs and `segments` segments.
+    /// Records that a run has `jobs` jobs and `segments` segments.
     pub fn begin(&self, jobs: u64, segments: u64) {
         self.jobs.store(jobs, Ordering::SeqCst);
         self.segments.store(segments, Ordering::SeqCst);
-        self.began.store(self.clock.micros(), Ordering::SeqCst);
     }
 
-    /// Records that a stage begins now. All jobs are posted by the first one.
+    /// Records that a stage begins now. With the first one begins the run, and all jobs are posted.
     pub fn begin_stage(&self) {
         self.stages.mark(self.clock.micros());
     }
@@ -85,14 +83,13 @@ impl<'a, C: Clock> Timeline<'a, C> {
         }
     }
 
-    /// What was marked, in the order of time, each with the microseconds since the timeline began.
+    /// What was marked, in the order of time, each with the microseconds since the run began.
     /// Fails if memory runs out.
     pub fn events(&self, alloc: Global) -> Result<Vec<Event>, AllocError> {
         let mut events = Vec::new(alloc);
-        let began = self.began.load(Ordering::SeqCst);
+        let began = self.stages.first();
         let begins = self.waits.begins(alloc)?;
-        self.answered
-            .add_to(&mut events, self.stages.first(), began, &begins)?;
+        self.answered.add_to(&mut events, began, &begins)?;
         self.complete.add_to(&mut events, began)?;
         events.sort_unstable_by_key(|event| event.micros);
         Ok(events)
@@ -104,16 +101,28 @@ impl<'a, C: Clock> Timeline<'a, C> {
         self.answered.answers(alloc, self.stages.first(), &begins)
     }
 
-    /// When each stage began, in microseconds since the timeline began. Fails if memory runs out.
+    /// When each stage began, in microseconds since the run began. Fails if memory runs out.
     pub fn stage_starts(&self, alloc: Global) -> Result<Vec<StageStart>, AllocError> {
-        self.stages.starts(alloc, self.began.load(Ordering::SeqCst))
+        self.stages.starts(alloc)
+    }
+
+    /// How many jobs waited for rows, from each time at which their number may change, in the order
+    /// of time. Fails if memory runs out.
+    pub(crate) fn waiting(&self, alloc: Global) -> Result<Vec<WaitCount>, AllocError> {
+        let began = self.stages.first();
+        let times = WaitTimes {
+            begins: self.waits.times(alloc, began)?,
+            ends: self.answered.wait_ends(alloc, began)?,
+            stages: self.stages.times(alloc, began)?,
+        };
+        times.waiting_from(alloc, &times.all(alloc)?)
     }
 
     /// The end of the run: its time, and the numbers of all jobs and all segments.
     pub fn all(&self) -> Moment {
-        let began = self.began.load(Ordering::SeqCst);
+        let ended = self.ended.load(Ordering::SeqCst);
         Moment {
-            micros: self.ended.load(Ordering::SeqCst).saturating_sub(began),
+            micros: ended.saturating_sub(self.stages.first()),
             jobs: self.jobs.load(Ordering::SeqCst),
             segments: self.segments.load(Ordering::SeqCst),
             answer: None,
@@ -162,6 +171,16 @@ impl Marks {
         }
     }
 
+    // The marks, in microseconds since `began`.
+    fn times(&self, alloc: Global, began: u64) -> Result<Vec<u64>, AllocError> {
+        let count = self.count.load(Ordering::SeqCst) as usize;
+        let mut times = Vec::new(alloc);
+        for time in self.times.iter().take(count) {
+            times.push(time.load(Ordering::SeqCst).saturating_sub(began))?;
+        }
+        Ok(times)
+    }
+
     // Adds an event of a complete segment for each mark, with the microseconds since `began`.
     fn add_to(&self, events: &mut Vec<Event>, began: u64) -> Result<(), AllocError> {
         let count = self.count.load(Ordering::SeqCst) as usize;
@@ -175,8 +194,10 @@ impl Marks {
         Ok(())
     }
 
-    // The starts of stages, in their order, one for each mark, with the microseconds since `began`.
-    fn starts(&self, alloc: Global, began: u64) -> Result<Vec<StageStart>, AllocError> {
+    // The starts of stages, in their order, one for each mark, with the microseconds since the
+    // first.
+    fn starts(&self, alloc: Global) -> Result<Vec<StageStart>, AllocError> {
+        let began = self.first();
         let count = self.count.load(Ordering::SeqCst) as usize;
         let mut starts = Vec::new(alloc);
         for (stage, time) in self.times.iter().take(count).enumerate() {

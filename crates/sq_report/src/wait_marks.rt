@@ -54,6 +54,17 @@ impl WaitMarks {
         }
     }
 
+    /// When jobs began to wait, in microseconds since `began`, in any order. Fails if memory runs
+    /// out.
+    pub(crate) fn times(&self, alloc: Global, began: u64) -> Result<Vec<u64>, AllocError> {
+        let count = self.count.load(Ordering::SeqCst) as usize;
+        let mut times = Vec::new(alloc);
+        for mark in self.marks.iter().take(count) {
+            times.push(mark.micros.load(Ordering::SeqCst).saturating_sub(began))?;
+        }
+        Ok(times)
+    }
+
     /// When each job that waited began to, at each partition. If a job waited there in more than
     /// one stage, the last time counts, since it was answered after that. Fails if memory runs out.
     pub(crate) fn begins(&self, alloc: Global) -> Result<WaitBegins, AllocError> {

@@ -5,7 +5,7 @@ ghost use Rattle.sq_serve.specs.ServeLines.{serve_line_of, IsServeLine};
 ghost use Rattle.sq_service.specs.Reading.{IsAskedBy};
 
 use sq_lines::Next;
-use sq_schema::{MAX_TABLES, Schema};
+use sq_schema::Schema;
 use sq_serve::{FaultyLine, LinePlace, ServeFault, ServeLine, read_serve_line};
 use sq_server::{Fed, InputEnd};
 use sq_text::InputFault;

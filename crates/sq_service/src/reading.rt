@@ -4,6 +4,7 @@ use crate::feeds::{Feeds, Refused};
 use crate::plan_line::{header_start, line_at, on_later_line, on_one_line, unread_line};
 use sq_lines::{LineReader, MAX_LINES, MAX_UNENDED, Next};
 use sq_ranges::Opening;
+use sq_schema::Schema;
 use sq_serve::{Following, HeaderLine, LinePlaces, Portions, begins_serve_line};
 use sq_server::{Fed, InputEnd};
 use sq_text::{InputFault, LocatedFault, MAX_LINE, read_header, take_rows};

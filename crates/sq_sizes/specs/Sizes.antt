@@ -50,6 +50,10 @@ abbrev pub part_size : OpeningValue → MovePart → Size
 part_size o part =
     sum_of_sizes (map (segment_size o) (filter (is_in_part o.recon part) o.recon.segments))
 
+-- the size of a whole move: the sum over its segments
+abbrev pub move_size : OpeningValue → Size
+move_size o = sum_of_sizes (map (segment_size o) o.recon.segments)
+
 -- a number, or the largest 64-bit number if it doesn't fit
 abbrev pub in_64_bits : ℕ → ℕ
 in_64_bits n = min n (2 ^ 64 - 1)

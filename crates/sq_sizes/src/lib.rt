@@ -4,6 +4,7 @@
 mod asked;
 mod cutting;
 mod owners;
+mod proposal;
 mod size;
 mod size_json;
 mod size_lines;

@@ -2,7 +2,7 @@
 ghost use Rattle.std.specs.Prelude.{◌≡◌, [], nat_lt, length, take_while};
 ghost use Rattle.sq_schema.specs.Family.{rows_size};
 ghost use Rattle.sq_sizes.specs.Sizes.{entries_size, segment_size, sum_of_sizes, is_in_part};
-ghost use Rattle.sq_sizes.specs.Sizes.{part_size, size_in_64_bits, sum_in_64_bits};
+ghost use Rattle.sq_sizes.specs.Sizes.{part_size, move_size, size_in_64_bits, sum_in_64_bits};
 
 use crate::cutting::Cutting;
 use sq_ranges::{Opening, Range, Recon};
@@ -74,6 +74,18 @@ impl Size {
             if part.has(recon, segment) {
                 size = size.plus(Size::of_segment(opening, *segment));
             }
+        }
+        size
+    }
+
+    /// The size of an opening's whole move.
+    pub(crate) fn of_move(opening: &Opening) -> Size
+        ensures { result ≡ size_in_64_bits (move_size opening.now) }
+    {
+        let segments = opening.recon().segments();
+        let mut size = Size::NONE;
+        for segment in segments {
+            size = size.plus(Size::of_segment(opening, *segment));
         }
         size
     }

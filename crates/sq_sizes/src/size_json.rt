@@ -1,23 +1,34 @@
 // The size of a move as JSON.
+use crate::proposal::proposal;
 use crate::size::{MovePart, Size};
 use serde_json::{Value, json};
-use sq_ranges::{Opening, Range};
+use sq_ranges::{Config, Opening, Range};
 use std::alloc::{AllocError, Global};
 
-/// Returns the size of a move as compact JSON: an object with the members `ranges`, `segments`,
-/// `stage_sizes` and `stages`. Fails only if memory runs out.
+/// Returns the size of a move as compact JSON: an object with the members `config` (the sizes that
+/// are proposed), `ranges`, `segments`, `stage_sizes` and `stages`. Fails only if memory runs out.
 pub(crate) fn sizes_json(alloc: Global, opening: &Opening) -> Result<String, AllocError> {
     let ranges = ranges_value(alloc, opening)?;
     let segments = segments_value(alloc, opening)?;
     let sizes = stages_value(alloc, opening)?;
     let stages = opening.recon().stages();
+    let config = config_value(alloc, proposal(opening))?;
     let value = json!(in alloc; {
+        "config": config,
         "ranges": ranges,
         "segments": segments,
         "stage_sizes": sizes,
         "stages": stages
     })?;
     value.to_string(alloc)
+}
+
+fn config_value(alloc: Global, config: Config) -> Result<Value, AllocError> {
+    json!(in alloc; {
+        "capacity": config.capacity,
+        "limit": config.limit,
+        "width": config.width
+    })
 }
 
 fn ranges_value(alloc: Global, opening: &Opening) -> Result<Value, AllocError> {

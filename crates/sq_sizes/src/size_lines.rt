@@ -1,11 +1,12 @@
 // The size of a move as lines.
+use crate::proposal::proposal;
 use crate::size::{MovePart, Size};
-use sq_ranges::{Opening, Range};
+use sq_ranges::{Config, Opening, Range};
 use std::io;
 use std::io::Write;
 
 /// Writes the size of a move as lines: one for each reconfiguration range, in key order, one for
-/// each segment, and one for each stage.
+/// each segment, one for each stage, and the line of the sizes that are proposed.
 pub(crate) fn write_lines<W: Write>(writer: &mut W, opening: &Opening) -> io::Result<()> {
     let recon = opening.recon();
     for range in recon.ranges() {
@@ -21,7 +22,12 @@ pub(crate) fn write_lines<W: Write>(writer: &mut W, opening: &Opening) -> io::Re
         write!(writer, "stage {stage}")?;
         write_size(writer, Size::of_part(opening, MovePart::StagePart(stage)))?;
     }
-    Ok(())
+    let Config {
+        width,
+        limit,
+        capacity,
+    } = proposal(opening);
+    writeln!(writer, "config {width} {limit} {capacity}")
 }
 
 // Writes the line of segment number `seg`, with its stage if there is more than one.

@@ -14,11 +14,11 @@ use std::io::Write;
 /// The format for the size of a move.
 #[derive(Clone, Copy, Debug, PartialEq, Eq)]
 pub enum SizesAs {
-    /// A line for each reconfiguration range, in key order, one for each segment, and one for each
-    /// stage.
+    /// A line for each reconfiguration range, in key order, one for each segment, one for each
+    /// stage, and the line of the sizes that are proposed.
     Lines,
-    /// One line with a JSON object, that of what moves with sizes added: `ranges`, `segments`, and
-    /// for each stage `stage_sizes`.
+    /// One line with a JSON object, that of what moves with sizes added: `ranges`, `segments`, for
+    /// each stage `stage_sizes`, and the sizes that are proposed, `config`.
     Json,
     /// The SVG picture of what moves, with sizes added.
     Svg,

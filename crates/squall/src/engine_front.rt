@@ -7,7 +7,7 @@ use crate::source::{FaultPlace, is_table};
 use crate::text_places::RowPlaces;
 use crate::unread_stages::tell_unread_stages_of;
 use sq_command::EngineFiles;
-use sq_csv_rows::{CsvRows, RecordFlaw, RecordLines};
+use sq_csv_rows::{BareLines, CsvRows, RecordFlaw, RecordLines};
 use sq_row_lines::RowLines;
 use std::alloc::Global;
 use std::io;
@@ -103,12 +103,11 @@ fn with_line<I: Read>(text: Vec<u8>, main: &mut I) -> io::Result<Vec<u8>> {
 fn with_rows<T: Files + AllocGlobal>(rt: &T, text: Vec<u8>, name: &str) -> io::Result<EngineFront> {
     let before = count_lines(&text);
     let file = open_input(rt, name)?;
-    let (text, records) = if is_table(name) {
-        let records = RecordLines::new(rt.alloc());
-        let text = with_all(text, CsvRows::new(rt.alloc(), file, &records)?)?;
-        (text, Some(records))
+    let records = RecordLines::new(rt.alloc());
+    let text = if is_table(name) {
+        with_all(text, CsvRows::new(rt.alloc(), file, &records)?)?
     } else {
-        (with_all(text, RowLines::new(file))?, None)
+        with_all(text, RowLines::new(BareLines::new(file, &records)))?
     };
     let count = count_lines(&text).saturating_sub(before);
     let rows = RowPlaces { count, records };
@@ -121,7 +120,7 @@ fn with_rows<T: Files + AllocGlobal>(rt: &T, text: Vec<u8>, name: &str) -> io::R
 
 // What is wrong with the last record of rows that are a table.
 fn flaw_in(rows: &RowPlaces) -> Option<FlawedRecord> {
-    let flaw = rows.records.as_ref()?.flaw_of(rows.count)?;
+    let flaw = rows.records.flaw_of(rows.count)?;
     Some(FlawedRecord {
         line: rows.line_of(rows.count),
         flaw,

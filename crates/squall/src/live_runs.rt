@@ -281,7 +281,7 @@ fn explain_live<T: Eprint + Files + AllocGlobal, R: Read>(
             let place = source.place(InputLine::Later(job.line));
             let number = job.fault.number();
             let _ = eprintln!(rt; "squall: {place}: fault {number}: {}", job.fault);
-            tell_misfit_of_job(rt, place, reader, job);
+            tell_misfit_of_job(rt, source, reader, job);
         }
         Ok(LiveEnding::Fault(fault @ LiveFault::Threads)) => {
             let _ = eprintln!(rt; "squall: {fault}");

@@ -7,6 +7,7 @@ ghost use Rattle.sq_command.specs.Line.{IsWithin};
 ghost use Rattle.squall.specs.Session.{EndsTask, EndsWithRows, EndsParts, EndsMain, EndsWith};
 
 mod beginning;
+mod earlier;
 mod engine_front;
 mod engine_watch;
 mod explaining;
@@ -38,7 +39,7 @@ use serving::{EngineInput, serve_engine};
 use session::{listing, open_input, refuse_file, refuse_for_memory, refuse_words, script};
 use source::{Source, is_table};
 use sq_command::{Input, Line, Task, line_of};
-use sq_csv_rows::{CsvRows, RecordLines};
+use sq_csv_rows::{BareLines, CsvRows, RecordLines};
 use sq_inputs::{Inserting, Recalling};
 use sq_live::Watch;
 use sq_outputs::PipeEnd;
@@ -150,7 +151,7 @@ where
             (W.contents writer.new) result }
     {
         if !is_table(name) {
-            let behind = Inserting::new(main, RowLines::new(file), source.rows);
+            let behind = Inserting::new(main, bare_rows(file, source.records), source.rows);
             return self.work(source, lines.chain(behind), writer);
         }
         match CsvRows::new(self.rt.alloc(), file, source.records) {
@@ -190,6 +191,12 @@ where
             }
         }
     }
+}
+
+// The rows of a file that isn't a table of values, without empty lines and comments; `lines` gets
+// the lines on which they are.
+fn bare_rows<F: Read>(file: F, lines: &RecordLines) -> RowLines<BareLines<'_, F>> {
+    RowLines::new(BareLines::new(file, lines))
 }
 
 // Does what the words of a command line ask for. Returns the writer and the exit status.

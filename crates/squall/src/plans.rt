@@ -9,6 +9,9 @@ use std::io;
 use std::io::ErrorKind;
 use std::rt::Files;
 
+// The byte order mark with which a file may begin.
+const MARK: [u8; 3] = [0xef, 0xbb, 0xbf];
+
 /// The first two lines of a header, from the files of the plans. Fails with the exit status 2 if a
 /// file can't be read or memory runs out; standard error says which.
 pub fn lines_of_plans<T: Print + Eprint + Files + AllocGlobal>(
@@ -37,7 +40,11 @@ fn text_of<T: Print + Eprint + Files + AllocGlobal>(rt: &T, name: &str) -> Resul
     }
 }
 
-// The text of the file `name`.
+// The text of the file `name`, without the byte order mark with which it may begin.
 pub(crate) fn read_plan<T: Files + AllocGlobal>(rt: &T, name: &str) -> io::Result<Vec<u8>> {
-    plan_text(rt.alloc(), open_input(rt, name)?)
+    let text = plan_text(rt.alloc(), open_input(rt, name)?)?;
+    if let Some(rest) = text.strip_prefix(&MARK) {
+        return Ok(Vec::from_slice(rt.alloc(), rest)?);
+    }
+    Ok(text)
 }

@@ -3,9 +3,10 @@ ghost use Rattle.std.specs.Prelude.{◌≤◌};
 ghost use Rattle.sq_pull.specs.declared.numbers.TheConstants.{MAX_PUMPS};
 ghost use Rattle.squall.specs.Session.{EndsEngine};
 
+use crate::earlier::FilesAgain;
 use crate::engine_front::{EngineFront, FlawedRecord, front_of, told};
 use crate::engine_watch::EngineWatch;
-use crate::flaws::tell_misfit_of_header;
+use crate::flaws::{HeaderPlace, tell_form_of_header, tell_misfit_of_header};
 use crate::session::{REFUSED, TABLE_FORM, explain_write, open_input};
 use crate::source::{FaultPlace, is_table};
 use crate::streams::Streams;
@@ -298,24 +299,37 @@ fn explain_header<T: Eprint + Files + AllocGlobal>(
         let _ = eprintln!(rt; "squall: {fault}");
         return;
     };
-    let told = serving.input.place(place);
-    let is_record = serving.input.is_record(place);
+    let at = header_place(serving, place);
     if located.fault == InputFault::BadHeader {
-        let number = located.fault.number();
-        let form = if is_record {
+        let form = if at.is_record {
             TABLE_FORM
         } else {
             form_of(line.number())
         };
-        let _ = eprintln!(rt; "squall: {told}: fault {number}: it is to be {form}");
+        tell_form_of_header(rt, header, at, form);
     } else {
-        let _ = eprintln!(rt; "squall: {told}: {fault}");
+        let _ = eprintln!(rt; "squall: {}: {fault}", at.place);
+        tell_misfit_of_header(rt, header, at);
     }
-    match serving.flaw {
+}
+
+// The place of a faulty line of a header.
+fn header_place(serving: Serving<'_>, place: LinePlace) -> HeaderPlace<'_> {
+    let input = serving.input;
+    let flaw = match serving.flaw {
         Some(record) if place.source == LineSource::Rows && place.line == record.line => {
-            let _ = eprintln!(rt; "squall: {told}: {}", record.flaw);
+            Some(record.flaw)
         }
-        _ => tell_misfit_of_header(rt, told, header, is_record),
+        _ => None,
+    };
+    HeaderPlace {
+        place: input.place(place),
+        is_record: input.is_record(place),
+        flaw,
+        files: FilesAgain {
+            rows: input.files.and_then(|files| files.rows),
+            main: input.file,
+        },
     }
 }
 

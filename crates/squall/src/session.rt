@@ -6,7 +6,7 @@ ghost use Rattle.sq_results.specs.Standing.{WritesRows, world_families};
 ghost use Rattle.sq_world.specs.Run.{Runs};
 ghost use Rattle.squall.specs.Session.{exit_status, EndsAs, MovesAs, AnswersSizes, ListsAs};
 
-use crate::flaws::{tell_misfit, tell_unread_stages};
+use crate::flaws::{tell_form, tell_misfit, tell_unread_stages};
 use crate::outputs::save_text;
 use crate::source::Source;
 use sq_command::Form;
@@ -214,8 +214,9 @@ pub fn refuse_for_memory(rt: &(impl Print + Eprint)) -> u8
     REFUSED
 }
 
-/// Writes to standard error the line that a fault belongs to, and what the fault means; the form of
-/// a header line, if the line isn't of it; and what is wrong with the line.
+/// Writes to standard error the line that a fault belongs to, what the fault means, and what is
+/// wrong with the line. If a header line isn't of its form, what is wrong comes first, and then the
+/// form.
 pub(crate) fn explain<T: Eprint + Files + AllocGlobal, R: Read>(
     rt: &T,
     source: &Source<'_>,
@@ -226,16 +227,17 @@ pub(crate) fn explain<T: Eprint + Files + AllocGlobal, R: Read>(
         let _ = eprintln!(rt; "squall: {located}");
         return;
     };
-    let place = source.place(line);
-    let _ = eprintln!(rt; "squall: {place}: {}", Meaning(located));
     if located.fault == InputFault::BadHeader {
         let form = if source.is_record(line) {
             TABLE_FORM
         } else {
             form_of(line)
         };
-        let _ = eprintln!(rt; "squall: {place} is to be {form}");
+        tell_form(rt, source, reader, located, line, form);
+        return;
     }
+    let place = source.place(line);
+    let _ = eprintln!(rt; "squall: {place}: {}", Meaning(located));
     tell_misfit(rt, source, reader, located);
 }
 

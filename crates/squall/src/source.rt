@@ -16,7 +16,7 @@ pub struct Source<'a> {
     pub input: Input<'a>,
     /// How many lines the file of the rows has, once all of them were read.
     pub rows: &'a Cell<Option<usize>>,
-    /// The lines of a table's records, if the file of the rows is a table of values.
+    /// The lines on which the rows of their file are.
     pub records: &'a RecordLines,
     /// Whether a write found that the reader of the output has closed it.
     pub is_closed: &'a Cell<bool>,
@@ -59,10 +59,7 @@ impl<'a> Source<'a> {
             Some(lines) if behind > lines as u64 => {
                 FaultPlace::LineOf(self.main(), (behind - lines as u64).saturating_add(1))
             }
-            _ if is_table(file) => {
-                FaultPlace::LineOf(file, self.records.line_of(behind).unwrap_or(behind))
-            }
-            _ => FaultPlace::LineOf(file, behind),
+            _ => FaultPlace::LineOf(file, self.records.line_of(behind).unwrap_or(behind)),
         }
     }
 

@@ -20,17 +20,14 @@ pub struct TextPlaces {
 #[derive(Drop)]
 pub struct RowPlaces {
     pub count: u64,
-    /// The lines of a table's records, if the file is a table of values.
-    pub records: Option<RecordLines>,
+    /// The lines on which they are.
+    pub records: RecordLines,
 }
 
 impl RowPlaces {
     /// The line of row `row`, counted from 1.
     pub fn line_of(&self, row: u64) -> u64 {
-        match &self.records {
-            Some(records) => records.line_of(row).unwrap_or(row),
-            None => row,
-        }
+        self.records.line_of(row).unwrap_or(row)
     }
 }
 
