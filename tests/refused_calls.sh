@@ -1,20 +1,12 @@
 #!/usr/bin/env bash
 # Refused allocations of calls of the library: runs in each of which one allocation fails, each one of a call in turn.
 #
-#   tests/refused_calls.sh          each allocation of the calls of the proved program, some of the others
-#   tests/refused_calls.sh --all    all of them
+#   tests/refused_calls.sh
 #
-# The first five calls below are those of a proved program, which `rt ci` leaves in crates/sq_refusals/out; CALLS=PATH takes another. Its
-# input is the letter of a call, and for a call on a stored run the lines of that run. The C compiler (cc, or the one that CC names)
-# makes of tests/programs/refuse.c what lets an allocation fail: in the first run the first one, in the next run the second one, and so
-# on up to a run that asks for fewer allocations.
-#
-# The program of the other calls stands in tests/programs/refused_calls. `rt try` builds it once, without a proof, and gives it one
-# input after another: a letter that says which call is tried. In each run the allocation of the same number fails. The program makes
-# as many allocations of its own as its input begins with spaces, so that it is another one of the call that fails each time.
-# OTHER_CALLS=PATH takes a program that is built already, without a sanitizer.
-#
-# With KEEP=FOLDER what each run wrote stays there.
+# The program is the proved one, which `rt ci` leaves in crates/sq_refusals/out; CALLS=PATH takes another. Its input is the letter of
+# a call, and for a call on a stored run the lines of that run. The C compiler (cc, or the one that CC names) makes of
+# tests/programs/refuse.c what lets an allocation fail: in the first run the first one, in the next run the second one, and so on up
+# to a run that asks for fewer allocations. With KEEP=FOLDER the output of each run stays there.
 #
 #   steps        each step by `World::step`; one that answers 222 is made once more
 #   list         all steps by `run_world`; an opening that comes back is used once more
@@ -26,25 +18,24 @@
 #   folds        the same, with a fold in threads
 #   page         a page of a run at rest, which is taken and audited
 #   engine       an engine: a client of three jobs at rest, a pause, a page, a move with a client, a move back without one, and the
-#                end, with the verdict; where a teller has no memory for an answer the epoch ends, and the jobs are answered
+#                end, with the verdict; if a teller has no memory for an answer the epoch ends, and the jobs are answered
 #                without a client
 #   chain        the epochs of an engine one by one: a move in two stages, a page between them, a move back, and the end
 #
-# All print first that they start, so that an output that is empty is a run that died. The proved program ends with a line that says so
-# where an allocation is refused that is of no call that is tried.
+# All print first that they start. If an allocation outside the calls that are tried is refused, the last line of the run says so.
 #
-# A step that answered 222 changed nothing: made once more it answers as it was to, and so do all later ones, with the same
-# dump. Of a list at most one step is refused, and the rest is what the rules say of the script without it. Of an input the same, or
-# the fault 222 is all that is written.
+# A step that answers 222 changes nothing: it is made once more, and it and all later ones answer as if nothing was refused, with the
+# same dump. Of a list at most one step is refused, and the rest is what the rules say of the script without it. Of an input the same,
+# or the fault 222 is all that is written.
 #
-# The runs of `nodes`, `two_stages` and `folds` are made by hand. Where an allocation of a tree, of a link, or of what a
-# run opens with (its trees, links, queues, nodes and pumps) is refused, it is opened once more. A step whose allocation is refused
-# answers so, and its work is done at a later turn. A gathering, a fold and a next stage whose allocation is refused hand all back,
-# and are called once more with what came back; and so do the taking and the audit of a page, and the calls of an engine. So what
-# is gathered in the end is always the same.
+# The runs of `nodes`, `two_stages`, `folds` and `page` are stepped by hand. If an allocation is refused of a tree, of a link, or of
+# what a run opens with (its trees, links, queues, nodes and pumps), it is opened once more. A step whose allocation is refused says
+# so, and a later turn does its work. A gathering, a fold, a next stage, the taking and the audit of a page, and the calls of an
+# engine return what they were given if an allocation of theirs is refused, and are called once more with it. So what is gathered in
+# the end is always the same.
 #
-# The workers of `engine` and `chain` run in threads, so that an allocation of the same number isn't always of the same call. If the
-# numbers that are tried of a call of the program without a proof miss what is to be refused in it, all are tried.
+# The workers of `engine` and `chain` run in threads, so an allocation of the same number isn't always of the same call, and two
+# runs may ask for different numbers of allocations.
 set -eu
 . "$(dirname "$0")/lib.sh"
 program=${CALLS:-$top/crates/sq_refusals/out/sq_refusals}
@@ -52,26 +43,14 @@ room=$(mktemp -d)
 trap 'rm -r "$room"' EXIT
 outputs=${KEEP:-$room/outputs}
 
-# How many runs of the proved program are made before it is looked at whether all had an allocation that failed.
+# How many runs are made before it is looked at whether an allocation failed in each.
 batch=40
 
-# The allocation of the other program that fails.
-failing=900
-
-# The calls of the proved program, each with the stored run that it is called on and with what takes memory in it. Allocations of
-# the program are refused by tests/refused.sh.
+# The calls that are tried, each with the stored run that it is called on and with what takes memory in it. tests/refused.sh refuses
+# allocations of the program `squall`.
 tries() {
     cat "$tests/programs/refused_calls/tries"
 }
-
-# The calls of the other program, each with how many spaces its inputs begin with (the fewest and the most, and which of those between
-# are tried without --all), and with what takes memory in it. With the fewest none of its allocations is refused, and with the most
-# one is that comes before the call.
-unproved_tries() {
-    cat "$tests/programs/refused_calls/unproved_tries"
-}
-
-# --- runs of the proved program ---
 
 # The letter of a call, and the stored run that it is called on.
 input_of() {
@@ -103,79 +82,6 @@ try_all() {
         first=$last
         last=
     done
-}
-
-# --- runs of the other program ---
-
-# spaces_of RANGE SOME: the numbers of spaces; of those between the fewest and the most these, or `all`.
-spaces_of() {
-    local range
-    {
-        echo "${1/-/$'\n'}"
-        for range in $(tr ',' ' ' <<< "${2/all/$1}"); do seq "${range%-*}" "${range#*-}"; done
-    } | sort -nu
-}
-
-# A repository of the same crates and the program, which uses those that it names.
-make_program() {
-    local source=$room/crates/refused_calls/src file
-    tar -C "$top" --exclude=out -cf - HANDLES crates | tar -C "$room" -xf -
-    mkdir -p "$source"
-    for file in "$tests"/programs/refused_calls/*.rt.txt; do cp "$file" "$source/$(basename "$file" .txt)"; done
-    cp "$top/crates/sq_thread_tests/src/tests/text.rt" "$source"
-    {
-        cat "$top/crates.txt"
-        echo "refused_calls: $(sed -nE 's/^use (sq_[a-z_]+)::.*/\1/p' "$source"/* | sort -u | tr '\n' ' ')"
-    } > "$room/crates.txt"
-}
-
-# make_inputs CALL RANGE SOME: makes the inputs of a call, but for those that were tried.
-make_inputs() {
-    local spaces
-    for spaces in $(spaces_of "$2" "$3"); do
-        if [ -e "$outputs/$1.none.$spaces" ]; then continue; fi
-        printf '%*s%s' "$spaces" '' "${1:0:1}" > "$room/inputs/$1.none.$spaces"
-    done
-}
-
-# lacks_one CALL WORDS..: whether no input that was tried refused an allocation of one of these.
-lacks_one() {
-    local call=$1 what
-    shift
-    for what; do
-        if ! cat "$outputs/$call.none".* | grep -q -x "refused $what"; then return 0; fi
-    done
-    return 1
-}
-
-# What is tried: all numbers of a call of which no allocation of some word was refused. Their inputs are made.
-widened_tries() {
-    local call range some words
-    while read -r call range some words; do
-        # shellcheck disable=SC2086
-        if [ "$some" != all ] && lacks_one "$call" $words; then
-            some=all
-            make_inputs "$call" "$range" all
-        fi
-        echo "$call $range $some $words"
-    done < "$room/tries"
-}
-
-# Gives the program the inputs, and leaves what it wrote for each in a file, which is empty where it wrote nothing. Those that
-# it was given are away then. `--steps 0` leaves out the interpreter, which would take as long as the program.
-run_inputs() {
-    if [ -n "${OTHER_CALLS:-}" ]; then
-        # shellcheck disable=SC2016
-        (cd "$room/inputs" && printf '%s\n' * | REFUSE=$failing xargs -P 4 -I NAME bash -c '
-            REFUSED=$1/refused.NAME LD_PRELOAD=$1/refuse.so "$2" < NAME > "$3/NAME" 2> /dev/null || true' run "$room" "$OTHER_CALLS" "$outputs")
-        rm -f "$room"/inputs/* "$room"/refused.*
-        return
-    fi
-    (cd "$room/crates/refused_calls" && rt try --steps 0 --cases "$room/inputs" --fail-alloc "$failing") \
-        > "$room/written" 2> "$room/got" || { cat "$room/got" >&2; exit 1; }
-    awk -v folder="$outputs/" '/^== / { close(file); file = folder $2; printf "" > file; next } { print > file }' \
-        "$room/written"
-    rm -f "$room"/inputs/*
 }
 
 # --- what is wanted of steps, a list and a store ---
@@ -235,9 +141,9 @@ wanted() {
     esac
 }
 
-# --- what is wanted of runs in threads ---
+# --- what is wanted of nodes, pages and engines ---
 
-# of_nodes CALL: what a call writes where nothing is refused.
+# of_nodes CALL: what a call writes if nothing is refused.
 of_nodes() {
     cat "$tests/programs/refused_calls/${1/folds/two_stages}.out"
 }
@@ -286,23 +192,19 @@ judge_steps() {
     matches "$(wanted "$1" "$2" "${step:-0}")" "$got" "$word"
 }
 
-# judge_nodes CALL GOT: says the same of an output of nodes, of two stages, of a page or of an engine.
+# judge_nodes CALL GOT: says the same of an output of the other calls.
 judge_nodes() {
     local got=$2 whole refused
     # Which parts of a segment a pump claims depends on the threads.
     case $1 in chain) got=$(grep -v -E '^(note|node) ' <<< "$got" || true) ;; esac
     whole=$(of_nodes "$1")
-    # Refused was an allocation of what isn't tried: of reading the header, of a job, of the list of jobs or of the text.
-    if [[ $got != "$whole" && $whole = "$got"* ]]; then
-        case ${got##*$'\n'} in
-            starts | opened | worked | gathered | closed | Sound) echo outside; return ;;
-        esac
-    fi
+    # Outside are reading the header, the jobs and the plans, posting by hand, and the text.
+    if is_outside "$whole" "$got"; then echo outside; return; fi
     refused=$(sed -n 's/^refused //p' <<< "$got")
     matches "$whole" "$(grep -v '^refused ' <<< "$got")" "${refused:-none}"
 }
 
-# judge CALL RUN GOT: says what an output shows that was refused.
+# judge CALL RUN GOT: says what was refused, by the output.
 judge() {
     case $1 in
         nodes | two_stages | folds | page | engine | chain) judge_nodes "$1" "$3" ;;
@@ -323,10 +225,38 @@ judge_run() {
     esac
 }
 
-# check_words CALL RUN WORDS..: an allocation of each of these was refused in some run, and of nothing else, by `met`.
-check_words() {
+# judge_all CALL RUN: refuses each allocation in turn, and judges the runs. Leaves what was refused in `met`; in the last run nothing was.
+judge_all() {
+    local call=$1 run=$2 number word last
+    try_all "$call.$run"
+    for ((number = 1; number < last; number++)); do
+        judge_run "$call" "$run" "$number"
+        case $word in wrong*) ;; *) met[$word]=1 ;; esac
+    done
+    judge_run "$call" "$run" "$last"
+    if [ "$word" != none ]; then count "$call of $run" "without an allocation that fails: $word"; fi
+    echo "$call of $run: $((last - 1)) allocations"
+}
+
+# lacks_one WORDS..: whether `met` lacks one of these.
+lacks_one() {
+    local what
+    for what in "$@"; do
+        if [ -z "${met[$what]:-}" ]; then return 0; fi
+    done
+    return 1
+}
+
+# check CALL RUN WORDS..: judges all runs of a call. An allocation of each word was refused in some run, and of nothing else. If
+# runs in threads missed one, all runs are made again, twice at most.
+check() {
     local call=$1 run=$2 what
     shift 2
+    declare -A met=() judged=()
+    input_of "$call" "$run" > "$room/in"
+    judge_all "$call" "$run"
+    if lacks_one "$@"; then judge_all "$call" "$run"; fi
+    if lacks_one "$@"; then judge_all "$call" "$run"; fi
     for what in "$@"; do
         if [ -z "${met[$what]:-}" ]; then count "$call of $run" "no allocation of $what was refused"; fi
         unset "met[$what]"
@@ -335,57 +265,15 @@ check_words() {
     for what in "${!met[@]}"; do count "$call of $run" "$what isn't to be refused memory, and was"; done
 }
 
-# check CALL RUN WORDS..: judges all runs of a call of the proved program. In the last run none was refused.
-check() {
-    local call=$1 run=$2 number word last
-    shift 2
-    declare -A met=() judged=()
-    input_of "$call" "$run" > "$room/in"
-    try_all "$call.$run"
-    for ((number = 1; number < last; number++)); do
-        judge_run "$call" "$run" "$number"
-        case $word in wrong*) ;; *) met[$word]=1 ;; esac
-    done
-    check_words "$call" "$run" "$@"
-    judge_run "$call" "$run" "$last"
-    if [ "$word" != none ]; then count "$call of $run" "without an allocation that fails: $word"; fi
-}
-
-# check_unproved CALL RANGE SOME WORDS..: judges all inputs of a call of the other program. In the first none was refused.
-check_unproved() {
-    local call=$1 numbers number word
-    mapfile -t numbers < <(spaces_of "$2" "$3")
-    shift 3
-    declare -A met=() judged=()
-    judge_run "$call" none "${numbers[0]}"
-    if [ "$word" != none ]; then count "$call" "with the fewest spaces: $word"; fi
-    for number in "${numbers[@]}"; do
-        judge_run "$call" none "$number"
-        case $word in wrong*) ;; *) met[$word]=1 ;; esac
-    done
-    check_words "$call" none "$@"
-}
-
 if [ ! -x "$program" ]; then
     echo "tests: no program at $program: run 'rt ci' at the top first" >&2
     exit 1
 fi
-mkdir -p "$room/inputs" "$outputs"
+mkdir -p "$outputs"
 "${CC:-cc}" -shared -fPIC -o "$room/refuse.so" "$tests/programs/refuse.c" -ldl
 while read -r call run words; do
     # shellcheck disable=SC2086
     check "$call" "$run" $words
 done < <(tries)
-if [ -z "${OTHER_CALLS:-}" ]; then make_program; fi
-if [ "${1:-}" = --all ]; then every=all; else every=; fi
-while read -r call range some words; do echo "$call $range ${every:-$some} $words"; done < <(unproved_tries) > "$room/tries"
-while read -r call range some _; do make_inputs "$call" "$range" "$some"; done < "$room/tries"
-run_inputs
-widened_tries > "$room/widened"
-if [ -n "$(ls "$room/inputs")" ]; then run_inputs; fi
-while read -r call range some words; do
-    # shellcheck disable=SC2086
-    check_unproved "$call" "$range" "$some" $words
-done < "$room/widened"
 echo "$passed refused allocations of calls passed, $failed failed"
 [ "$failed" = 0 ]

@@ -13,6 +13,18 @@ pub enum Call {
     VecStore,
     /// Those of a `SlabStore`.
     BlockStore,
+    /// Those of a tree, of a link, and of nodes, in one thread.
+    Nodes,
+    /// A move in two stages, with a fold in one thread between them.
+    TwoStages,
+    /// A move in two stages, with a fold in threads between them.
+    Folds,
+    /// A page of a run, and its audit.
+    Page,
+    /// An engine from its opening to its end.
+    Engine,
+    /// The epochs of an engine, one by one.
+    Chain,
 }
 
 impl Call {
@@ -24,6 +36,12 @@ impl Call {
             b'i' => Some(Call::Input),
             b'v' => Some(Call::VecStore),
             b'b' => Some(Call::BlockStore),
+            b'n' => Some(Call::Nodes),
+            b't' => Some(Call::TwoStages),
+            b'f' => Some(Call::Folds),
+            b'p' => Some(Call::Page),
+            b'e' => Some(Call::Engine),
+            b'c' => Some(Call::Chain),
             _ => None,
         }
     }

@@ -3,18 +3,10 @@ use crate::unfinished::Unfinished;
 use sq_lines::{LineReader, Next};
 use sq_model::Step;
 use sq_ranges::Opening;
-use sq_schema::{MAX_TABLES, Schema};
+use sq_schema::Schema;
 use sq_text::{MAX_LINE, read_header, read_step};
 use std::alloc::Global;
 use std::io::Read;
-
-/// Returns the schema of all tables.
-pub fn schema() -> Schema {
-    let Some(schema) = Schema::new(MAX_TABLES) else {
-        unreachable!()
-    };
-    schema
-}
 
 /// Returns all that `reader` gives.
 pub fn read_all<R: Read>(alloc: Global, reader: &mut R) -> Result<Vec<u8>, Unfinished> {
@@ -26,14 +18,14 @@ pub fn read_all<R: Read>(alloc: Global, reader: &mut R) -> Result<Vec<u8>, Unfin
 /// Returns the opening and the steps of an input.
 pub fn read_script(alloc: Global, input: &[u8]) -> Result<(Opening, Vec<Step>), Unfinished> {
     let mut lines = LineReader::new(alloc, input)?;
-    let opening = read_header(alloc, schema(), &mut lines)?;
+    let opening = read_header(alloc, Schema::largest(), &mut lines)?;
     let steps = read_steps(alloc, &mut lines)?;
     Ok((opening, steps))
 }
 
 // Returns the steps of the lines that are left.
 fn read_steps<R: Read>(alloc: Global, lines: &mut LineReader<R>) -> Result<Vec<Step>, Unfinished> {
-    let schema = schema();
+    let schema = Schema::largest();
     let mut steps = Vec::with_capacity(alloc, 64)?;
     for _line in 0..u64::MAX {
         match lines.next_read(MAX_LINE) {

@@ -3,46 +3,64 @@
 #![tactic(auto)]
 
 mod call;
+mod chain;
+mod engine;
+mod gathered_text;
+mod hand_run;
 mod input;
+mod lines;
+mod nodes;
+mod page;
+mod poster;
+mod printing;
 mod steps;
 mod stores;
-mod telling;
+mod two_stages;
 mod unfinished;
 
 use anyhow::Context;
 use call::Call;
+use printing::print_line;
 use std::alloc::Global;
 use std::io;
-use std::io::{Read, Write};
-use telling::say;
+use std::io::Read;
+use std::sync::Wait;
+use std::thread::Threads;
+use two_stages::Fold;
 use unfinished::Unfinished;
 
-// Tries a call. What `reader` gives is its input.
-fn try_call<R: Read, W: Write>(
+// Tries `call`; what `reader` reads is its input.
+fn try_call<R: Threads + Wait + Print + Sync, I: Read>(
+    rt: &R,
     alloc: Global,
     call: Call,
-    reader: &mut R,
-    writer: &mut W,
+    reader: &mut I,
 ) -> Result<(), Unfinished> {
+    let mut writer = io::writer(rt);
     match call {
-        Call::Steps => steps::try_steps(alloc, reader, writer),
-        Call::List => steps::try_list(alloc, reader, writer),
-        Call::Input => steps::try_input(alloc, reader, writer),
-        Call::VecStore => stores::try_vec_store(alloc, writer),
-        Call::BlockStore => stores::try_block_store(alloc, writer),
+        Call::Steps => steps::try_steps(alloc, reader, &mut writer),
+        Call::List => steps::try_list(alloc, reader, &mut writer),
+        Call::Input => steps::try_input(alloc, reader, &mut writer),
+        Call::VecStore => stores::try_vec_store(alloc, &mut writer),
+        Call::BlockStore => stores::try_block_store(alloc, &mut writer),
+        Call::Nodes => nodes::try_nodes(rt, alloc),
+        Call::TwoStages => two_stages::try_two_stages(rt, alloc, Fold::InOneThread),
+        Call::Folds => two_stages::try_two_stages(rt, alloc, Fold::InThreads),
+        Call::Page => page::try_page(rt, alloc),
+        Call::Engine => engine::try_engine(rt, alloc),
+        Call::Chain => chain::try_chain(rt, alloc),
     }
 }
 
-// If an allocation was refused that is of no call that is tried, the last line says so.
+// If an allocation outside the calls that are tried was refused, the last line says so.
 fn main(rt: HostRuntime) -> anyhow::Result<()> {
     let mut reader = rt.reader();
-    let mut writer = io::writer(&rt);
     let mut letter = [0];
     reader.read_exact(&mut letter)?;
     let call = Call::of(letter[0]).context("no call has this letter")?;
-    let outcome = try_call(rt.alloc(), call, &mut reader, &mut writer);
+    let outcome = try_call(&rt, rt.alloc(), call, &mut reader);
     if outcome == Err(Unfinished::Memory) {
-        say(&mut writer, "no memory");
+        print_line(&rt, "no memory");
     }
     outcome?;
     Ok(())

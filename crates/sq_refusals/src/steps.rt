@@ -1,6 +1,6 @@
 // Tries the steps of a script: one by one, as a list, and from bytes to bytes.
 use crate::input::{read_all, read_script};
-use crate::telling::{say, value_of};
+use crate::printing::{say, value_of};
 use crate::unfinished::Unfinished;
 use sq_model::{Answer, Refusal, Step};
 use sq_ranges::Opening;
@@ -9,8 +9,8 @@ use sq_world::{ScriptManner, World, run, run_world};
 use std::alloc::Global;
 use std::io::{Read, Write};
 
-/// Makes each step by `World::step`, and once more if there was no memory for it. Writes the answers
-/// and the dump.
+/// Makes each step by `World::step`, and once more if there was no memory for it. Writes the
+/// answers and the dump.
 pub fn try_steps<R: Read, W: Write>(
     alloc: Global,
     reader: &mut R,
@@ -60,8 +60,8 @@ fn is_out_of_memory(answer: &Answer) -> bool {
     matches!(answer, Answer::Refused(Refusal::Memory))
 }
 
-/// Makes all steps by `run_world`, and writes the answers and the dump. If the opening is returned it
-/// is used once more.
+/// Makes all steps by `run_world`, and writes the answers and the dump. If the opening is returned
+/// it is used once more.
 pub fn try_list<R: Read, W: Write>(
     alloc: Global,
     reader: &mut R,

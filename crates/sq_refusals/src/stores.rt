@@ -2,13 +2,12 @@
 ghost use Rattle.std.specs.Prelude.{IfOk, IsTrue};
 ghost use Rattle.sq_store.specs.StoreValue.{roots_differ, has_none_of};
 
-use crate::input::schema;
-use crate::telling::{say, value_of};
+use crate::printing::{say, value_of};
 use crate::unfinished::Unfinished;
 use sq_model::{Answer, Step};
 use sq_plan::PartId;
 use sq_ranges::Extent;
-use sq_schema::{Family, ROOT_END, Reply, Txn};
+use sq_schema::{Family, ROOT_END, Reply, Schema, Txn};
 use sq_slab::SlabStore;
 use sq_store::{Cut, FamilyStore, VecStore};
 use sq_text::{read_step, write_answer, write_at};
@@ -47,7 +46,7 @@ pub fn try_block_store<W: Write>(alloc: Global, writer: &mut W) -> Result<(), Un
 fn transactions(alloc: Global) -> Result<Vec<Txn>, Unfinished> {
     let mut txns = Vec::with_capacity(alloc, LINES.len())?;
     for line in LINES {
-        match read_step(alloc, &schema(), line.as_bytes())? {
+        match read_step(alloc, &Schema::largest(), line.as_bytes())? {
             Step::Submit(_, txn) => txns.push(txn)?,
             _ => return Err(Unfinished::Malformed),
         }

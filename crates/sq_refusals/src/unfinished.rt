@@ -1,4 +1,5 @@
 // Why a call isn't tried to its end.
+use sq_plan::PlanFault;
 use sq_text::{InputFault, LineFault, LocatedFault, WriteFault};
 use std::alloc::{AllocError, AllocFailed};
 use std::io;
@@ -58,6 +59,15 @@ impl From<LineFault> for Unfinished {
     fn from(fault: LineFault) -> Unfinished {
         match fault {
             LineFault::Memory => Unfinished::Memory,
+            _ => Unfinished::Malformed,
+        }
+    }
+}
+
+impl From<PlanFault> for Unfinished {
+    fn from(fault: PlanFault) -> Unfinished {
+        match fault {
+            PlanFault::Memory => Unfinished::Memory,
             _ => Unfinished::Malformed,
         }
     }
