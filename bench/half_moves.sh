@@ -7,8 +7,7 @@
 # answers and the 99th part are looked at. Each curve begins half a second before its move was asked for and ends half a second after the
 # move: in 50 milliseconds the answers, as a rate, and the highest of the 99th parts of five intervals of 10.
 #
-# bench/half-moves has two such series of 30 November 2026, which were read off docs/serve.svg: answers to within 4,000 a second, and times
-# to within 6 percent.
+# bench/half-moves has the two series of 1 December 2026 that docs/half-moves.svg is drawn from.
 set -eu
 export LC_ALL=C
 folder=${1:?'bash bench/half_moves.sh FOLDER'}

@@ -1,13 +1,13 @@
 #!/usr/bin/env bash
-# Counts the instructions that the program takes on four inputs, one of them of a live run, and fails if one takes over 3 % more than
-# the table bench/instructions.txt says, or if an output isn't the wanted one.
+# Counts the instructions that the program takes on four inputs, and fails if one takes over 3 % more than the table
+# bench/instructions.txt says (a live run over 10 %), or if an output isn't the wanted one.
 #
 #   bash bench/instructions.sh            compares with the table
 #   bash bench/instructions.sh --write    writes the table anew
 #
-# The inputs are made from a seed (bench/inputs.sh), and valgrind counts. How many turns without work the threads of a live run take varies
-# by 3 % or so: the least count of seven runs stands, or the first that the table allows. Nothing is counted if valgrind isn't there, or
-# if SKIP=instructions is set.
+# The inputs are made from a seed (bench/inputs.sh), and valgrind counts. How many turns without work the threads of a live run take
+# depends on the machine, so a live run may take more: the least count of seven runs stands, or the first that the table allows. Nothing
+# is counted if valgrind isn't there, or if SKIP=instructions is set.
 #
 # The program is the proved one, which `rt ci` leaves in crates/squall/out; SQUALL=PATH takes another.
 set -eu
@@ -15,8 +15,6 @@ export LC_ALL=C
 top=$(cd "$(dirname "$0")/.." && pwd)
 squall=${SQUALL:-$top/crates/squall/out/squall}
 table=$top/bench/instructions.txt
-# By how many hundredths a count may be larger than the table's.
-percent=3
 seed=1
 if [ "${SKIP:-}" = instructions ]; then
     echo 'instructions: not counted, by SKIP'
@@ -44,11 +42,11 @@ counted() {
     awk '/Collected/ { print $NF }' "$room/log"
 }
 
-# count NAME WORD TIMES PROGRAM SETTING..: the least count of so many runs of a subcommand on an input goes into $room/counts, or is
-# compared with the table's. Then the first one that isn't too large ends the runs.
+# count NAME WORD TIMES PERCENT PROGRAM SETTING..: the least count of TIMES runs of a subcommand on an input goes into $room/counts, or is
+# compared with the table's, which it may exceed by PERCENT. Then the first one that isn't too large ends the runs.
 count() {
-    local least= time instructions stored most=0
-    generate "$4" "${@:5}"
+    local least= time instructions stored most=0 percent=$4
+    generate "$5" "${@:6}"
     if [ -z "$writes" ]; then
         stored=$(awk -v name="$1" '$1 == name { print $2 }' "$table")
         most=$((${stored:-0} * (100 + percent) / 100))
@@ -70,10 +68,10 @@ count() {
 writes=
 failed=0
 if [ "${1:-}" = --write ]; then writes=1; fi
-count transactions run 1 "$transactions" roots=2000 count=20000
-count move-in-chunks run 1 "$chunks" roots=10000
-count resumed-transactions run 1 "$resumes" segments=8
-count live-run live 7 "$jobs" roots=4096 parts=4 count=4096
+count transactions run 1 3 "$transactions" roots=2000 count=20000
+count move-in-chunks run 1 3 "$chunks" roots=10000
+count resumed-transactions run 1 3 "$resumes" segments=8
+count live-run live 7 10 "$jobs" roots=4096 parts=4 count=4096
 if [ -n "$writes" ]; then
     { echo '# Instructions by input, as bench/instructions.sh --write wrote them.'; cat "$room/counts"; } > "$table"
 fi

@@ -14,7 +14,6 @@
 //   width=N     root keys in a leaf of a segment; 0 for an eighth of what makes one segment of a partition (0)
 //   stages=N    1 for a move in several stages (0)
 //   pumps=N     pumps (1)
-//   fold=N      after how many answers a page is taken (262144)
 //   ahead=1     jobs go where the new plan says once the move is asked for, and not once it is done: a job that comes where its rows aren't
 //               yet asks for them, and one that comes where they still are is done there (0)
 //   sweep=1     once a third of JOBS is posted after the move began, a job is posted for each root key that moves: without pumps a move
@@ -60,7 +59,7 @@ struct job {
 
 static uint64_t parts = 4, roots = 100000, count_of_jobs = 1200000, hot = 50, window = 16384, width, size;
 static double rate, limit, started;
-static char *chunk = "65536", *pumps = "1", *fold = "262144", *series;
+static char *chunk = "65536", *pumps = "1", *series;
 static int in_stages, moves_half, stops, sweeps, ahead, is_late;
 
 static struct job *jobs;
@@ -147,6 +146,17 @@ static void plan(FILE *to, int moved, int stages) {
             from = root;
         }
     fprintf(to, "[%llu,%llu,0]]}\n", (unsigned long long)from, (unsigned long long)key_end);
+}
+
+// The text of the plan of the move, which takes a while to make.
+static char *plan_of_move(void) {
+    char *text = NULL;
+    size_t length = 0;
+    FILE *to = open_memstream(&text, &length);
+    if (!to) fail("no memory");
+    plan(to, 1, in_stages);
+    if (fclose(to) != 0 || !text) fail("no memory");
+    return text;
 }
 
 // Whether a move is to be given up.
@@ -266,7 +276,7 @@ static pid_t start(char *program) {
     if (child == 0) {
         dup2(in[0], 0);
         dup2(out[1], 1);
-        execl(program, program, "serve", "--pumps", pumps, "--fold-after", fold, (char *)NULL);
+        execl(program, program, "serve", "--pumps", pumps, (char *)NULL);
         _exit(127);
     }
     close(in[0]);
@@ -297,7 +307,6 @@ static void read_word(char *word) {
     else if (is(word, "width", &value)) width = strtoull(value, NULL, 10);
     else if (is(word, "stages", &value)) in_stages = atoi(value);
     else if (is(word, "pumps", &value)) pumps = value;
-    else if (is(word, "fold", &value)) fold = value;
     else if (is(word, "ahead", &value)) ahead = atoi(value);
     else if (is(word, "limit", &value)) limit = strtod(value, NULL);
     else if (is(word, "sweep", &value)) sweeps = atoi(value);
@@ -309,6 +318,7 @@ static void read_word(char *word) {
 int main(int count, char **words) {
     uint64_t third, id, root;
     double *sums, end = 0;
+    char *new_plan;
     int status, word;
     pthread_t reader;
     pid_t child;
@@ -321,6 +331,7 @@ int main(int count, char **words) {
     jobs = room(most, sizeof *jobs);
     sums = room(size, sizeof *sums);
     for (root = 0; root < size; root++) sums[root] = (root ? sums[root - 1] : 0) + pow((double)(root + 1), -0.99);
+    new_plan = plan_of_move();
     child = start(words[1]);
     // An engine that was killed reads no more.
     signal(SIGPIPE, SIG_IGN);
@@ -337,8 +348,7 @@ int main(int count, char **words) {
     started = now();
     while (posted - first < third) post(sums);
     if (stops) await_answers();
-    fprintf(engine, "move ");
-    plan(engine, 1, in_stages);
+    fprintf(engine, "move %s", new_plan);
     fflush(engine);
     move_at = now();
     if (ahead) goes_new = 1;

@@ -4,7 +4,7 @@
 #   SQUALL=PROGRAM bash bench/serve.sh FOLDER
 #
 # writes into FOLDER the tables serve.md, the series of the runs (NAME.series) and the pictures serve.svg (bench/serve_picture.sh) and
-# half-moves.svg (bench/half_moves.sh), in some four minutes. bench/load.c says what is posted and what the figures are. There are four partitions; a job adds one to a number.
+# half-moves.svg (bench/half_moves.sh), in a minute. bench/load.c says what is posted and what the figures are. There are four partitions; a job adds one to a number.
 #
 # First, a hot partition: half of the jobs are for root keys of partition 0, by a Zipf law, and in the middle the hotter half of
 # its root keys goes to the other partitions. There are ROOTS families (100000 if left out); a third of JOBS jobs (1200000) is
@@ -14,8 +14,7 @@
 # move.
 #
 # Then jobs for any root key, of MANY families (999000, since a header has a million lines at most), half of which move, in the same two
-# ways; in chunks of 8 KiB, 64 KiB and 1 MiB, and with a stop. Last, pages are smaller: PAGES has after how many answers one is taken
-# (65536, 32768 and 16384), and this move is made in both ways, in chunks of 8 KiB.
+# ways; in chunks of 8 KiB, 64 KiB and 1 MiB, and with a stop.
 #
 # The program is crates/squall/out/squall, which `rt run` leaves in crates/squall; SQUALL=PATH takes another. It has a pump at least. With
 # DEMAND=PATH of a build whose `serve` takes `--pumps 0` (in crates/sq_command/src/serve.rt `0` for `1` in `counted` and `number_of`) both
@@ -114,14 +113,6 @@ run many-1m-half "${many_words[@]}" chunk=1048576 "rate=$many_rate"
 run many-stop "${many_words[@]}" chunk=65536 manner=stop
 run many-stop-half "${many_words[@]}" chunk=65536 manner=stop "rate=$many_rate"
 
-# The same with smaller pages.
-pages=()
-for fold in ${PAGES:-65536 32768 16384}; do
-    run "many-page-$fold" "${many_words[@]}" chunk=8192 "fold=$fold"
-    run "many-page-$fold-half" "${many_words[@]}" chunk=8192 "fold=$fold" "rate=$many_rate"
-    pages+=("many-page-$fold:pages of $fold" "many-page-$fold-half:the same, $many_rate a second")
-done
-
 # Both moves by the other build.
 demand=()
 if [ -n "${DEMAND:-}" ]; then
@@ -166,10 +157,6 @@ all=(many-8k many-64k many-1m many-stop) all_half=(many-8k-half many-64k-half ma
     echo "## The same at $many_rate jobs a second"
     echo
     table 'many-8k-half:chunks of 8 KiB' 'many-64k-half:chunks of 64 KiB' 'many-1m-half:chunks of 1 MiB' 'many-stop-half:64 KiB, no job while rows move'
-    echo
-    echo "## Half of $many families move in chunks of 8 KiB, smaller pages"
-    echo
-    table "${pages[@]}"
     if [ "${#demand[@]}" != 0 ]; then
         echo
         echo "## Both moves by a build that takes no pump, chunks of 64 KiB"
@@ -189,11 +176,6 @@ all=(many-8k many-64k many-1m many-stop) all_half=(many-8k-half many-64k-half ma
     goal "the same, $many families" "$(range 8 'before after' "${all[@]}"), $(range 8 'before after' "${all_half[@]}") at half the rate" '100 ms'
     goal 'in moves, a hot partition' "$(range 8 during "${hot[@]:0:5}"), $(range 8 during "${hot_half[@]:0:5}") at half the rate" '100 ms'
     goal "the same, half of $many families" "$(range 8 during "${all[@]:0:3}"), $(range 8 during "${all_half[@]:0:3}") at half the rate" '100 ms'
-    for fold in ${PAGES:-65536 32768 16384}; do
-        goal "pages of $fold, at rest" "$(range 8 'before after' "many-page-$fold"), $(range 8 'before after' "many-page-$fold-half") at half the rate" '100 ms'
-        goal "pages of $fold, in moves" "$(range 8 during "many-page-$fold"), $(range 8 during "many-page-$fold-half") at half the rate" '100 ms'
-        goal "pages of $fold, 99 of 100 waiting times in a move at half the rate" "$(range 6 during "many-page-$fold-half")" '5 ms'
-    done
     goal '99 of 100 waiting times in a move at half the rate, a hot partition' "$(range 6 during "${hot_half[@]:0:5}")" '5 ms'
     goal "the same, half of $many families" "$(range 6 during "${all_half[@]:0:3}")" '5 ms'
 } > "$folder/serve.md"

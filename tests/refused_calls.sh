@@ -16,11 +16,9 @@
 #   nodes        a tree and a link without nodes, and two pulls of a leaf, the second of which is under way at the end
 #   two_stages   a move in two stages with a fold between them
 #   folds        the same, with a fold in threads
-#   page         a page of a run at rest, which is taken and audited
-#   engine       an engine: a client of three jobs at rest, a pause, a page, a move with a client, a move back without one, and the
-#                end, with the verdict; if a teller has no memory for an answer the epoch ends, and the jobs are answered
-#                without a client
-#   chain        the epochs of an engine one by one: a move in two stages, a page between them, a move back, and the end
+#   engine       an engine: a client of three jobs at rest, the end of an epoch, a move with a client, a move back with a client that
+#                posts nothing, and the end, with the verdict
+#   chain        an engine: a move in two stages with a job that is posted in each, a move back, and the end, with the verdict
 #
 # All print first that they start. If an allocation outside the calls that are tried is refused, the last line of the run says so.
 #
@@ -28,11 +26,11 @@
 # same dump. Of a list at most one step is refused, and the rest is what the rules say of the script without it. Of an input the same,
 # or the fault 222 is all that is written.
 #
-# The runs of `nodes`, `two_stages`, `folds` and `page` are stepped by hand. If an allocation is refused of a tree, of a link, or of
-# what a run opens with (its trees, links, queues, nodes and pumps), it is opened once more. A step whose allocation is refused says
-# so, and a later turn does its work. A gathering, a fold, a next stage, the taking and the audit of a page, and the calls of an
-# engine return what they were given if an allocation of theirs is refused, and are called once more with it. So what is gathered in
-# the end is always the same.
+# The runs of `nodes`, `two_stages` and `folds` are stepped by hand. If an allocation is refused of a tree, of a link, or of what a
+# run opens with (its trees, links, queues, nodes and pumps), it is opened once more. A step whose allocation is refused says so, and
+# a later turn does its work; so is a turn that has no room for its receipts. A gathering, a fold and a next stage return what they
+# were given if an allocation of theirs is refused, and are called once more with it, and so are the calls of an engine, which they
+# leave in force. So what is left in the end is always the same.
 #
 # The workers of `engine` and `chain` run in threads, so an allocation of the same number isn't always of the same call, and two
 # runs may ask for different numbers of allocations.
@@ -95,7 +93,6 @@ list_without() {
         5) printf 'refused %s\n' 209 211 213 215 227 218 218 ;;
         6) printf 'refused %s\n' 211 213 215 216 218 218 ;;
         9) printf 'refused %s\n' 216 218 218 ;;
-        13) printf '%s\n' 'end ended' 'at 1 5 0 0.0=10/-'; return ;;
         *) echo "step $step takes no memory"; return ;;
     esac
     printf '%s\n' 'waits 9 0 1' 'end moving'
@@ -141,7 +138,7 @@ wanted() {
     esac
 }
 
-# --- what is wanted of nodes, pages and engines ---
+# --- what is wanted of nodes and engines ---
 
 # of_nodes CALL: what a call writes if nothing is refused.
 of_nodes() {
@@ -195,8 +192,6 @@ judge_steps() {
 # judge_nodes CALL GOT: says the same of an output of the other calls.
 judge_nodes() {
     local got=$2 whole refused
-    # Which parts of a segment a pump claims depends on the threads.
-    case $1 in chain) got=$(grep -v -E '^(note|node) ' <<< "$got" || true) ;; esac
     whole=$(of_nodes "$1")
     # Outside are reading the header, the jobs and the plans, posting by hand, and the text.
     if is_outside "$whole" "$got"; then echo outside; return; fi
@@ -207,7 +202,7 @@ judge_nodes() {
 # judge CALL RUN GOT: says what was refused, by the output.
 judge() {
     case $1 in
-        nodes | two_stages | folds | page | engine | chain) judge_nodes "$1" "$3" ;;
+        nodes | two_stages | folds | engine | chain) judge_nodes "$1" "$3" ;;
         *) judge_steps "$@" ;;
     esac
 }

@@ -67,11 +67,11 @@ served_session() {
     ask "move $four_at_1" 'moving 1' 'moved 1'
     ask 'txn 0 3 5 add 0 0 1' 'commit 3 12'
     ask 'plan' 'plan {"partitions":2,"ranges":[[0,4,0],[4,8,1],[8,4294967296,0]],"version":1}'
-    ask 'fold' 'folded 2 3'
+    ask 'fold' 'folded 3'
     ask 'txn 0 3 5 check 0 0 99' 'abort 3 0 small'
     ask "move $four_at_1" 'moving 0' 'moved 0'
     ask "move $all_at_0" 'moving 1' 'moved 1'
-    ask 'fold' 'folded 1 0'
+    ask 'fold' 'folded 4'
     end_engine 'serve: a session' 'sound 2 families 3 committed'
 }
 
@@ -127,7 +127,7 @@ served_before_a_stop() {
     begin_engine
     opening >&8
     ask 'txn 0 1 5 add 0 0 1' 'commit 1 11'
-    ask $'fold\nrows '"$room/none/rows" 'folded 1 1'
+    ask $'fold\nrows '"$room/none/rows" 'folded 1'
     next_said "$unsaved"
     ask 'status' 'refused 124' 'at rest, 0 jobs open'
     exec 9>&-
@@ -230,12 +230,13 @@ served_refused_moves() {
     } >&8
     for tries in 1 2 3 4 5 6 7 8; do
         ask "move ${plan/OWNER/$side}" 'moving 25'
-        echo fold >&8
+        echo "move ${plan/OWNER/$((1 - side))}" >&8 || true
         answer=
         read -r -t 30 answer <&7 || true
         if [ "$answer" = 'refused 217' ]; then break; fi
+        # It moved already, and so moves back.
         read -r -t 30 answer <&7 || true
-        side=$((1 - side))
+        read -r -t 30 answer <&7 || true
     done
     read -r -t 30 answer <&7 || true
     if [ "$answer" != 'moved 25' ]; then why="$why$answer, and not moved 25; "; fi
@@ -245,15 +246,15 @@ served_refused_moves() {
 }
 
 # Lines that ask nothing are reported with their numbers and the ids of their jobs, and the engine runs on: one that is none, one that
-# is too long, an id that is taken, a partition and a table that aren't there, a job without all of its words and one without an id, a
-# text that is no plan, and a plan for three partitions. Standard error says why. The last line needs no end.
+# is too long, a partition and a table that aren't there, a job without all of its words and one without an id, a text that is no plan,
+# and a plan for three partitions. Standard error says why. An id is used again once its job is answered. The last line needs no end.
 served_faults() {
     begin_engine
     opening >&8
     ask 'txn 0 1 5 get 0 0' 'commit 1 10/-'
     ask 'mov' 'fault 126 6'
     ask "$(head -c 65537 /dev/zero | tr '\0' a)" 'fault 231 7'
-    ask 'txn 0 1 5 get 0 0' 'fault 127 8 id 1'
+    ask 'txn 0 1 5 get 0 0' 'commit 1 10/-'
     ask 'txn 2 2 5 get 0 0' 'fault 219 9 id 2'
     ask 'txn 0 2 5 get 99 0' 'fault 133 10 id 2'
     ask 'txn 0 2 5 get 0' 'fault 126 11 id 2'
@@ -263,7 +264,6 @@ served_faults() {
     ask '' 'fault 126 15'
     ask 'txn 0 2 5 get 0 0' 'commit 2 10/-'
     said_so_far "squall: line 6: fault 126: $no_line" 'squall: line 7: fault 231: a line has more than 65536 bytes' \
-        'squall: line 8: fault 127: a job has the id of one before it (id 1)' "squall: line 8: word 3 is '1'" \
         'squall: line 9: fault 219: there is no such partition (id 2)' "squall: line 9: word 2 is '2'" \
         "squall: line 10: fault 133: a table isn't in the schema (id 2)" "squall: line 10: word 6 is '99', and tables are 0 to 7" \
         "squall: line 11: fault 126: $no_line (id 2)" \
@@ -274,9 +274,9 @@ served_faults() {
         'squall: line 14: refused 111: the old and the new plan have different numbers of partitions' \
         'squall: line 14: its plan has 3 partitions, and the plan in force 2' \
         "squall: line 15: fault 126: $no_line"
-    refused=10
+    refused=9
     printf 'status' >&8 || true
-    end_engine 'serve: lines that ask nothing' 'at rest, 0 jobs open' 'sound 2 families 2 committed'
+    end_engine 'serve: lines that ask nothing' 'at rest, 0 jobs open' 'sound 2 families 3 committed'
 }
 
 # With --strict the engine ends after the first line that is refused: what was asked before is done, and the status is 3.
@@ -395,7 +395,7 @@ served_moves() {
             from=$((from + 500))
         done
     } > "$room/jobs"
-    give "$room/jobs" serve --fold-after 700
+    give "$room/jobs" serve
     grep '^commit ' "$room/out" | cut -d ' ' -f 3 | sort -n > "$room/numbers"
     seq 1 2000 > "$room/wanted"
     count 'serve: numbers of a root key that moves' "$(difference "$room/wanted" "$room/numbers")"

@@ -1,6 +1,6 @@
 -- What the passes find, in the words of the clauses.
-use Rattle.std.proofs.Common.{◌≡◌, inl, inr, ⊎_elim, ℕ, zero, suc, ◌<◌, ◌==◌, ◌&&◌, Bool, true, false, List, [], ◌∷◌, length, take, Contains, Option, Some, None, refl, sym, ap, ◌∙◌, subst, arith, true≢false, eqb-true, eq-eqb}
-use Rattle.std.specs.Prelude.{cond, count_by, unwrap_or, not}
+use Rattle.std.proofs.Common.{◌≡◌, inl, inr, ⊎_elim, ℕ, ◌<◌, ◌==◌, Bool, true, false, List, [], ◌∷◌, length, Contains, Option, Some, None, refl, sym, ap, ◌∙◌, subst, arith, true≢false, eqb-true, eq-eqb}
+use Rattle.std.specs.Prelude.{cond, unwrap_or, not, Result, Ok, Err, IfOk}
 use Rattle.std.specs.List.{AllPass}
 use Rattle.std.specs.Bool.{Decides}
 use Rattle.std.specs.Ordering.{nat_cmp, is_lt, eq_by_cmp}
@@ -9,18 +9,15 @@ use Rattle.std.specs.FinMap.Entries.{find, is_sorted, below_all}
 use Rattle.std.proofs.lemmas.Bool.{cases_Bool, and_parts, ne_eqb}
 use Rattle.std.proofs.lemmas.Bool.Decides.{Decides-like}
 use Rattle.std.proofs.lemmas.List.Elements.{All-tail}
-use Rattle.sq_gather.specs.Prelude.{RowList, reply, replay_rows, FamilyValue, TxnValue, TableValue, rows_in, is_opening, absent, OpeningValue, ReceiptValue, is_opened, is_commit, times_named, Spot, GatheredValue, StandsAt, family_at_spot, StandOnce, AllStand, KeepBases, NameEach}
-use Rattle.sq_gather.proofs.Prelude.{less_from_cmp, Contains-nothing, Contains-cases, Contains-first, Contains-later, Contains-filter, kept_in}
+use Rattle.sq_gather.specs.Prelude.{RowList, TableValue, rows_in, is_opening, OpeningValue, is_opened, GatheredValue, StandsAt, StandOnce, AllStand, HasNone, FitTogether, ReceiptValue}
+use Rattle.sq_gather.proofs.Prelude.{less_from_cmp, Contains-nothing, Contains-cases, Contains-first, Contains-later}
 use Rattle.sq_audit.specs.declared.job.Job.{Job}
-use Rattle.sq_audit.specs.Answers.{AreKnown, IsAnswerTo, IsFamilyOf}
+use Rattle.sq_audit.specs.Answers.{AllStart, AreKnown}
 use Rattle.sq_audit.specs.Located.{Entry, ListsAll}
-use Rattle.sq_audit.specs.Index.{HasFamily, AgreeOnSpots, HaveFamilies, StartFrom}
-use Rattle.sq_audit.specs.Told.{KnowsAll, is_named, receipts_of}
-use Rattle.sq_audit.proofs.Each.{some_same, no_some}
-use Rattle.sq_audit.proofs.Jobs.{of_parts, of_from}
-use Rattle.sq_audit.proofs.Lists.{nothing_there}
-use Rattle.sq_audit.proofs.Knowing.{count_kept}
-use Rattle.sq_audit.proofs.Indexing.{either_family}
+use Rattle.sq_audit.specs.Index.{HasFamily, AgreeOnSpots, HaveFamilies}
+use Rattle.sq_audit.specs.Told.{StartAll, KnowsAll}
+use Rattle.sq_audit.specs.Sound.{with_receipts}
+use Rattle.sq_audit.proofs.Each.{no_some}
 
 -- what is found in a table is an entry of it
 found_entry : (table : TableValue) (root : ℕ) (rows : RowList) → find nat_cmp root table ≡ Some rows → (entry : ℕ × RowList) × Contains table entry × (entry.0 ≡ root)
@@ -64,21 +61,6 @@ opening_at (first ∷ table) entry all has =
     (λ later. opening_at table entry (All-tail (λ (e : ℕ × RowList). is_opening e.1 ≡ true) first table all) later)
     (Contains-cases first table entry has)
 
-nothing_taken : {X : Type 0} (n : ℕ) → take n (let none : List X = [] in none) ≡ []
-nothing_taken zero = refl
-nothing_taken (suc n) = refl
-
-swapped : (a b c : Bool) → (a && (b && c)) ≡ (b && (a && c))
-swapped true true c = refl
-swapped true false c = refl
-swapped false true c = refl
-swapped false false c = refl
-
-names_are : (root position : ℕ) (receipts : List ReceiptValue) → count_by (is_named position) (receipts_of root receipts) ≡ times_named root position receipts
-names_are root position receipts =
-    count_kept (λ (r : ReceiptValue). r.root == root) (is_named position) receipts
-    ∙ ap (λ (p : ReceiptValue → Bool). count_by p receipts) (λ i r. swapped (r.root == root) (is_commit r.reply) (r.position == position) i)
-
 module _ (o : OpeningValue) (g : GatheredValue) (entries : List Entry) (lists : ListsAll g entries) where
   pub once_is : (b : Bool) → Decides b (AgreeOnSpots entries) → Decides b (StandOnce g)
   once_is b decides =
@@ -89,11 +71,11 @@ module _ (o : OpeningValue) (g : GatheredValue) (entries : List Entry) (lists : 
       once one.0 other.0 one.1.root one.1 other.1 (lists.here one has) (subst (λ k. StandsAt g other.0 k other.1) (sym same) (lists.here other also)))
       decides
 
-  pub bases_are : (b : Bool) → Decides b (StartFrom (rows_in o.table) entries) → Decides b (KeepBases o g)
-  bases_are b decides =
+  pub starts_are : (b : Bool) → Decides b (StartAll (rows_in o.table) entries g.receipts) → Decides b (AllStart o g)
+  starts_are b decides =
       Decides-like b
-      (λ start spot root family stands. start (spot, family) (lists.each spot root family stands) ∙ ap (rows_in o.table) (lists.keyed spot root family stands).same_root)
-      (λ keep entry has. keep entry.0 entry.1.root entry.1 (lists.here entry has))
+      (λ start spot root family stands. start (spot, family) (lists.each spot root family stands))
+      (λ start entry has. start entry.0 entry.1.root entry.1 (lists.here entry has))
       decides
 
   pub stand_is : (b : Bool) → is_sorted nat_cmp o.table ≡ true → AllPass (λ entry. is_opening entry.1) o.table → Decides b (HaveFamilies o.table entries) → Decides b (AllStand o g)
@@ -114,86 +96,57 @@ module _ (o : OpeningValue) (g : GatheredValue) (entries : List Entry) (lists : 
       of_opened root None e opened = absurd (true≢false (sym opened ∙ ap (λ (f : Option RowList). not (length (unwrap_or f []) == 0)) e))
       of_opened root (Some rows) e opened = found_entry o.table root rows e
 
-  module _ (jobs : List Job) (once : StandOnce g) where
-    -- the one family of a root key
-    the_family : (entry : Entry) → Contains entries entry → (family : FamilyValue) → IsFamilyOf g entry.1.root family → family ≡ entry.1
-    the_family entry has family is =
-        let stands = lists.here entry has in
-        ⊎_elim
-        (λ at.
-        let same = once at.0 entry.0 entry.1.root family entry.1 at.1 stands in
-        some_same (sym at.1 ∙ ap (λ (spot : Spot). family_at_spot g spot entry.1.root) same ∙ stands))
-        (λ none. absurd (none.0 entry.0 entry.1 stands))
-        is
+  module _ (jobs : List Job) where
+    none_here : (root : ℕ) → (HasFamily entries root → ⊥) → HasNone g root
+    none_here root absent_here spot other stands = absent_here ((spot, other), lists.each spot root other stands, (lists.keyed spot root other stands).same_root)
 
-    known_one : KnowsAll entries jobs g.receipts → AreKnown g jobs
-    known_one all receipt has = ⊎_elim at none (either_family entries receipt.root)
-      where
-        Known : Type 0
-        Known = (job : Job) × (family : FamilyValue) × Contains jobs job × IsFamilyOf g receipt.root family × IsAnswerTo family job.txn receipt
+    none_there : (root : ℕ) → HasNone g root → HasFamily entries root → ⊥
+    none_there root none has = none has.0.0 has.0.1 (subst (λ k. StandsAt g has.0.0 k has.0.1) has.2 (lists.here has.0 has.1))
 
-        at : HasFamily entries receipt.root → Known
-        at found =
-            let one = found.0 in
-            let of = λ (r : ReceiptValue). r.root == one.1.root in
-            let told = (all.logs one found.1).known receipt (Contains-filter of g.receipts receipt has (eq-eqb receipt.root one.1.root (sym found.2))) in
-            (told.0, one.1, told.1, inl (one.0, subst (λ k. StandsAt g one.0 k one.1) found.2 (lists.here one found.1)), told.2)
+    pub known_are : (b : Bool) → Decides b (KnowsAll (rows_in o.table) entries jobs g.receipts) → Decides b (AreKnown o g jobs)
+    known_are b decides =
+        Decides-like b
+        (λ all. record {
+          logs = λ spot root family stands. all.logs (spot, family) (lists.each spot root family stands);
+          others = λ receipt has none. all.nothing receipt has (none_there receipt.txn.root none);
+          posted = all.posted;
+        })
+        (λ known. record {
+          logs = λ entry has. known.logs entry.0 entry.1.root entry.1 (lists.here entry has);
+          nothing = λ receipt has none. known.others receipt has (none_here receipt.txn.root none);
+          posted = known.posted;
+        })
+        decides
 
-        none : (HasFamily entries receipt.root → ⊥) → Known
-        none absent_here =
-            let told = all.nothing receipt has absent_here in
-            let job = told.1.0 in
-            let of = of_parts job.txn receipt told.1.2 in (
-              job,
-              absent receipt.root,
-              told.1.1,
-              inr ((λ spot other stands. absent_here ((spot, other), lists.each spot receipt.root other stands, (lists.keyed spot receipt.root other stands).same_root)), refl),
-              record {
-                id = of.id;
-                root = of.root;
-                within = (let first = told.0 in omega (arith, first));
-                told = told.1.3 ∙ ap (λ (log : List TxnValue). reply (replay_rows [] log) job.txn) (sym (nothing_taken receipt.position));
-                there = λ commits. absurd (no_some job.txn (told.1.4 commits));
-              },
-            )
+-- whichever receipts there are, the same is listed
+pub lists_with : (g : GatheredValue) (receipts : List ReceiptValue) (entries : List Entry) → ListsAll g entries → ListsAll (with_receipts g receipts) entries
+lists_with g receipts entries lists = assumption lists
 
-    named_each : KnowsAll entries jobs g.receipts → NameEach g
-    named_each all spot root family stands position =
-        let same = (lists.keyed spot root family stands).same_root in
-        ap (λ k. times_named k position g.receipts) (sym same) ∙ sym (names_are family.root position g.receipts) ∙ (all.logs (spot, family) (lists.each spot root family stands)).named position
+-- and the same fits together
+pub fit_with : (o : OpeningValue) (g : GatheredValue) (receipts : List ReceiptValue) → FitTogether o g → FitTogether o (with_receipts g receipts)
+fit_with o g receipts fit = record {
+  parts = record {
+    all_stores = fit.parts.all_stores;
+    each_link = assumption (fit.parts.each_link);
+    all_statuses = fit.parts.all_statuses;
+  };
+  links = λ i link there.
+      let placed = fit.links i link there in
+      record {
+        way = placed.way;
+        numbered = placed.numbered;
+        about = λ note has. assumption (placed.about note has);
+        tiles = placed.tiles;
+        within = placed.within;
+      };
+  apart = fit.apart;
+  grown = fit.grown;
+  complete = fit.complete;
+  placed = fit.placed;
+  keyed = fit.keyed;
+}
 
-    knows_from : AreKnown g jobs → NameEach g → KnowsAll entries jobs g.receipts
-    knows_from known named =
-        record {
-          logs = λ entry has.
-              let of = λ (r : ReceiptValue). r.root == entry.1.root in
-              record {
-                known = λ receipt kept.
-                    let among = kept_in of g.receipts receipt kept in
-                    let root = eqb-true receipt.root entry.1.root among.1 in
-                    let is = known receipt among.0 in
-                    let family = the_family entry has is.1 (subst (λ k. IsFamilyOf g k is.1) root is.3) in
-                    (is.0, is.2, subst (λ (f : FamilyValue). IsAnswerTo f is.0.txn receipt) family is.4);
-                named = λ position. names_are entry.1.root position g.receipts ∙ named entry.0 entry.1.root entry.1 (lists.here entry has) position;
-              };
-          nothing = λ receipt has none.
-              let is = known receipt has in
-              ⊎_elim
-              (λ at. absurd (none ((at.0, is.1), lists.each at.0 receipt.root is.1 at.1, (lists.keyed at.0 receipt.root is.1 at.1).same_root)))
-              (λ empty.
-              let answer = subst (λ (f : FamilyValue). IsAnswerTo f is.0.txn receipt) empty.1 is.4 in
-              let within = answer.within in (
-                omega (arith, within),
-                (
-                  is.0,
-                  is.2,
-                  of_from is.0.txn receipt answer.id answer.root,
-                  answer.told ∙ ap (λ (log : List TxnValue). reply (replay_rows [] log) is.0.txn) (nothing_taken receipt.position),
-                  (λ commits. absurd (nothing_there receipt.position is.0.txn (answer.there commits))),
-                ),
-              ))
-              is.3;
-        }
-
-    pub known_are : (b : Bool) → Decides b (KnowsAll entries jobs g.receipts) → Decides b (AreKnown g jobs × NameEach g)
-    known_are b decides = Decides-like b (λ all. (known_one all, named_each all)) (λ both. knows_from both.0 both.1) decides
+pub fits_with : {E : Type 0} (o : OpeningValue) (g : GatheredValue) (receipts : List ReceiptValue) (result : Result Bool E) → IfOk result (λ b. Decides b (FitTogether o g))
+    → IfOk result (λ b. Decides b (FitTogether o (with_receipts g receipts)))
+fits_with o g receipts (Ok b) decides = Decides-like b (fit_with o g receipts) (fit_with o (with_receipts g receipts) g.receipts) decides
+fits_with o g receipts (Err e) said = said

@@ -1,16 +1,14 @@
 -- The six clauses together, and the one verdict.
 use Rattle.std.proofs.Common.{◌≡◌, ⊎_elim, List, refl, ap, arith}
 use Rattle.std.proofs.lemmas.Bool.{cases_lt}
-use Rattle.sq_gather.specs.Prelude.{OpeningValue, FamilyValue, GatheredValue, AreTold}
+use Rattle.sq_gather.specs.Prelude.{OpeningValue, GatheredValue}
 use Rattle.sq_audit.specs.declared.job.Job.{Job}
 use Rattle.sq_audit.specs.declared.verdict.Defect.{Defect}
 use Rattle.sq_audit.specs.declared.verdict.Defect.TheVariants.{RootMissing, RootDoubled, BaseChanged, WrongPlace, ReceiptUnknown, Unanswered}
 use Rattle.sq_audit.specs.declared.verdict.Verdict.{Verdict}
 use Rattle.sq_audit.specs.declared.verdict.Verdict.TheVariants.{Sound, Unsound}
-use Rattle.sq_audit.specs.Answers.{AreKnown}
 use Rattle.sq_audit.specs.Sound.{IsSoundRun}
 use Rattle.sq_audit.specs.Defects.{defect_number, Clears, IsFirstDefect, IsVerdict}
-use Rattle.sq_audit.proofs.Lists.{nothing_there}
 
 -- defects with one number are one
 pub number_one : (one other : Defect) → defect_number one ≡ defect_number other → one ≡ other
@@ -23,36 +21,22 @@ number_one Unanswered Unanswered same = refl
 number_one _ _ same = absurd (omega (arith, same))
 
 module _ (o : OpeningValue) (g : GatheredValue) (jobs : List Job) where
-  -- known receipts of commits name what the logs have
-  pub told_known : AreKnown g jobs → AreTold g
-  told_known known receipt there commits =
-      let answer = known receipt there in
-      let told = answer.4 in
-      ⊎_elim
-      (λ stands. (stands.0, answer.1, stands.1, record { txn = answer.0.txn; there = told.there commits; id = told.id; told = told.told }))
-      (λ none. absurd (let at = told.there commits in let log = ap (λ (family : FamilyValue). family.log) none.1 in nothing_there receipt.position answer.0.txn (rw log at at)))
-      answer.3
-
   pub each_clear : IsSoundRun o g jobs → (defect : Defect) → Clears o g jobs defect
-  each_clear sound RootMissing = sound.placed.opening
-  each_clear sound RootDoubled = sound.placed.once
-  each_clear sound BaseChanged = sound.placed.base
-  each_clear sound WrongPlace = sound.placed.fit
-  each_clear sound ReceiptUnknown = (sound.known, sound.placed.named)
+  each_clear sound RootMissing = sound.opening
+  each_clear sound RootDoubled = sound.once
+  each_clear sound BaseChanged = sound.start
+  each_clear sound WrongPlace = sound.fit
+  each_clear sound ReceiptUnknown = sound.known
   each_clear sound Unanswered = sound.answered
 
   pub sound_from : ((defect : Defect) → Clears o g jobs defect) → IsSoundRun o g jobs
   sound_from clear =
       record {
-        placed = record {
-          fit = clear WrongPlace;
-          once = clear RootDoubled;
-          opening = clear RootMissing;
-          base = clear BaseChanged;
-          named = (clear ReceiptUnknown).1;
-          told = told_known (clear ReceiptUnknown).0;
-        };
-        known = (clear ReceiptUnknown).0;
+        fit = clear WrongPlace;
+        once = clear RootDoubled;
+        opening = clear RootMissing;
+        start = clear BaseChanged;
+        known = clear ReceiptUnknown;
         answered = clear Unanswered;
       }
 

@@ -1,9 +1,10 @@
 -- What a loop over a list finds of each element.
-use Rattle.std.proofs.Common.{◌≡◌, ⊎_elim, ℕ, ◌+◌, ◌<◌, ◌≤◌, Bool, true, false, List, length, slice_get, Contains, Some, refl, sym, ◌∙◌, subst, arith, true≢false, Bor, ltb-true, ltb-false, Option, None, ap, ◌==◌, eq-eqb}
+use Rattle.std.proofs.Common.{◌≡◌, ⊎_elim, ℕ, ◌+◌, ◌<◌, ◌≤◌, Bool, true, false, List, length, slice_get, Contains, Some, refl, sym, ◌∙◌, subst, arith, true≢false, Bor, ltb-true, ltb-false, Option, None, ap, ◌==◌, ◌&&◌, eq-eqb}
 use Rattle.std.specs.Bool.{Decides}
 use Rattle.std.specs.Option.{option_copied}
 use Rattle.std.specs.Slice.{IsItemAt}
 use Rattle.std.proofs.lemmas.Bool.{cases_lt, cases_eq}
+use Rattle.std.proofs.lemmas.Bool.Decides.{Decides-like, Decides-at, Decides-and}
 use Rattle.std.proofs.lemmas.Option.{slice_get_within, slice_get_past, slice_get-get_or}
 use Rattle.sq_gather.proofs.Prelude.{Contains-slice_get, slice_get-Contains}
 
@@ -35,6 +36,27 @@ each_done P xs n before whole = (
 -- a test that failed decides what doesn't hold
 pub decides_not : {P : Type 0} → (P → ⊥) → Decides false P
 decides_not fails = ((λ e. absurd (true≢false (sym e))), (λ holds. absurd (fails holds)))
+
+-- what a test found of those before a place
+pub each_none : {X : Type 0} (P : X → Type 0) (xs : List X) → Decides true (EachTo P xs 0)
+each_none P xs = ((λ e i x below at. absurd (omega (arith, below))), (λ all. refl))
+
+-- and of the one there
+pub each_and : {X : Type 0} (P : X → Type 0) (xs : List X) (n : ℕ) (x : X) (a b c : Bool) → c ≡ (a && b) → slice_get xs n ≡ Some x → Decides a (EachTo P xs n) → Decides b (P x) → Decides c (EachTo P xs (n + 1))
+each_and P xs n x a b c is at before here =
+    Decides-at c (a && b) is
+    (Decides-like (a && b)
+    (λ both. each_more P xs n x both.0 at both.1)
+    (λ all. ((λ i y below there. all i y (omega (arith, below)) there), all n x (omega arith) at))
+    (Decides-and a b before here))
+
+-- and of all once the loop is done
+pub each_all : {X : Type 0} (P : X → Type 0) (xs : List X) (n : ℕ) (b : Bool) → length xs ≤ n → Decides b (EachTo P xs n) → Decides b ((x : X) → Contains xs x → P x)
+each_all P xs n b whole decides =
+    Decides-like b
+    (λ before. (each_done P xs n before whole).0 refl)
+    (λ all i x below at. all x (Contains-slice_get xs i x at))
+    decides
 
 -- one that doesn't have the property
 pub each_fails : {X : Type 0} (P : X → Type 0) (xs : List X) (n : ℕ) (x : X) → slice_get xs n ≡ Some x → (P x → ⊥) → Decides false ((x : X) → Contains xs x → P x)

@@ -1,20 +1,24 @@
 -- What is folded: the jobs that have a receipt, the table and the stores of all families, and the result.
 use Rattle.std.proofs.Common.{◌≡◌, ⊎_elim, ℕ, zero, suc, ◌+◌, ◌==◌, Bool, true, false, if◌then◌else◌, List, [], ◌∷◌, filter, map, length, slice_get, Contains, Option, Some, None, refl, sym, ap, ◌∙◌, subst, arith, true≢false}
-use Rattle.std.specs.Prelude.{not, nat_lt, count_by, option_and_then, option_map}
+use Rattle.std.specs.Prelude.{not, nat_lt, count_by, option_and_then, option_map, Result, Ok, Err, IfOk}
 use Rattle.std.specs.FinMap.{get}
 use Rattle.std.proofs.lemmas.List.{length-map}
 use Rattle.std.proofs.lemmas.List.Elements.{filter_agree}
 use Rattle.std.proofs.lemmas.List.Sums.{length-filter}
 use Rattle.std.proofs.lemmas.Option.{slice_get-map}
-use Rattle.sq_gather.specs.Prelude.{RowList, FamilyValue, rows_of, TableValue, rows_in, StoreValue, fold_of, folded_store, OpeningValue, IsOpening, owner_in, ReceiptValue, is_opened, Spot, Store, GatheredValue, StandsAt, IsPlaced, IsStageDone, folded_family, folded_opening, folded_gathered, IsFolded}
-use Rattle.sq_gather.proofs.Prelude.{get-folded, Contains-cases, Contains-slice_get, slice_get-Contains, stands_next, folded_placed, folded_done}
+use Rattle.sq_gather.specs.Prelude.{RowList, FamilyValue, rows_of, TableValue, rows_in, StoreValue, fold_of, folded_store, OpeningValue, IsOpening, owner_in, ReceiptValue, is_opened, Spot, Store, GatheredValue, StandsAt, FitTogether, StandOnce, IsPlaced, IsStageDone, folded_family, folded_opening, folded_gathered, IsFolded}
+use Rattle.sq_gather.proofs.Prelude.{get-folded, Contains-cases, Contains-slice_get, slice_get-Contains, stands_fit, fit_folded, done_folded}
 use Rattle.sq_audit.specs.declared.job.Job.{Job}
 use Rattle.sq_audit.specs.declared.folded.Folded.{Folded}
+use Rattle.sq_audit.specs.declared.folding.Prepared.{Prepared}
 use Rattle.sq_audit.specs.declared.folding.Ready.{Ready}
+use Rattle.sq_audit.specs.declared.verdict.Verdict.{Verdict}
 use Rattle.sq_audit.specs.Answers.{IdsDiffer}
 use Rattle.sq_audit.specs.ById.{ListsIds, is_listed}
 use Rattle.sq_audit.specs.Rows.{rows_among}
-use Rattle.sq_audit.specs.Folding.{has_receipt, answered_jobs, jobs_left, IsReadyToFold, IsFold}
+use Rattle.sq_audit.specs.Defects.{IsVerdict}
+use Rattle.sq_audit.specs.Folding.{has_receipt, answered_jobs, jobs_left, IsReadyToFold, IsPrepared, IsFold}
+use Rattle.sq_audit.specs.Sound.{with_receipts}
 use Rattle.sq_audit.proofs.Lists.{nothing_there}
 use Rattle.sq_audit.proofs.Searching.{listed_count}
 use Rattle.sq_audit.proofs.Among.{rows_alone, rows_stand, rows_come}
@@ -81,13 +85,13 @@ store_folds root (Some store) = get-folded store root ∙ fold_same (get store r
 none_opened : (rows : RowList) → rows ≡ [] → not (length rows == 0) ≡ true → ⊥
 none_opened rows none opened = true≢false (sym opened ∙ ap (λ (rs : RowList). not (length rs == 0)) none)
 
-module _ (o : OpeningValue) (is : IsOpening o) (g : GatheredValue) (p : IsPlaced o g) (done : IsStageDone o g) (table : TableValue) (rows : (root : ℕ) → rows_in table root ≡ rows_among [] g.stores root) where
+module _ (o : OpeningValue) (is : IsOpening o) (g : GatheredValue) (fit : FitTogether o g) (once : StandOnce g) (done : IsStageDone o g) (table : TableValue) (rows : (root : ℕ) → rows_in table root ≡ rows_among [] g.stores root) where
   rows_are : (spot : Spot) (root : ℕ) (family : FamilyValue) → StandsAt g spot root family → rows_in table root ≡ rows_of family
   rows_are spot root family stands =
       let part = owner_in o (g.stage + 1) root in
-      let there = subst (λ (at : Spot). StandsAt g at root family) (stands_next o is g p done spot root family stands) stands in
+      let there = subst (λ (at : Spot). StandsAt g at root family) (stands_fit o is g fit done spot root family stands) stands in
       rows root
-      ∙ rows_stand g.stores root part family [] there (λ other again at. let same = p.once (Store other) (Store part) root again family at there in cc)
+      ∙ rows_stand g.stores root part family [] there (λ other again at. let same = once (Store other) (Store part) root again family at there in cc)
       ∙ rows_alone family
 
   opened : (root : ℕ) → is_opened (folded_opening o table) root ≡ true → (spot : Spot) × (family : FamilyValue) × StandsAt g spot root family
@@ -111,9 +115,10 @@ pub is_fold : (o : OpeningValue) → IsOpening o → (g : GatheredValue) → IsS
     → folded.opening ≡ folded_opening o ready.table → folded.gathered ≡ folded_gathered g (map folded_store g.stores)
     → folded.jobs.items ≡ filter (λ job. not (is_listed ready.ids.items job)) jobs → IsFold o g jobs folded
 is_fold o is g done jobs differ ready judged folded opening gathered left =
-    let p = judged.sound.placed in
+    let fit = judged.sound.fit in
+    let once = judged.sound.once in
     let stores = map folded_store g.stores in
-    let all = folds o is g p done ready.table judged.rows in
+    let all = folds o is g fit once done ready.table judged.rows in
     let same_table : ready.table ≡ folded.opening.table = sym (ap (λ (v : OpeningValue). v.table) opening) in
     let same_stores : stores ≡ folded.gathered.stores = sym (ap (λ (v : GatheredValue). v.stores) gathered) in
     record {
@@ -123,6 +128,16 @@ is_fold o is g done jobs differ ready judged folded opening gathered left =
       gathered = gathered ∙ ap (folded_gathered g) same_stores;
       left = left ∙ left_by g.receipts ready.ids.items judged.ids jobs;
       differ = subst IdsDiffer (sym left) (some_differ (λ job. not (is_listed ready.ids.items job)) jobs differ);
-      placed = subst (λ (q : OpeningValue × GatheredValue). IsPlaced q.0 q.1) (λ k. (sym opening k, sym gathered k)) (folded_placed o is g p done ready.table stores all);
-      done = subst (λ (q : OpeningValue × GatheredValue). IsStageDone q.0 q.1) (λ k. (sym opening k, sym gathered k)) (folded_done o is g p done ready.table stores all);
+      placed = subst (λ (q : OpeningValue × GatheredValue). IsPlaced q.0 q.1) (λ k. (sym opening k, sym gathered k)) (fit_folded o is g fit once done ready.table stores all);
+      done = subst (λ (q : OpeningValue × GatheredValue). IsStageDone q.0 q.1) (λ k. (sym opening k, sym gathered k)) (done_folded o is g fit once done ready.table stores all);
     }
+
+-- what is prepared with a verdict on the jobs that have a receipt
+pub prepared_of : {E : Type 0} (o : OpeningValue) (g : GatheredValue) (receipts : List ReceiptValue) (jobs : List Job) (ids : List (ℕ × ℕ)) (verdict : Verdict)
+    → ListsIds receipts ids → IsVerdict o (with_receipts g receipts) (answered_jobs receipts jobs) verdict
+    → (result : Result Prepared E)
+    → IfOk result (λ prepared. (o : OpeningValue) (receipts : List ReceiptValue) (jobs : List Job)
+    → ListsIds receipts ids → IsVerdict o (with_receipts g receipts) (answered_jobs receipts jobs) verdict → IsPrepared o (with_receipts g receipts) jobs prepared)
+    → IfOk result (IsPrepared o (with_receipts g receipts) jobs)
+prepared_of o g receipts jobs ids verdict lists judged (Ok prepared) each = each o receipts jobs lists judged
+prepared_of o g receipts jobs ids verdict lists judged (Err e) each = each

@@ -1,17 +1,22 @@
 -- What is found of each part of a list is found of all of it.
-use Rattle.std.proofs.Common.{◌≡◌, ⊎_elim, ℕ, zero, suc, ◌+◌, ◌-◌, ◌*◌, ◌/◌, ◌%◌, ◌<◌, ◌≤◌, Bool, true, false, List, [], ◌∷◌, length, map, take, drop, get_or, slice_get, Contains, Some, Result, Ok, Err, refl, sym, ap, ◌∙◌, subst, arith}
+use Rattle.std.proofs.Common.{◌≡◌, ⊎_elim, ℕ, zero, suc, ◌+◌, ◌-◌, ◌*◌, ◌/◌, ◌%◌, ◌<◌, ◌≤◌, Bool, true, false, List, [], ◌∷◌, length, map, take, drop, get_or, slice_get, Contains, Some, Result, Ok, Err, refl, sym, ap, ◌∙◌, subst, arith, true≢false}
 use Rattle.std.specs.Prelude.{min, IfOk}
 use Rattle.std.specs.Bool.{Decides}
+use Rattle.std.specs.List.{list_all}
+use Rattle.std.specs.declared.alloc.AllocError.{AllocError}
 use Rattle.std.specs.Fork.{IsChunk}
 use Rattle.std.proofs.Math.Nat.{add-mul, one-mul, suc-mul, zero-mul}
 use Rattle.std.proofs.lemmas.Nat.{div-add-mod', mod_below}
-use Rattle.std.proofs.lemmas.Bool.{cases_lt}
+use Rattle.std.proofs.lemmas.Bool.{cases_lt, and_parts}
+use Rattle.std.proofs.lemmas.List.{length-map, get_or-map}
 use Rattle.std.proofs.lemmas.Bool.Decides.{Decides-like}
 use Rattle.std.proofs.lemmas.Option.{slice_get_within, slice_get-get_or}
 use Rattle.sq_gather.proofs.Prelude.{Contains-slice_get, slice_get-Contains, map_in, at_map, Contains-map}
 use Rattle.sq_audit.specs.declared.located.Located.{Located}
 use Rattle.sq_audit.specs.Located.{Entry, entry_of, entries_in, AreByRoot}
+use Rattle.sq_audit.specs.declared.told.Found.{Found}
 use Rattle.sq_audit.specs.InThreads.{IsSaidOfAll}
+use Rattle.sq_audit.specs.Told.{said_by}
 use Rattle.sq_audit.proofs.Each.{EachTo, decides_not, refuted, some_same}
 use Rattle.sq_audit.proofs.Lists.{taken_at, dropped_at, at_dropped, nothing_there}
 
@@ -118,3 +123,64 @@ module _ (P : Entry → Type 0) where
       like : (ys : List Located) (r : Result Bool E) → IfOk r (λ b. Decides b (OfEach P (entries_in ys))) → IfOk r (λ b. Decides b (OfEach (λ l. P (entry_of l)) ys))
       like ys (Ok b) holds = Decides-like b (of_located ys) (of_entries ys) holds
       like ys (Err e) holds = holds
+
+-- of what was found in parts, one thing that was said
+some_found : {E : Type 0} → Result Bool E → Result Found E
+some_found (Ok b) = Ok (record { start = b; known = b })
+some_found (Err e) = Err e
+
+said_like : {E : Type 0} (test : Found → Bool) (P : Type 0) (r : Result Found E) → IfOk r (λ found. Decides (test found) P) → IfOk (said_by test r) (λ b. Decides b P)
+said_like test P (Ok found) holds = holds
+said_like test P (Err e) holds = holds
+
+pub in_found_parts : {E : Type 0} (P : Entry → Type 0) (test : Found → Bool) (all : List Located) (size : ℕ) (said : List (Result Found E)) → 0 < size
+    → length said ≡ length all / size + min 1 (length all % size)
+    → ((n : ℕ) (d : Result Found E) → n < length said → (ys : List Located) × IsChunk all size (n * size) ys × IfOk (get_or said n d) (λ found. Decides (test found) (OfEach P (entries_in ys))))
+    → (b : Bool) → IsSaidOfAll b (map (said_by test) said) → Decides b (OfEach P (entries_in all))
+in_found_parts {E} P test all size said some len parts b is =
+    let each : Result Found E → Result Bool E = said_by test in
+    in_parts P all size (map each said) some (length-map said each ∙ len)
+    (λ n d low.
+    let inside : n < length said = subst (λ k. n < k) (length-map said each) low in
+    let part = parts n (some_found d) inside in (
+      part.0,
+      part.1,
+      subst (λ (r : Result Bool E). IfOk r (λ b. Decides b (OfEach P (entries_in part.0)))) (sym (get_or-map each said n (some_found d) d inside))
+          (said_like test (OfEach P (entries_in part.0)) (get_or said n (some_found d)) part.2),
+    ))
+    b is
+
+-- what was said by a test that can't fail
+abbrev ok : Bool → Result Bool AllocError
+ok b = Ok b
+
+true_at : (said : List Bool) → list_all (λ one. one) said ≡ true → (i : ℕ) (x : Bool) → slice_get said i ≡ Some x → x ≡ true
+true_at [] all i x at = absurd (nothing_there i x at)
+true_at (y ∷ said) all zero x at = sym (some_same at) ∙ (and_parts y (list_all (λ one. one) said) all).0
+true_at (y ∷ said) all (suc i) x at = true_at said (and_parts y (list_all (λ one. one) said) all).1 i x at
+
+false_in : (said : List Bool) → list_all (λ one. one) said ≡ false → (i : ℕ) × (slice_get said i ≡ Some false)
+false_in [] all = absurd (true≢false all)
+false_in (true ∷ said) all = let rest = false_in said all in (suc rest.0, rest.1)
+false_in (false ∷ said) all = (0, refl)
+
+said_all : (said : List Bool) (b : Bool) → list_all (λ one. one) said ≡ b → IsSaidOfAll b (map ok said)
+said_all said true all = λ one has.
+    let found = map_in ok said one has in
+    sym found.2 ∙ ap ok (true_at said all found.1.0 found.0 (slice_get-Contains said found.0 found.1))
+said_all said false all = let found = false_in said all in Contains-map ok said false (Contains-slice_get said found.0 false found.1)
+
+pub in_plain_parts : {X : Type 0} (P : X → Type 0) (xs : List X) (size : ℕ) (said : List Bool) → 0 < size
+    → length said ≡ length xs / size + min 1 (length xs % size)
+    → ((n : ℕ) (d : Bool) → n < length said → (ys : List X) × IsChunk xs size (n * size) ys × Decides (get_or said n d) (OfEach P ys))
+    → Decides (list_all (λ one. one) said) (OfEach P xs)
+in_plain_parts {X} P xs size said some len parts =
+    said_of_all P xs size (map ok said) some
+    (λ n d low.
+    let inside : n < length said = subst (λ k. n < k) (length-map said ok) low in
+    let part = parts n true inside in (
+      part.0,
+      part.1,
+      subst (λ (r : Result Bool AllocError). IfOk r (λ b. Decides b (OfEach P part.0))) (sym (get_or-map ok said n true d inside)) part.2,
+    ))
+    (length-map said ok ∙ len) (list_all (λ one. one) said) (said_all said (list_all (λ one. one) said) refl)

@@ -1,43 +1,38 @@
--- The one job that a receipt answers.
-use Rattle.std.proofs.Common.{◌≡◌, ℕ, ◌==◌, true, List, Contains, refl, sym, ap, ◌∙◌, eqb-true, eq-eqb}
-use Rattle.std.proofs.lemmas.Bool.{and_parts, and_from}
+-- The one job that a receipt's transaction may be of.
+use Rattle.std.proofs.Common.{◌≡◌, ℕ, Bool, false, List, slice_get, Contains, Some, None, sym, ap, ◌∙◌, subst}
+use Rattle.std.specs.Bool.{Decides}
+use Rattle.std.proofs.lemmas.Bool.Decides.{Decides-like}
 use Rattle.sq_gather.specs.Prelude.{TxnValue, ReceiptValue}
 use Rattle.sq_gather.proofs.Prelude.{Contains-slice_get, slice_get-Contains}
 use Rattle.sq_audit.specs.declared.job.Job.{Job}
-use Rattle.sq_audit.specs.Answers.{IdsDiffer, is_of}
-use Rattle.sq_audit.specs.Index.{HasKeyAt}
-use Rattle.sq_audit.specs.Told.{id_of, IsOneJob}
-use Rattle.sq_audit.proofs.Each.{same_of}
+use Rattle.sq_audit.specs.Answers.{IdsDiffer, IsPosted}
+use Rattle.sq_audit.specs.Index.{IsIndexOf}
+use Rattle.sq_audit.specs.Told.{id_of}
+use Rattle.sq_audit.proofs.Each.{decides_not, some_same, no_some}
 
--- the receipt has the id and the root key of the transaction
-pub record HasIdAndRootOf (txn : TxnValue) (receipt : ReceiptValue) : Type 0 where
-  pub id : receipt.id ≡ txn.id
-  pub root : receipt.root ≡ txn.root
+module _ (jobs : List Job) (differ : IdsDiffer jobs) (places : List (ℕ × ℕ)) (index : IsIndexOf id_of jobs places) (receipt : ReceiptValue) where
+  -- a job with the receipt's transaction is at the place that is listed with its id
+  at_place : (place : ℕ) → Contains places (receipt.txn.id, place) → (job : Job) → Contains jobs job → job.txn ≡ receipt.txn → slice_get jobs place ≡ Some job
+  at_place place listed job has is =
+      let found = index.found receipt.txn.id place listed in
+      let there = slice_get-Contains jobs job has in
+      let same : place ≡ has.0 = differ place has.0 found.one job found.there there (found.key_is ∙ sym (ap (λ (t : TxnValue). t.id) is)) in
+      ap (slice_get jobs) same ∙ there
 
-pub of_parts : (txn : TxnValue) (receipt : ReceiptValue) → is_of txn receipt ≡ true → HasIdAndRootOf txn receipt
-of_parts txn receipt is =
-    let parts = and_parts (receipt.id == txn.id) (receipt.root == txn.root) is in
-    record { id = eqb-true receipt.id txn.id parts.0; root = eqb-true receipt.root txn.root parts.1 }
+  pub posted_at : (place : ℕ) → Contains places (receipt.txn.id, place) → (job : Job) (b : Bool) → slice_get jobs place ≡ Some job → Decides b (job.txn ≡ receipt.txn) → Decides b (IsPosted jobs receipt)
+  posted_at place listed job b there decides =
+      Decides-like b
+      (λ same. (job, Contains-slice_get jobs place job there, same))
+      (λ (posted : IsPosted jobs receipt).
+      let is = some_same (sym there ∙ at_place place listed posted.0 posted.1 posted.2) in
+      ap (λ (j : Job). j.txn) is ∙ posted.2)
+      decides
 
-pub of_from : (txn : TxnValue) (receipt : ReceiptValue) → receipt.id ≡ txn.id → receipt.root ≡ txn.root → is_of txn receipt ≡ true
-of_from txn receipt id root = and_from (receipt.id == txn.id) (receipt.root == txn.root) (eq-eqb receipt.id txn.id id) (eq-eqb receipt.root txn.root root)
+  pub none_listed : ((place : ℕ) → Contains places (receipt.txn.id, place) → ⊥) → Decides false (IsPosted jobs receipt)
+  none_listed none =
+      decides_not (λ posted.
+      let at = index.each posted.0 posted.1 in
+      none at.0 (subst (λ k. Contains places (k, at.0)) (ap (λ (t : TxnValue). t.id) posted.2) at.1))
 
-module _ (jobs : List Job) (differ : IdsDiffer jobs) (receipt : ReceiptValue) (place : ℕ) (found : HasKeyAt id_of jobs receipt.id place) where
-  the_job : (other : Job) → Contains jobs other → is_of other.txn receipt ≡ true → other ≡ found.one
-  the_job other has is =
-      let of = of_parts other.txn receipt is in
-      let at = slice_get-Contains jobs other has in
-      same_of jobs place has.0 found.one other found.there at (differ has.0 place other found.one at found.there (sym of.id ∙ sym found.key_is))
-
-  pub one_job : found.one.txn.root ≡ receipt.root → IsOneJob jobs receipt found.one.txn
-  one_job root =
-      record {
-        job = found.one;
-        among = Contains-slice_get jobs place found.one found.there;
-        txn_is = refl;
-        is = of_from found.one.txn receipt (sym found.key_is) (sym root);
-        only = λ other has is. ap (λ (j : Job). j.txn) (the_job other has is);
-      }
-
-  pub other_root : (found.one.txn.root ≡ receipt.root → ⊥) → (job : Job) → Contains jobs job → is_of job.txn receipt ≡ true → ⊥
-  other_root apart job has is = apart (ap (λ (j : Job). j.txn.root) (sym (the_job job has is)) ∙ sym (of_parts job.txn receipt is).root)
+  pub none_at : (place : ℕ) → Contains places (receipt.txn.id, place) → slice_get jobs place ≡ None → Decides false (IsPosted jobs receipt)
+  none_at place listed none = decides_not (λ posted. no_some posted.0 (sym none ∙ at_place place listed posted.0 posted.1 posted.2))

@@ -7,6 +7,8 @@ pub mod Jobs
 pub mod Lists
 pub mod InParts
 pub mod Walks
+pub mod Retold
+pub mod TrueLogs
 pub mod Orders
 pub mod Knowing
 pub mod Auditing

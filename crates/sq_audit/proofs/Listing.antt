@@ -1,18 +1,18 @@
 -- All families of what was gathered are listed: those of a store by rising root key, those of a chunk in their order.
-use Rattle.std.proofs.Common.{IsPermutation, ◌≡◌, ⊎_elim, ℕ, ◌+◌, ◌<◌, ◌≤◌, ◌==◌, get_or, true, nat_le, nat_lt, if◌then◌else◌, List, [], ◌∷◌, ◌++◌, map, length, slice_get, Contains, Some, None, sym, ap, ◌∙◌, subst, arith, append_assoc, eqb-true, eq-eqb}
+use Rattle.std.proofs.Common.{IsPermutation, ◌≡◌, ⊎_elim, ℕ, ◌+◌, ◌<◌, ◌≤◌, ◌==◌, get_or, true, if◌then◌else◌, List, [], ◌∷◌, ◌++◌, map, length, slice_get, Contains, Some, sym, ap, ◌∙◌, subst, arith, append_assoc, eqb-true, eq-eqb}
 use Rattle.std.proofs.lemmas.List.Sorted.{IsPermutation-sym, Contains-permutation}
 use Rattle.std.specs.Prelude.{option_and_then, All}
 use Rattle.std.specs.FinMap.{get, entries, get-entries}
 use Rattle.std.specs.Ordering.{nat_cmp, is_lt}
 use Rattle.std.proofs.lemmas.Bool.{cases_lt, and_parts, ne_eqb}
 use Rattle.std.proofs.lemmas.List.{append-nil, map-append, length-map}
-use Rattle.std.proofs.lemmas.List.Elements.{All-contains, Contains-append_left, Contains-append_right, Contains-append_cases, Contains-push}
+use Rattle.std.proofs.lemmas.List.Elements.{All-contains, Contains-append_left, Contains-append_right, Contains-append_cases}
 use Rattle.std.proofs.lemmas.Option.{slice_get_within, slice_get-get_or}
 use Rattle.sq_gather.specs.Prelude.{FamilyValue, StoreValue, family_in, families_in, HoldsByRoot, are_within, AreKeyed, roots_rise, ChunkValue, Spot, Store, Chunk, IsOf, GatheredLink, GatheredValue, StandsAt}
 use Rattle.sq_gather.proofs.Prelude.{is_below, first_rises, less_from_cmp, family_in-entries, sorted_is, rises, rising_in, Contains-nothing, Contains-cases, found_in, map_in, at_map, Contains-map, of_some}
 use Rattle.sq_audit.specs.declared.located.Located.{Located}
 use Rattle.sq_audit.specs.Located.{Entry, entry_of, entries_in, AreAllFamilies, AddsAll, AddsLink, ListsAll, ListsStored}
-use Rattle.sq_audit.proofs.Each.{same_of, no_some}
+use Rattle.sq_audit.proofs.Each.{same_of}
 
 -- what an iteration reads
 pub item_at : {X : Type 0} (xs : List X) (i : ℕ) (x : X) → x ≡ get_or xs i x → i < length xs → slice_get xs i ≡ Some x

@@ -11,7 +11,8 @@ use Rattle.std.proofs.lemmas.Option.{slice_get_within, get_or_from_slice_get}
 use Rattle.sq_gather.proofs.Prelude.{cmp_less, at_map, stands_at, filter-first, filter-other}
 use Rattle.std.proofs.lemmas.List.{length-map, get_or-map}
 use Rattle.sq_gather.specs.Prelude.{ReceiptValue, is_commit}
-use Rattle.sq_audit.specs.Told.{values_of, receipts_of, receipt_key, key_order, ReceiptKey, AreInOrder}
+use Rattle.sq_audit.specs.Answers.{receipts_of}
+use Rattle.sq_audit.specs.Told.{values_of, receipt_key, key_order, ReceiptKey, AreInOrder}
 
 is_equal : (o : Ordering) → is_eq o ≡ true → o ≡ Equal
 is_equal Less e = absurd (true≢false (sym e))
@@ -27,8 +28,8 @@ key_total = then_total (then_total (on_total (λ (k : ReceiptKey). k.0) nat_cmp_
 -- the order of two receipts: the first comes before the second
 abbrev pub Precedes : ReceiptValue → ReceiptValue → Type 0
 Precedes one other =
-    (one.root < other.root)
-    ⊎ ((one.root ≡ other.root) × ((one.position < other.position) ⊎ ((one.position ≡ other.position) × (is_commit one.reply ≡ true → is_commit other.reply ≡ true))))
+    (one.txn.root < other.txn.root)
+    ⊎ ((one.txn.root ≡ other.txn.root) × ((one.position < other.position) ⊎ ((one.position ≡ other.position) × (is_commit one.reply ≡ true → is_commit other.reply ≡ true))))
 
 bool_upto : (a b : Bool) → is_lt (bool_cmp a b) ≡ false → b ≡ true → a ≡ true
 bool_upto true b e is = refl
@@ -40,13 +41,13 @@ precedes : (one other : ReceiptValue) → is_lt (key_order (receipt_key other) (
 precedes one other e =
     let commits = bool_cmp (is_commit other.reply) (is_commit one.reply) in
     ⊎_elim
-    (λ less. absurd (true≢false (sym (ap (λ o. is_lt (ordering_then (ordering_then o (nat_cmp other.position one.position)) commits)) (cmp_less other.root one.root less)) ∙ e)))
+    (λ less. absurd (true≢false (sym (ap (λ o. is_lt (ordering_then (ordering_then o (nat_cmp other.position one.position)) commits)) (cmp_less other.txn.root one.txn.root less)) ∙ e)))
     (λ upto.
     ⊎_elim
     (λ before. inl before)
     (λ from.
-    let same : other.root ≡ one.root = omega (arith, upto, from) in
-    let level : is_lt (ordering_then (nat_cmp other.position one.position) commits) ≡ false = sym (ap (λ o. is_lt (ordering_then (ordering_then o (nat_cmp other.position one.position)) commits)) (cmp_equal other.root one.root same)) ∙ e in
+    let same : other.txn.root ≡ one.txn.root = omega (arith, upto, from) in
+    let level : is_lt (ordering_then (nat_cmp other.position one.position) commits) ≡ false = sym (ap (λ o. is_lt (ordering_then (ordering_then o (nat_cmp other.position one.position)) commits)) (cmp_equal other.txn.root one.txn.root same)) ∙ e in
     inr (
       sym same,
       ⊎_elim
@@ -60,8 +61,8 @@ precedes one other e =
           (cases_lt one.position other.position))
           (cases_lt other.position one.position),
     ))
-    (cases_lt one.root other.root))
-    (cases_lt other.root one.root)
+    (cases_lt one.txn.root other.txn.root))
+    (cases_lt other.txn.root one.txn.root)
 
 module _ (receipts : List ReceiptValue) (sorted : IsSortedByKey receipt_key key_order receipts) where
   pub in_order : (i j : ℕ) (one other : ReceiptValue) → i < j → slice_get receipts i ≡ Some one → slice_get receipts j ≡ Some other → Precedes one other
@@ -71,7 +72,7 @@ module _ (receipts : List ReceiptValue) (sorted : IsSortedByKey receipt_key key_
       precedes one other
       ((λ k. is_lt (key_order (receipt_key (sym (get_or_from_slice_get receipts j other one there) k)) (receipt_key (sym (get_or_from_slice_get receipts i one one at) k)))) ∙ far)
 
-  pub roots_rise : (i j : ℕ) (one other : ReceiptValue) → i ≤ j → slice_get receipts i ≡ Some one → slice_get receipts j ≡ Some other → one.root ≤ other.root
+  pub roots_rise : (i j : ℕ) (one other : ReceiptValue) → i ≤ j → slice_get receipts i ≡ Some one → slice_get receipts j ≡ Some other → one.txn.root ≤ other.txn.root
   roots_rise i j one other upto at there =
       ⊎_elim
       (λ before. ⊎_elim (λ less. omega (arith, less)) (λ level. let same = level.0 in omega (arith, same)) (in_order i j one other before at there))
@@ -82,8 +83,8 @@ module _ (receipts : List ReceiptValue) (sorted : IsSortedByKey receipt_key key_
       omega (arith, e))
       (cases_lt i j)
     where
-      same_root : {x y : ReceiptValue} → slice_get receipts j ≡ Some x → slice_get receipts j ≡ Some y → x.root ≡ y.root
-      same_root {x} {y} a b = let e : x ≡ y = cc in ap (λ (r : ReceiptValue). r.root) e
+      same_root : {x y : ReceiptValue} → slice_get receipts j ≡ Some x → slice_get receipts j ≡ Some y → x.txn.root ≡ y.txn.root
+      same_root {x} {y} a b = let e : x ≡ y = cc in ap (λ (r : ReceiptValue). r.txn.root) e
 
 -- two elements that a filter keeps are in the list in the same order
 pub record StandApart {X : Type 0} (xs : List X) (x y : X) : Type 0 where
@@ -134,20 +135,20 @@ kept_apart p (z ∷ xs) i j x y before at there =
 -- receipts of one root key are in order
 pub group_in_order : (receipts : List ReceiptValue) (root : ℕ) → IsSortedByKey receipt_key key_order receipts → AreInOrder (receipts_of root receipts)
 group_in_order receipts root sorted i j one other before at there =
-    let apart = kept_apart (λ r. r.root == root) receipts i j one other before at there in
-    let same : one.root ≡ other.root = eqb-true one.root root (kept_at (λ r. r.root == root) receipts i one at).passes ∙ sym (eqb-true other.root root (kept_at (λ r. r.root == root) receipts j other there).passes) in
+    let apart = kept_apart (λ r. r.txn.root == root) receipts i j one other before at there in
+    let same : one.txn.root ≡ other.txn.root = eqb-true one.txn.root root (kept_at (λ r. r.txn.root == root) receipts i one at).passes ∙ sym (eqb-true other.txn.root root (kept_at (λ r. r.txn.root == root) receipts j other there).passes) in
     ⊎_elim (λ less. absurd (omega (arith, less, same))) (λ level. level.1) (in_order receipts sorted apart.first apart.second one other apart.before apart.there apart.later)
 
-pub values_kept : (receipts : List (Bor ReceiptValue)) (root : ℕ) → values_of (filter (λ r. r.now.root == root) receipts) ≡ receipts_of root (values_of receipts)
+pub values_kept : (receipts : List (Bor ReceiptValue)) (root : ℕ) → values_of (filter (λ r. r.now.txn.root == root) receipts) ≡ receipts_of root (values_of receipts)
 values_kept [] root = refl
 values_kept (r ∷ receipts) root =
-    elim (cases_Bool (r.now.root == root)) [
+    elim (cases_Bool (r.now.txn.root == root)) [
       | inl here ↦
-          ap values_of (filter-first (λ (x : Bor ReceiptValue). x.now.root == root) r receipts here) ∙ ap (λ (rs : List ReceiptValue). r.now ∷ rs) (values_kept receipts root)
-          ∙ sym (filter-first (λ (x : ReceiptValue). x.root == root) r.now (values_of receipts) here)
+          ap values_of (filter-first (λ (x : Bor ReceiptValue). x.now.txn.root == root) r receipts here) ∙ ap (λ (rs : List ReceiptValue). r.now ∷ rs) (values_kept receipts root)
+          ∙ sym (filter-first (λ (x : ReceiptValue). x.txn.root == root) r.now (values_of receipts) here)
       | inr other ↦
-          ap values_of (filter-other (λ (x : Bor ReceiptValue). x.now.root == root) r receipts other) ∙ values_kept receipts root
-          ∙ sym (filter-other (λ (x : ReceiptValue). x.root == root) r.now (values_of receipts) other)
+          ap values_of (filter-other (λ (x : Bor ReceiptValue). x.now.txn.root == root) r receipts other) ∙ values_kept receipts root
+          ∙ sym (filter-other (λ (x : ReceiptValue). x.txn.root == root) r.now (values_of receipts) other)
     ]
 
 -- the elements that pass are so many from one place on
@@ -173,31 +174,31 @@ kept_run p (x ∷ xs) (suc from) n low mid high =
 
 -- of receipts by root key those of one key lie from the first that isn't below it to the first that is above
 pub group_is : (sorted : List (Bor ReceiptValue)) (root from end : ℕ) → IsSortedByKey receipt_key key_order (values_of sorted) → from ≤ end
-    → ((k : ℕ) (r : ReceiptValue) → k < from → slice_get (values_of sorted) k ≡ Some r → r.root < root)
-    → ((r : ReceiptValue) → slice_get (values_of sorted) from ≡ Some r → root ≤ r.root)
-    → ((k : ℕ) (r : ReceiptValue) → from ≤ k → k < end → slice_get (values_of sorted) k ≡ Some r → r.root < root + 1)
-    → ((r : ReceiptValue) → slice_get (values_of sorted) end ≡ Some r → root + 1 ≤ r.root)
+    → ((k : ℕ) (r : ReceiptValue) → k < from → slice_get (values_of sorted) k ≡ Some r → r.txn.root < root)
+    → ((r : ReceiptValue) → slice_get (values_of sorted) from ≡ Some r → root ≤ r.txn.root)
+    → ((k : ℕ) (r : ReceiptValue) → from ≤ k → k < end → slice_get (values_of sorted) k ≡ Some r → r.txn.root < root + 1)
+    → ((r : ReceiptValue) → slice_get (values_of sorted) end ≡ Some r → root + 1 ≤ r.txn.root)
     → values_of (take (end - from) (drop from sorted)) ≡ receipts_of root (values_of sorted)
 group_is sorted root from end is_sorted upto below first inside last =
     ap values_of
-    (kept_run (λ (r : Bor ReceiptValue). r.now.root == root) sorted from (end - from)
+    (kept_run (λ (r : Bor ReceiptValue). r.now.txn.root == root) sorted from (end - from)
     (λ k r at low.
     let less = below k r.now low (value k r at) in
-    ne_eqb r.now.root root (λ same. absurd (omega (arith, less, same))))
+    ne_eqb r.now.txn.root root (λ same. absurd (omega (arith, less, same))))
     (λ k r at above low.
     let least = least_from from k r first above at in
     let most = inside k r.now above (omega (arith, low, upto)) (value k r at) in
-    eq-eqb r.now.root root (omega (arith, least, most)))
+    eq-eqb r.now.txn.root root (omega (arith, least, most)))
     (λ k r at above.
     let more = least_from end k r last (omega (arith, above, upto)) at in
-    ne_eqb r.now.root root (λ same. absurd (omega (arith, more, same)))))
+    ne_eqb r.now.txn.root root (λ same. absurd (omega (arith, more, same)))))
     ∙ values_kept sorted root
   where
     value : (k : ℕ) (r : Bor ReceiptValue) → slice_get sorted k ≡ Some r → slice_get (values_of sorted) k ≡ Some r.now
     value k r at = at_map (λ (x : Bor ReceiptValue). x.now) sorted k r at
 
     -- what isn't below a root key at one place isn't behind it
-    least_from : {bound : ℕ} (place k : ℕ) (r : Bor ReceiptValue) → ((x : ReceiptValue) → slice_get (values_of sorted) place ≡ Some x → bound ≤ x.root) → place ≤ k → slice_get sorted k ≡ Some r → bound ≤ r.now.root
+    least_from : {bound : ℕ} (place k : ℕ) (r : Bor ReceiptValue) → ((x : ReceiptValue) → slice_get (values_of sorted) place ≡ Some x → bound ≤ x.txn.root) → place ≤ k → slice_get sorted k ≡ Some r → bound ≤ r.now.txn.root
     least_from place k r from_bound upto_k at =
         let there = value k r at in
         let within = slice_get_within (values_of sorted) k r.now there in

@@ -9,10 +9,9 @@ use Rattle.std.proofs.lemmas.Option.{slice_get_within, get_or_from_slice_get}
 use Rattle.std.proofs.Math.Seq.{take-suc}
 use Rattle.sq_gather.specs.Prelude.{TxnValue, RowList, effect, reply, replay_rows, FamilyValue, one_if, ReceiptValue, is_commit}
 use Rattle.sq_gather.proofs.Prelude.{Contains-slice_get, slice_get-Contains}
-use Rattle.sq_audit.specs.declared.job.Job.{Job}
-use Rattle.sq_audit.specs.Told.{IsAnswerOn, rows_then, AreInOrder, IsKnownOn, is_named, TellsLog}
+use Rattle.sq_audit.specs.Answers.{IsAnswerTo, IsAnswerOn, is_named, TellsLog}
+use Rattle.sq_audit.specs.Told.{rows_then, AreInOrder}
 use Rattle.sq_audit.proofs.Each.{each_more}
-use Rattle.sq_audit.proofs.Jobs.{of_parts, of_from}
 use Rattle.sq_audit.proofs.Lists.{counted, count_parts, taken_at, dropped_at}
 
 -- one more transaction is replayed
@@ -23,7 +22,7 @@ replayed_more base log position txn at =
     ∙ ap (λ (t : TxnValue). replay_rows base (take position log ++ t ∷ [])) (get_or_from_slice_get log position txn txn at)
     ∙ fold-append effect base (take position log) (txn ∷ [])
 
-one_below : (q n : ℕ) → q < n → one_if (nat_lt q n) ≡ 1
+pub one_below : (q n : ℕ) → q < n → one_if (nat_lt q n) ≡ 1
 one_below q n low = ap one_if (lt-ltb q n low)
 
 none_from : (q n : ℕ) → n ≤ q → one_if (nat_lt q n) ≡ 0
@@ -36,38 +35,27 @@ at_most_one false = omega arith
 named_at : (q : ℕ) (r : ReceiptValue) → is_commit r.reply ≡ true → r.position ≡ q → is_named q r ≡ true
 named_at q r commits here = and_from (is_commit r.reply) (r.position == q) commits (eq-eqb r.position q here)
 
-module _ (jobs : List Job) (family : FamilyValue) (group : List ReceiptValue) where
+module _ (family : FamilyValue) (group : List ReceiptValue) where
   -- receipts before a place are known, and name each position below this one once
   pub record WalkedTo (i position : ℕ) (rows : RowList) : Type 0 where
     pub rows_are : rows ≡ replay_rows family.base (take position family.log)
     pub within : position ≤ length family.log
-    pub known : (k : ℕ) (r : ReceiptValue) → k < i → slice_get group k ≡ Some r → IsKnownOn jobs family r
+    pub known : (k : ℕ) (r : ReceiptValue) → k < i → slice_get group k ≡ Some r → IsAnswerTo family r
     pub named : (q : ℕ) → count_by (is_named q) (take i group) ≡ one_if (nat_lt q position)
 
   module _ (i position : ℕ) (rows : RowList) (so_far : WalkedTo i position rows) (r : ReceiptValue) (at : slice_get group i ≡ Some r) where
-    known_from : r.position ≡ position → IsAnswerOn jobs rows (slice_get family.log position) r → IsKnownOn jobs family r
-    known_from here told =
-        let of = of_parts told.0.txn r told.2 in (
-          told.0,
-          told.1,
-          record {
-            id = of.id;
-            root = of.root;
-            within = subst (λ n. n ≤ length family.log) (sym here) so_far.within;
-            told = told.3 ∙ ap (λ (rs : RowList). reply rs told.0.txn) (so_far.rows_are ∙ ap (λ n. replay_rows family.base (take n family.log)) (sym here));
-            there = λ commits. ap (slice_get family.log) here ∙ told.4 commits;
-          },
-        )
+    known_from : r.position ≡ position → IsAnswerOn rows (slice_get family.log position) r → IsAnswerTo family r
+    known_from here told = record {
+      within = subst (λ n. n ≤ length family.log) (sym here) so_far.within;
+      told = told.0 ∙ ap (λ (rs : RowList). reply rs r.txn) (so_far.rows_are ∙ ap (λ n. replay_rows family.base (take n family.log)) (sym here));
+      there = λ commits. ap (slice_get family.log) here ∙ told.1 commits;
+    }
 
-    answered_from : r.position ≡ position → IsKnownOn jobs family r → IsAnswerOn jobs rows (slice_get family.log position) r
-    answered_from here known =
-        let is = known.2 in (
-          known.0,
-          known.1,
-          of_from known.0.txn r is.id is.root,
-          is.told ∙ ap (λ (rs : RowList). reply rs known.0.txn) (ap (λ n. replay_rows family.base (take n family.log)) here ∙ sym so_far.rows_are),
-          (λ commits. ap (slice_get family.log) (sym here) ∙ is.there commits),
-        )
+    answered_from : r.position ≡ position → IsAnswerTo family r → IsAnswerOn rows (slice_get family.log position) r
+    answered_from here is = (
+      is.told ∙ ap (λ (rs : RowList). reply rs r.txn) (ap (λ n. replay_rows family.base (take n family.log)) here ∙ sym so_far.rows_are),
+      (λ commits. ap (slice_get family.log) (sym here) ∙ is.there commits),
+    )
 
     within_group : i < length group
     within_group = slice_get_within group i r at
@@ -75,16 +63,16 @@ module _ (jobs : List Job) (family : FamilyValue) (group : List ReceiptValue) wh
     here_is : get_or group i r ≡ r
     here_is = get_or_from_slice_get group i r r at
 
-    module _ (here : r.position ≡ position) (told : IsAnswerOn jobs rows (slice_get family.log position) r) (after : RowList) (after_is : after ≡ rows_then rows (slice_get family.log position) r) where
+    module _ (here : r.position ≡ position) (told : IsAnswerOn rows (slice_get family.log position) r) (after : RowList) (after_is : after ≡ rows_then rows (slice_get family.log position) r) where
       pub step_commit : is_commit r.reply ≡ true → WalkedTo (i + 1) (position + 1) after
       step_commit commits =
-          let txn = told.0.txn in
-          let next : slice_get family.log position ≡ Some txn = told.4 commits in
+          let txn = r.txn in
+          let next : slice_get family.log position ≡ Some txn = told.1 commits in
           let below = slice_get_within family.log position txn next in
           record {
             rows_are = after_is ∙ (λ k. if commits k then option_map_or (effect rows) (next k) rows else rows) ∙ ap (λ (rs : RowList). effect rs txn) so_far.rows_are ∙ sym (replayed_more family.base family.log position txn next);
             within = omega (arith, below);
-            known = each_more (IsKnownOn jobs family) group i r so_far.known at (known_from here told);
+            known = each_more (IsAnswerTo family) group i r so_far.known at (known_from here told);
             named = λ q.
                 ⊎_elim
                 (λ same.
@@ -108,16 +96,16 @@ module _ (jobs : List Job) (family : FamilyValue) (group : List ReceiptValue) wh
           record {
             rows_are = after_is ∙ ap (λ b. if b then option_map_or (effect rows) (slice_get family.log position) rows else rows) aborts ∙ so_far.rows_are;
             within = so_far.within;
-            known = each_more (IsKnownOn jobs family) group i r so_far.known at (known_from here told);
+            known = each_more (IsAnswerTo family) group i r so_far.known at (known_from here told);
             named = λ q. count_by_more_no (is_named q) group i r within_group (ap (is_named q) here_is ∙ and_left (is_commit r.reply) (r.position == q) aborts) ∙ so_far.named q;
           }
 
-    -- a receipt that isn't what its job is answered
-    pub fails_answer : r.position ≡ position → (IsAnswerOn jobs rows (slice_get family.log position) r → ⊥) → TellsLog jobs family group → ⊥
+    -- a receipt with another reply
+    pub fails_answer : r.position ≡ position → (IsAnswerOn rows (slice_get family.log position) r → ⊥) → TellsLog family group → ⊥
     fails_answer here wrong tells = wrong (answered_from here (tells.known r (Contains-slice_get group i r at)))
 
     -- a receipt at another position
-    pub fails_position : AreInOrder group → (r.position ≡ position → ⊥) → TellsLog jobs family group → ⊥
+    pub fails_position : AreInOrder group → (r.position ≡ position → ⊥) → TellsLog family group → ⊥
     fails_position order apart tells =
         ⊎_elim low (λ from. high (let e : position < r.position = ⊎_elim (λ l. l) (λ upto. absurd (apart (omega (arith, from, upto)))) (cases_lt position r.position) in e)) (cases_lt r.position position)
       where
@@ -142,7 +130,7 @@ module _ (jobs : List Job) (family : FamilyValue) (group : List ReceiptValue) wh
         high : position < r.position → ⊥
         high above =
             let known = tells.known r (Contains-slice_get group i r at) in
-            let inside = known.2.within in
+            let inside = known.within in
             let total = tells.named position ∙ one_below position (length family.log) (omega (arith, above, inside)) in
             let none = so_far.named position ∙ none_from position position (omega arith) in
             let all = count_parts (is_named position) group i in
@@ -174,7 +162,7 @@ module _ (jobs : List Job) (family : FamilyValue) (group : List ReceiptValue) wh
       }
 
   -- once all receipts are walked over, the log is complete where its end is reached
-  pub walk_ends : (i position : ℕ) (rows : RowList) → WalkedTo i position rows → length group ≤ i → position ≡ length family.log → TellsLog jobs family group
+  pub walk_ends : (i position : ℕ) (rows : RowList) → WalkedTo i position rows → length group ≤ i → position ≡ length family.log → TellsLog family group
   walk_ends i position rows so_far whole ends =
       record {
         known = λ r has.
@@ -184,7 +172,7 @@ module _ (jobs : List Job) (family : FamilyValue) (group : List ReceiptValue) wh
         named = λ q. ap (count_by (is_named q)) (sym (take_all i group whole)) ∙ so_far.named q ∙ ap (λ n. one_if (nat_lt q n)) ends;
       }
 
-  pub fails_end : (i position : ℕ) (rows : RowList) → WalkedTo i position rows → length group ≤ i → (position ≡ length family.log → ⊥) → TellsLog jobs family group → ⊥
+  pub fails_end : (i position : ℕ) (rows : RowList) → WalkedTo i position rows → length group ≤ i → (position ≡ length family.log → ⊥) → TellsLog family group → ⊥
   fails_end i position rows so_far whole apart tells =
       let inside = so_far.within in
       let below : position < length family.log = ⊎_elim (λ l. l) (λ upto. absurd (apart (omega (arith, inside, upto)))) (cases_lt position (length family.log)) in

@@ -17,7 +17,7 @@ abbrev pub is_id_and_root : ℕ → ℕ → ℕ × ℕ → Bool
 is_id_and_root id root one = (one.0 == id) && (one.1 == root)
 
 abbrev pub id_and_root : ReceiptValue → ℕ × ℕ
-id_and_root receipt = (receipt.id, receipt.root)
+id_and_root receipt = (receipt.txn.id, receipt.txn.root)
 
 -- `ids` are the ids of the receipts, each with its root key, sorted by id
 pub record ListsIds (receipts : List ReceiptValue) (ids : List (ℕ × ℕ)) : Type 0 where

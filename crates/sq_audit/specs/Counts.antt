@@ -10,4 +10,4 @@ key_order one other = ordering_then (nat_cmp one.0 other.0) (nat_cmp one.1 other
 
 -- the receipt has this id and this root key
 abbrev pub has_id_and_root : ℕ → ℕ → ReceiptValue → Bool
-has_id_and_root id root receipt = (receipt.id == id) && (receipt.root == root)
+has_id_and_root id root receipt = (receipt.txn.id == id) && (receipt.txn.root == root)

@@ -1,13 +1,13 @@
 -- The defects, each the failure of its clause, and the verdict: the first defect, or that there is
 -- none.
 use Rattle.std.specs.Prelude.{ℕ, ◌<◌, List}
-use Rattle.sq_gather.specs.Prelude.{OpeningValue, GatheredValue, FitTogether, StandOnce, AllStand, KeepBases, NameEach}
+use Rattle.sq_gather.specs.Prelude.{OpeningValue, GatheredValue, FitTogether, StandOnce, AllStand}
 use Rattle.sq_audit.specs.declared.job.Job.{Job}
 use Rattle.sq_audit.specs.declared.verdict.Defect.{Defect}
 use Rattle.sq_audit.specs.declared.verdict.Defect.TheVariants.{RootMissing, RootDoubled, BaseChanged, WrongPlace, ReceiptUnknown, Unanswered}
 use Rattle.sq_audit.specs.declared.verdict.Verdict.{Verdict}
 use Rattle.sq_audit.specs.declared.verdict.Verdict.TheVariants.{Sound, Unsound}
-use Rattle.sq_audit.specs.Answers.{AreKnown, AreAnswered}
+use Rattle.sq_audit.specs.Answers.{AllStart, AreKnown, AreAnswered}
 use Rattle.sq_audit.specs.Sound.{IsSoundRun}
 
 -- the number of a defect; the defects are ordered by it
@@ -23,9 +23,9 @@ defect_number Unanswered = 306
 abbrev pub Clears : OpeningValue → GatheredValue → List Job → Defect → Type 0
 Clears o g jobs RootMissing = AllStand o g
 Clears o g jobs RootDoubled = StandOnce g
-Clears o g jobs BaseChanged = KeepBases o g
+Clears o g jobs BaseChanged = AllStart o g
 Clears o g jobs WrongPlace = FitTogether o g
-Clears o g jobs ReceiptUnknown = AreKnown g jobs × NameEach g
+Clears o g jobs ReceiptUnknown = AreKnown o g jobs
 Clears o g jobs Unanswered = AreAnswered g jobs
 
 -- it has no defect with a number below `number`

@@ -11,7 +11,7 @@ use Rattle.sq_audit.specs.declared.folding.Prepared.TheVariants as prepared
 use Rattle.sq_audit.specs.Answers.{is_of, IdsDiffer}
 use Rattle.sq_audit.specs.ById.{ListsIds}
 use Rattle.sq_audit.specs.Rows.{rows_among}
-use Rattle.sq_audit.specs.Sound.{IsSoundRun}
+use Rattle.sq_audit.specs.Sound.{with_receipts, IsSoundRun}
 use Rattle.sq_audit.specs.Defects.{IsFirstDefect}
 
 -- one of these receipts is the job's
@@ -54,6 +54,7 @@ pub record IsFold (o : OpeningValue) (g : GatheredValue) (jobs : List Job) (fold
 
 -- the jobs that have a receipt have this defect first; or memory ran out, and everything is
 -- unchanged
-abbrev pub IsUnfolded : OpeningValue → GatheredValue → List Job → Unfolded → Type 0
-IsUnfolded o g jobs (Unsound defect) = IsFirstDefect o g (answered_jobs g.receipts jobs) defect
-IsUnfolded o g jobs (Memory back) = (back.opening ≡ o) × (back.gathered ≡ g) × (back.jobs.items ≡ jobs)
+abbrev pub IsUnfolded : OpeningValue → GatheredValue → List ReceiptValue → List Job → Unfolded → Type 0
+IsUnfolded o g receipts jobs (Unsound defect) = IsFirstDefect o (with_receipts g receipts) (answered_jobs receipts jobs) defect
+IsUnfolded o g receipts jobs (Memory back) =
+    (back.opening ≡ o) × (back.gathered ≡ g) × (back.receipts.items ≡ receipts) × (back.jobs.items ≡ jobs)

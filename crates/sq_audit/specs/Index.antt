@@ -1,6 +1,6 @@
 -- An index from keys to places in a list, and what holds of root keys and their families.
 use Rattle.std.specs.Prelude.{◌≡◌, ◌<◌, ℕ, List, slice_get, Some, Contains}
-use Rattle.sq_gather.specs.Prelude.{RowList, RowTable, FamilyValue, TableValue}
+use Rattle.sq_gather.specs.Prelude.{RowList, RowTable, FamilyValue, rows_of, TableValue}
 use Rattle.sq_audit.specs.Located.{Entry}
 use Rattle.sq_audit.specs.ById.{AreById}
 
@@ -44,9 +44,6 @@ HasFamily entries root = (entry : Entry) × Contains entries entry × (entry.1.r
 abbrev pub HaveFamilies : TableValue → List Entry → Type 0
 HaveFamilies table entries = (row : ℕ × RowList) → Contains table row → HasFamily entries row.0
 
--- the family's base is the rows of its root key
-abbrev pub StartsFrom : RowTable → FamilyValue → Type 0
-StartsFrom rows family = family.base ≡ rows family.root
-
-abbrev pub StartFrom : RowTable → List Entry → Type 0
-StartFrom rows entries = (entry : Entry) → Contains entries entry → StartsFrom rows entry.1
+-- the family has the rows of its root key in the table
+abbrev pub HasRows : RowTable → FamilyValue → Type 0
+HasRows rows family = rows_of family ≡ rows family.root

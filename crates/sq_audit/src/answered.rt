@@ -52,7 +52,7 @@ pub fn list_ids(alloc: Global, receipts: &[Receipt]) -> Result<Vec<(u64, u64)>, 
 {
     let mut ids = Vec::with_capacity(alloc, receipts.len())?;
     for receipt in receipts {
-        ids.push((receipt.id, receipt.root.number()))?;
+        ids.push((receipt.txn.id(), receipt.txn.root().number()))?;
     }
     ids.sort_by_key(|one| one.0)?;
     Ok(ids)

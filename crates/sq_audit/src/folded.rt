@@ -1,7 +1,7 @@
 // The outcome of a fold.
 use crate::job::Job;
 use crate::verdict::Defect;
-use sq_gather::{Gathered, Opening};
+use sq_gather::{Gathered, Opening, Receipt};
 
 /// A stage that was gathered, after the logs of its families were folded.
 #[derive(Drop)]
@@ -19,6 +19,7 @@ pub struct Folded {
 pub struct Unchanged {
     pub opening: Opening,
     pub gathered: Gathered,
+    pub receipts: Vec<Receipt>,
     pub jobs: Vec<Job>,
 }
 

@@ -1,17 +1,13 @@
-// Checks over all families sorted by root key: each root key of a table has a family, in one place
-// only, and this family starts from its opening rows.
-ghost use Rattle.std.specs.Prelude.{◌≡◌, nat_lt, IfOk};
+// Checks over all families sorted by root key: each root key of a table has a family, and in one
+// place only.
+ghost use Rattle.std.specs.Prelude.{◌≡◌, length, nat_lt};
 ghost use Rattle.std.specs.Bool.{Decides};
 ghost use Rattle.sq_gather.specs.Prelude.{rows_in};
 ghost use Rattle.sq_audit.specs.Located.{entry_of, entries_in, AreByRoot};
-ghost use Rattle.sq_audit.specs.Index.{HasFamily, HaveFamilies, Agree, AgreeOnSpots, StartsFrom, StartFrom};
+ghost use Rattle.sq_audit.specs.Index.{HasFamily, HaveFamilies, Agree, AgreeOnSpots, HasRows};
 
-use crate::in_threads::{all_hold, part_size};
 use crate::located::Located;
 use sq_gather::{Family, Root, Table};
-use std::alloc::{AllocError, Global};
-use std::thread;
-use std::thread::Threads;
 
 /// Returns true if each root key of `table` has a family in `all`, which is sorted by root key.
 pub(crate) fn have_families(table: &Table, all: &[Located]) -> bool
@@ -67,48 +63,22 @@ fn agree(one: &Located, other: &Located) -> bool
     }
 }
 
-/// Does the same as [`start_from`]: several threads check parts of the families.
-pub(crate) fn all_start_from<R: Threads + Sync>(
-    rt: &R,
-    alloc: Global,
-    table: &Table,
-    all: &[Located],
-) -> Result<bool, AllocError>
-    ensures { IfOk result (λ from. Decides from
-        (StartFrom (rows_in table.now) (entries_in all.now))) }
+/// Returns true if `family` has a log, or the rows that `table` has for its root key.
+pub(crate) fn may_start(table: &Table, family: &Family) -> bool
+    ensures { Decides result (length family.now.log ≡ 0 → HasRows (rows_in table.now) family.now) }
 {
-    let size = part_size(all.len());
-    let said = thread::map_chunks(
-        rt,
-        alloc,
-        all,
-        size,
-        &|_, part: &[Located]| -> Result<bool, AllocError>
-            ensures { IfOk result (λ from. Decides from
-                (StartFrom (rows_in table.entry.now) (entries_in part.entry.now))) }
-        { Ok(start_from(table, part)) },
-    )?;
-    all_hold(&said)
-}
-
-/// Returns true if each family starts from the rows that `table` has for its root key.
-pub(crate) fn start_from(table: &Table, all: &[Located]) -> bool
-    ensures { Decides result (StartFrom (rows_in table.now) (entries_in all.now)) }
-{
-    for located in all {
-        if !starts_from(table, located.family) {
-            return false;
-        }
+    if family.position() != 0 {
+        return true;
     }
-    true
+    has_rows(table, family)
 }
 
-// Returns true if `family` starts from the rows that `table` has for its root key.
-fn starts_from(table: &Table, family: &Family) -> bool
-    ensures { Decides result (StartsFrom (rows_in table.now) family.now) }
+// Returns true if `family` has the rows that `table` has for its root key.
+fn has_rows(table: &Table, family: &Family) -> bool
+    ensures { Decides result (HasRows (rows_in table.now) family.now) }
 {
     match table.rows(family.root()) {
-        Some(rows) => family.base() == rows,
-        None => family.base().is_empty(),
+        Some(rows) => family.rows() == rows,
+        None => family.rows().is_empty(),
     }
 }

@@ -3,7 +3,6 @@
 #![tactic(auto)]
 
 mod answered;
-mod by_id;
 mod fits;
 mod folded;
 mod folding;
@@ -15,6 +14,7 @@ mod located;
 mod notes;
 mod passes;
 mod placed;
+mod posted;
 mod spans;
 mod statuses;
 mod stored;

@@ -65,7 +65,7 @@ fn add_stored<'a>(
     for family in store.families() {
         // For the proof alone: the log belongs to the family's own root key, as every family's
         // does.
-        family.log();
+        family.position();
         all.push(Located { site, family })?;
     }
     Ok(())

@@ -4,33 +4,37 @@ ghost use Rattle.std.specs.Bool.{Decides};
 ghost use Rattle.sq_gather.specs.Prelude.{rows_in};
 ghost use Rattle.sq_audit.specs.Answers.{IdsDiffer};
 ghost use Rattle.sq_audit.specs.Located.{entries_in, ListsAll, AreByRoot};
-ghost use Rattle.sq_audit.specs.Index.{StartFrom};
-ghost use Rattle.sq_audit.specs.Told.{KnowsAll};
+ghost use Rattle.sq_audit.specs.Told.{IsFound};
+ghost use Rattle.sq_audit.specs.Sound.{with_receipts};
 ghost use Rattle.sq_audit.specs.Defects.{defect_number, Clears, ClearBelow, IsVerdict};
 
 use crate::answered::are_answered;
 use crate::fits::fit;
-use crate::index::{all_start_from, have_families, stand_once, start_from};
+use crate::index::{have_families, stand_once};
 use crate::job::Job;
 use crate::located::{Located, locate};
-use crate::told::{are_known, are_known_in_threads};
+use crate::told::{Found, find_all, find_all_in_threads};
 use crate::verdict::{ALL_DEFECTS, Defect, Verdict};
-use sq_gather::{Gathered, Opening};
+use sq_gather::{Gathered, Opening, Receipt};
 use std::alloc::{AllocError, Global};
 use std::thread::Threads;
 
-/// Returns the verdict on `g`, gathered of a run of `jobs`: sound, or the first defect. The ids of
-/// `jobs` differ. It fails only if memory runs out.
-pub fn audit(opening: &Opening, g: &Gathered, jobs: &[Job]) -> Result<Verdict, AllocError>
+/// Returns the verdict on `g` with `receipts`, gathered of a run of `jobs`: sound, or the first
+/// defect. The ids of `jobs` differ. It fails only if memory runs out.
+pub fn audit(
+    opening: &Opening,
+    g: &Gathered,
+    receipts: &[Receipt],
+    jobs: &[Job],
+) -> Result<Verdict, AllocError>
     requires { IdsDiffer jobs.now }
-    ensures { IfOk result (IsVerdict opening.now g.now jobs.now) }
+    ensures { IfOk result (IsVerdict opening.now (with_receipts g.now receipts.now) jobs.now) }
 {
-    let alloc = *g.receipts.allocator();
+    let alloc = *g.stores.allocator();
     let located = locate(alloc, g)?;
     let all = located.as_slice();
-    let start = start_from(opening.table(), all);
-    let known = are_known(alloc, all, jobs, &g.receipts)?;
-    first_defect(alloc, opening, g, all, jobs, Found { start, known })
+    let found = find_all(alloc, opening.table(), all, jobs, receipts)?;
+    first_defect(alloc, opening, g, receipts, all, jobs, found)
 }
 
 /// Does the same as [`audit`]; if there are many families, several threads check parts of them.
@@ -38,27 +42,17 @@ pub fn audit_in_threads<R: Threads + Sync>(
     rt: &R,
     opening: &Opening,
     g: &Gathered,
+    receipts: &[Receipt],
     jobs: &[Job],
 ) -> Result<Verdict, AllocError>
     requires { IdsDiffer jobs.now }
-    ensures { IfOk result (IsVerdict opening.now g.now jobs.now) }
+    ensures { IfOk result (IsVerdict opening.now (with_receipts g.now receipts.now) jobs.now) }
 {
-    let alloc = *g.receipts.allocator();
+    let alloc = *g.stores.allocator();
     let located = locate(alloc, g)?;
     let all = located.as_slice();
-    let start = all_start_from(rt, alloc, opening.table(), all)?;
-    let known = are_known_in_threads(rt, alloc, all, jobs, &g.receipts)?;
-    first_defect(alloc, opening, g, all, jobs, Found { start, known })
-}
-
-// What was found of all families, perhaps in parts.
-#[derive(Clone, Copy, Debug)]
-struct Found {
-    // Whether each family starts from its opening rows.
-    start: bool,
-    // Whether each receipt is the answer to a job, and the receipts of commits name each position
-    // of each log once.
-    known: bool,
+    let found = find_all_in_threads(rt, alloc, opening.table(), all, jobs, receipts)?;
+    first_defect(alloc, opening, g, receipts, all, jobs, found)
 }
 
 // Returns the first defect, if there is one. `all` lists all families by root key, and `found`
@@ -67,19 +61,19 @@ fn first_defect(
     alloc: Global,
     opening: &Opening,
     g: &Gathered,
+    receipts: &[Receipt],
     all: &[Located],
     jobs: &[Job],
     found: Found,
 ) -> Result<Verdict, AllocError>
     requires listed { ListsAll g.now (entries_in all.now) }
     requires rise { AreByRoot (entries_in all.now) }
-    requires start { Decides found.start
-        (StartFrom (rows_in opening.now.table) (entries_in all.now)) }
-    requires known { Decides found.known (KnowsAll (entries_in all.now) jobs.now g.now.receipts) }
-    ensures { IfOk result (IsVerdict opening.now g.now jobs.now) }
+    requires found { IsFound (rows_in opening.now.table) (entries_in all.now) jobs.now
+        receipts.now found }
+    ensures { IfOk result (IsVerdict opening.now (with_receipts g.now receipts.now) jobs.now) }
 {
     for defect in ALL_DEFECTS {
-        if !clears(alloc, opening, g, all, jobs, found, defect)? {
+        if !clears(alloc, opening, g, receipts, all, jobs, found, defect)? {
             return Ok(Verdict::Unsound(defect));
         }
     }
@@ -92,6 +86,7 @@ fn clears(
     alloc: Global,
     opening: &Opening,
     g: &Gathered,
+    receipts: &[Receipt],
     all: &[Located],
     jobs: &[Job],
     found: Found,
@@ -99,11 +94,12 @@ fn clears(
 ) -> Result<bool, AllocError>
     requires listed { ListsAll g.now (entries_in all.now) }
     requires rise { AreByRoot (entries_in all.now) }
-    requires start { Decides found.start
-        (StartFrom (rows_in opening.now.table) (entries_in all.now)) }
-    requires known { Decides found.known (KnowsAll (entries_in all.now) jobs.now g.now.receipts) }
-    requires lower { ClearBelow opening.now g.now jobs.now (defect_number defect) }
-    ensures { IfOk result (λ clear. Decides clear (Clears opening.now g.now jobs.now defect)) }
+    requires found { IsFound (rows_in opening.now.table) (entries_in all.now) jobs.now
+        receipts.now found }
+    requires lower { ClearBelow opening.now (with_receipts g.now receipts.now) jobs.now
+        (defect_number defect) }
+    ensures { IfOk result (λ clear. Decides clear
+        (Clears opening.now (with_receipts g.now receipts.now) jobs.now defect)) }
 {
     match defect {
         Defect::RootMissing => Ok(have_families(opening.table(), all)),
@@ -111,6 +107,6 @@ fn clears(
         Defect::BaseChanged => Ok(found.start),
         Defect::WrongPlace => fit(alloc, opening, g, all),
         Defect::ReceiptUnknown => Ok(found.known),
-        Defect::Unanswered => are_answered(alloc, jobs, &g.receipts),
+        Defect::Unanswered => are_answered(alloc, jobs, receipts),
     }
 }

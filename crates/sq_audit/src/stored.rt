@@ -16,6 +16,6 @@ pub(crate) fn next_family(store: &SlabStore, at: u64) -> Option<(&Family, u64)>
         return None;
     };
     // For the proof alone: the log belongs to the family's own root key, as every family's does.
-    family.log();
+    family.position();
     Some((family, family.root().number() + 1))
 }

@@ -12,7 +12,6 @@ use Rattle.clap.specs.declared.builder.value_parser.ValueParser.TheVariants.{Sig
 use Rattle.sq_command.specs.declared.tasks.TheConstants.{MAX_TURNS, MAX_PUMPS}
 use Rattle.sq_command.specs.declared.owner.TheConstants.{MAX_WIDTH}
 use Rattle.sq_command.specs.declared.demo.TheConstants.{LEAST_PARTITIONS, MAX_PARTITIONS, MAX_ROOTS, MAX_ROWS_PER_ROOT, MAX_JOBS, MAX_HOT, MAX_SEED}
-use Rattle.sq_command.specs.declared.serve.TheConstants.{MAX_FOLD_AFTER}
 
 -- the command has this shape and no argument that its subcommands inherit, unless memory ran out
 pub record HasShape (shape : Shape) (made : Result Command AllocError) : Type 0 where
@@ -140,12 +139,11 @@ folder_rule = record (new_rule (codes "folder")) { value_names = 1; required = t
 abbrev pub demo_shape : Shape
 demo_shape = larger (larger worked_shape (flag_rule (codes "stages"))) folder_rule
 
--- the subcommand that serves an engine, with its numeric options and the flag that ends it early
+-- the subcommand that serves an engine, with its numeric option and the flag that ends it early
 abbrev pub served_shape : Shape
 served_shape =
-    larger (larger (larger (new_shape (codes "serve"))
+    larger (larger (new_shape (codes "serve"))
     (counted_rule (codes "pumps") 1 MAX_PUMPS (codes "1")))
-    (counted_rule (codes "fold-after") 1 MAX_FOLD_AFTER (codes "262144")))
     (flag_rule (codes "strict"))
 
 -- the same with its options for reports

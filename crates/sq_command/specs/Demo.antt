@@ -39,7 +39,7 @@ IsDemoLine rows (line.Demo demo folder) =
     IsDemoOf rows demo × IsNameOf (codes "folder") rows (Some folder)
 IsDemoLine rows (line.Work task input) = ⊥
 IsDemoLine rows (line.Owner keys plans width) = ⊥
-IsDemoLine rows (line.Serve pumps fold_after strict files file reports) = ⊥
+IsDemoLine rows (line.Serve pumps strict files file reports) = ⊥
 IsDemoLine rows (line.Explain number) = ⊥
 
 -- options are refused because no folder is named

@@ -17,7 +17,6 @@ use Rattle.sq_command.specs.Serve.{IsEngineLine, LacksEnginePlan}
 use Rattle.sq_command.specs.declared.clash.Clash.{Clash}
 use Rattle.sq_command.specs.declared.tasks.TheConstants.{MAX_TURNS, MAX_PUMPS, TURNS, PUMPS}
 use Rattle.sq_command.specs.declared.owner.TheConstants.{MAX_WIDTH}
-use Rattle.sq_command.specs.declared.serve.TheConstants.{MAX_FOLD_AFTER}
 use Rattle.sq_command.specs.declared.line.Form.{Form}
 use Rattle.sq_command.specs.declared.line.Form.TheVariants.{Lines, Json, Svg}
 use Rattle.sq_command.specs.declared.line.LiveOptions.{LiveOptions}
@@ -91,7 +90,7 @@ abbrev pub IsWorkLine : (List Row → Task → Type 0) → List Row → Line →
 IsWorkLine IsTask rows (Work task input) = IsTask rows task × IsInputOf rows input
 IsWorkLine IsTask rows (Owner keys plans width) = ⊥
 IsWorkLine IsTask rows (Demo demo folder) = ⊥
-IsWorkLine IsTask rows (Serve pumps fold_after strict files file reports) = ⊥
+IsWorkLine IsTask rows (Serve pumps strict files file reports) = ⊥
 IsWorkLine IsTask rows (Explain number) = ⊥
 
 -- the line asks for the number that is named
@@ -99,7 +98,7 @@ abbrev pub IsExplainLine : List Row → Line → Type 0
 IsExplainLine rows (Work task input) = ⊥
 IsExplainLine rows (Owner keys plans width) = ⊥
 IsExplainLine rows (Demo demo folder) = ⊥
-IsExplainLine rows (Serve pumps fold_after strict files file reports) = ⊥
+IsExplainLine rows (Serve pumps strict files file reports) = ⊥
 IsExplainLine rows (Explain number) = GivenNumber (one_of (codes "number") rows) number
 
 -- the format is refused because two are asked for
@@ -172,6 +171,6 @@ LineIsWithin (Work task input) = IsWithin task
 LineIsWithin (Owner keys plans width) =
     (1 ≤ length keys.items) × IfSome width (λ n. (1 ≤ n) × (n ≤ MAX_WIDTH))
 LineIsWithin (Demo demo folder) = DemoIsWithin demo
-LineIsWithin (Serve pumps fold_after strict files file reports) =
-    (1 ≤ pumps) × (pumps ≤ MAX_PUMPS) × (1 ≤ fold_after) × (fold_after ≤ MAX_FOLD_AFTER)
+LineIsWithin (Serve pumps strict files file reports) =
+    (1 ≤ pumps) × (pumps ≤ MAX_PUMPS)
 LineIsWithin (Explain number) = Unit {0}

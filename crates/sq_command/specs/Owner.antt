@@ -57,7 +57,7 @@ IsOwnerLine rows (Owner keys plans width) =
     × GivenNumberOf 1 MAX_WIDTH (one_of (codes "width") rows) width
 IsOwnerLine rows (Work task input) = ⊥
 IsOwnerLine rows (Demo demo folder) = ⊥
-IsOwnerLine rows (Serve pumps fold_after strict files file reports) = ⊥
+IsOwnerLine rows (Serve pumps strict files file reports) = ⊥
 IsOwnerLine rows (Explain number) = ⊥
 
 -- its options are refused because of the plans or the keys

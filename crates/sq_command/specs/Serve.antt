@@ -8,7 +8,6 @@ use Rattle.sq_command.specs.declared.line.EngineReports.{EngineReports}
 use Rattle.sq_command.specs.declared.line.Line.{Line}
 use Rattle.sq_command.specs.declared.line.Line.TheVariants.{Work, Owner, Demo, Serve, Explain}
 use Rattle.sq_command.specs.declared.tasks.TheConstants.{MAX_PUMPS, PUMPS}
-use Rattle.sq_command.specs.declared.serve.TheConstants.{MAX_FOLD_AFTER, FOLD_AFTER}
 use Rattle.sq_command.specs.Options.{NumberOf, FlagOf, IsNameOf, IsMainOf}
 
 -- the plan of the engine is in the file that is named, and its rows in another if it is named; or
@@ -30,11 +29,10 @@ AreReportsOf rows reports =
     IsNameOf (codes "summary-out") rows reports.summary_out
     × IsNameOf (codes "timeline") rows reports.timeline
 
--- the line serves an engine with the numbers, the flag and the files of these options
+-- the line serves an engine with the number, the flag and the files of these options
 abbrev pub IsEngineLine : List Row → Line → Type 0
-IsEngineLine rows (Serve pumps fold_after strict files file reports) =
+IsEngineLine rows (Serve pumps strict files file reports) =
     NumberOf 1 MAX_PUMPS PUMPS (one_of (codes "pumps") rows) pumps
-    × NumberOf 1 MAX_FOLD_AFTER FOLD_AFTER (one_of (codes "fold-after") rows) fold_after
     × FlagOf (one_of (codes "strict") rows) strict
     × AreEngineFilesOf rows files × IsMainOf rows file × AreReportsOf rows reports
 IsEngineLine rows (Work task input) = ⊥

@@ -329,8 +329,6 @@ Exit status:
 /// Help on `serve` and its options, and the text after them.
 pub const SERVE_ABOUT: &str = "Answers jobs as their lines come, while rows move";
 
-pub const FOLD_AFTER: &str = "Truncate logs after N answers";
-
 pub const SERVE_STRICT: &str = "Stop at the first line with a fault or a refusal";
 
 pub const SERVE_TIMELINE: &str = "Write what was done in each 10 ms to this file";
@@ -344,14 +342,14 @@ may be in files of their own. After that each line asks for something:
 
 txn P ID ROOT OP..   a job; its answer is written as soon as it is done
 move JSON            rows move to the places of this plan
-fold                 the answers are audited, and the logs truncated
+fold                 how many answers were found sound
 status               how far a move is, and how many jobs are open
 plan                 the plan that is in force
 rows                 each row, as a line 'row ..'; refused while rows move
 rows FILE            the same, written to this file
 
-At the end of the input all jobs are answered, a move goes to its end, and the
-final state is audited: 'sound F families N committed' is the last line.
+At the end of the input all jobs are answered, and a move goes to its end:
+'sound F families N committed' is the last line.
 
 Example:
 

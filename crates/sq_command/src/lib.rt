@@ -15,5 +15,4 @@ mod tasks;
 pub use line::{
     Demo, EngineFiles, EngineReports, Form, Input, Line, LiveOptions, Plans, Task, line_of,
 };
-pub use serve::{FOLD_AFTER, MAX_FOLD_AFTER};
 pub use tasks::{MAX_PUMPS, MAX_TURNS, PUMPS, TURNS};

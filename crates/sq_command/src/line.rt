@@ -41,8 +41,6 @@ pub enum Line<'a> {
     /// Answer jobs for as long as lines come, while rows move.
     Serve {
         pumps: u32,
-        /// After how many answers the logs are audited and folded.
-        fold_after: u64,
         /// Whether it ends after the first line that has a fault or is refused.
         strict: bool,
         /// The files of the plan and the rows; `None` if both are in the input.

@@ -16,26 +16,17 @@ use crate::tasks::{MAX_PUMPS, PUMPS};
 use clap::{ArgMatches, Command};
 use std::alloc::{AllocError, Global};
 
-/// The largest number for `--fold-after`.
-pub const MAX_FOLD_AFTER: u64 = 1_000_000_000;
+// The default text below repeats this number.
+const _: () = prove!(PUMPS == 1);
 
-/// The default of `--fold-after`: after how many answers the logs are audited and folded.
-pub const FOLD_AFTER: u64 = 262_144;
-
-// The default texts below repeat these numbers.
-const _: () = prove!(FOLD_AFTER == 262_144 && PUMPS == 1);
-
-// The subcommand with its numeric options and `--strict`.
+// The subcommand with its numeric option and `--strict`.
 fn served<'a>(alloc: Global) -> Result<Command<'a>, AllocError>
     ensures { HasShape served_shape result }
 {
     let plain = Ok(subcommand(alloc, "serve", help::SERVE_ABOUT, help::SERVE));
     let pumps = counted(alloc, "pumps", help::PUMPS, 1, MAX_PUMPS, "1");
     let pumped = with(plain, pumps);
-    let after = help::FOLD_AFTER;
-    let folds = counted(alloc, "fold-after", after, 1, MAX_FOLD_AFTER, "262144");
-    let folding = with(pumped, folds);
-    with_flag(alloc, folding, "strict", help::SERVE_STRICT)
+    with_flag(alloc, pumped, "strict", help::SERVE_STRICT)
 }
 
 // The same subcommand with the options for its reports, too.
@@ -63,7 +54,6 @@ pub fn serve_line<'a>(options: &ArgMatches<'a>) -> Result<Line<'a>, Clash>
     let pumps = number_of(options, "pumps", 1, MAX_PUMPS, PUMPS);
     Ok(Line::Serve {
         pumps: pumps as u32,
-        fold_after: number_of(options, "fold-after", 1, MAX_FOLD_AFTER, FOLD_AFTER),
         strict: is_given(options, "strict"),
         files: engine_files_of(options)?,
         file: main_of(options),

@@ -1,11 +1,11 @@
 -- Texts that are put together of pieces.
-use Rattle.std.proofs.Common.{◌≡◌, ◌≢◌, ℕ, zero, suc, Some, ◌+◌, ◌<◌, ◌≤◌, List, [], ◌∷◌, ◌++◌, map, length, get_or, take, refl, sym, ap, ◌∙◌, subst, append_assoc, zero-add}
+use Rattle.std.proofs.Common.{◌≡◌, ℕ, zero, suc, Some, ◌+◌, ◌<◌, ◌≤◌, List, [], ◌∷◌, ◌++◌, map, length, get_or, take, refl, sym, ap, ◌∙◌, subst, append_assoc, zero-add}
 use Rattle.std.specs.List.{flat_map, join_with_byte, enumerate_from}
 use Rattle.std.proofs.lemmas.List.{append-nil, take_more, take_all}
 use Rattle.std.proofs.lemmas.Grind.{flat_map-append}
 use Rattle.std.proofs.lemmas.List.FromFn.{length-enumerate_from, get_or-enumerate_from}
 use Rattle.csv.specs.Records.{field_at}
-use Rattle.sq_text.specs.Texts.{line, note_text, hex_byte_text}
+use Rattle.sq_text.specs.Texts.{line}
 
 -- the text of one more thing, behind those of the ones before it
 pub text_next : {X : Type 0} (text : X → List ℕ) (xs : List X) (i : ℕ) (x : X) (a b c : List ℕ) → i < length xs → get_or xs i x ≡ x → b ≡ a ++ flat_map text (take i xs) → c ≡ b ++ text x → c ≡ a ++ flat_map text (take (i + 1) xs)
@@ -43,11 +43,6 @@ spaced_texts text (x ∷ xs) = ap (λ (rest : List ℕ). 32 ∷ text x ++ rest) 
 pub line_of_texts : {X : Type 0} (word : List ℕ) (text : X → List ℕ) (xs : List X) → (word ++ flat_map (λ x. 32 ∷ text x) xs) ++ (10 ∷ []) ≡ line (word ∷ map text xs)
 line_of_texts word text xs =
     ap (λ (t : List ℕ). t ++ (10 ∷ [])) (ap (λ (rest : List ℕ). word ++ rest) (sym (spaced_texts text xs)) ∙ sym (spaced word (map text xs)))
-
--- the note of some bytes has two digits each
-pub note_of_some : (bytes : List ℕ) → length bytes ≢ 0 → flat_map hex_byte_text bytes ≡ note_text bytes
-note_of_some [] some = absurd (some refl)
-note_of_some (byte ∷ bytes) some = refl
 
 -- a field that is there is at its place
 pub field_found : (fields : List (List ℕ)) (i : ℕ) (x : List ℕ) → field_at fields i ≡ Some x → get_or fields i x ≡ x

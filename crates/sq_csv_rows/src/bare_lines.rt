@@ -1,7 +1,8 @@
 // The lines of a file of rows, without those that are no rows' on purpose.
-ghost use Rattle.std.specs.Prelude.{◌≤◌, length, None, IfOk};
+ghost use Rattle.std.specs.Prelude.{◌≤◌, ◌<◌, length, None, IfOk};
 
 use crate::record_lines::RecordLines;
+use memchr::memchr;
 use std::alloc::AllocError;
 use std::io;
 use std::io::{ErrorKind, Read};
@@ -31,30 +32,8 @@ enum BarePlace {
     Start,
     /// In a line that is passed on.
     Kept,
-    /// In a comment.
-    Comment,
-}
-
-impl BarePlace {
-    // Returns whether `byte`, which is read here, is passed on.
-    fn keeps(self, byte: u8) -> bool {
-        match self {
-            BarePlace::Start => byte != LINE_END && byte != COMMENT,
-            BarePlace::Kept => true,
-            BarePlace::Comment => false,
-        }
-    }
-
-    // The place after `byte`.
-    fn after(self, byte: u8) -> BarePlace {
-        if byte == LINE_END {
-            BarePlace::Start
-        } else if self.keeps(byte) {
-            BarePlace::Kept
-        } else {
-            BarePlace::Comment
-        }
-    }
+    /// In a line that isn't.
+    Skipped,
 }
 
 impl<'a, R: Read> BareLines<'a, R> {
@@ -74,35 +53,49 @@ impl<'a, R: Read> BareLines<'a, R> {
         ensures { IfOk result (λ kept. kept ≤ length bytes.new) }
     {
         let mut kept: usize = 0;
-        for at in 0..bytes.len() {
-            let Some(byte) = bytes.get(at).copied() else {
-                break;
-            };
-            if self.place.keeps(byte) {
-                self.note()?;
-                if let Some(slot) = bytes.get_mut(kept) {
-                    *slot = byte;
+        let mut at: usize = 0;
+        while at < bytes.len() {
+            let is_kept = self.enters(bytes[at])?;
+            let end = self.pass(bytes, at);
+            if is_kept {
+                if kept < at {
+                    bytes.copy_within(at..end, kept);
                 }
-                kept = kept.saturating_add(1);
+                kept += end - at;
             }
-            self.pass(byte);
+            at = end;
         }
-        Ok(kept.min(bytes.len()))
+        Ok(kept)
     }
 
-    // Records the line that is read, if it begins here.
-    fn note(&self) -> Result<(), AllocError> {
+    // Enters the line that begins with `byte`, unless it was entered before, and returns whether it
+    // is passed on. Records it if it is.
+    fn enters(&mut self, byte: u8) -> Result<bool, AllocError> {
         if self.place == BarePlace::Start {
-            self.lines.note(self.line, None)?;
+            self.place = if byte == LINE_END || byte == COMMENT {
+                BarePlace::Skipped
+            } else {
+                self.lines.note(self.line, None)?;
+                BarePlace::Kept
+            };
         }
-        Ok(())
+        Ok(self.place == BarePlace::Kept)
     }
 
-    // Goes past `byte`.
-    fn pass(&mut self, byte: u8) {
-        self.place = self.place.after(byte);
-        if byte == LINE_END {
-            self.line = self.line.saturating_add(1);
+    // Goes past those of `bytes` from place `at` on that are of this line, and returns the place
+    // after them.
+    fn pass(&mut self, bytes: &[u8], at: usize) -> usize
+        requires { at < length bytes.now }
+        ensures after { at < result }
+        ensures within { result ≤ length bytes.now }
+    {
+        match memchr(LINE_END, &bytes[at..]) {
+            Some(place) => {
+                self.place = BarePlace::Start;
+                self.line = self.line.saturating_add(1);
+                at + place + 1
+            }
+            None => bytes.len(),
         }
     }
 }

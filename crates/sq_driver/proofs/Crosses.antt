@@ -27,6 +27,7 @@ use Rattle.sq_status.specs.contracts.tree.TreeSeat.TheInside as Held
 use Rattle.sq_status.proofs.tree.StatusTree.TheSendSync as tree
 use Rattle.sq_link.specs.contracts.link.SharedLink as SharedLink
 use Rattle.sq_link.proofs.link.SharedLink.TheSendSync as link
+use Rattle.sq_history.proofs.history.History.TheSendSync as history
 use Rattle.sq_node.specs.contracts.receipt.Receipt as Receipt
 use Rattle.sq_node.proofs.receipt.Receipt.TheSendSync as receipt
 use Rattle.sq_node.specs.contracts.fabric.Fabric as Fabric
@@ -67,7 +68,7 @@ fabric_sync =
                 (
                   vec_sync SharedLink.the_row link.the_sync,
                   (
-                    vec_sync Receipt.the_row receipt.the_sync,
+                    history.the_sync Receipt.the_row receipt.the_send receipt.the_sync,
                     (vec_sync _ (queue_sync Request.the_row request.the_send), (vec_sync _ (queue_sync _ (boxed_send Txn.the_row txn.the_send)), (atomic.the_sync, (atomic.the_sync, tt)))),
                   ),
                 ),

@@ -1,8 +1,7 @@
 -- All workers of a run, once each was driven.
-use Rattle.std.proofs.Common.{◌≡◌, ℕ, ◌<◌, List, [], ◌∷◌, length, get_or, Some, sym, ◌∙◌, subst, arith}
-use Rattle.std.specs.Prelude.{All, slice_get}
+use Rattle.std.proofs.Common.{ℕ, ◌<◌, List, [], ◌∷◌, length, get_or, sym, ◌∙◌, subst, arith}
+use Rattle.std.specs.Prelude.{All}
 use Rattle.std.proofs.lemmas.List.{length-map, get_or-map}
-use Rattle.std.proofs.lemmas.Option.{slice_get_within, slice_get-get_or, get_or_from_slice_get}
 use Rattle.sq_ranges.specs.OpeningValue.{OpeningValue}
 use Rattle.sq_ranges.specs.Opening.{IsOpening}
 use Rattle.sq_node_model.specs.BeganWith.{BeganWith}
@@ -53,11 +52,3 @@ pub all_were_driven : {X : Type 0} (tells : X → ReceiptValue → X → Type 0)
 all_were_driven {X} tells fabric [] new all =
     record { count = length-map new (λ (pair : TellingNode X). pair.node) ∙ all.count; each = λ i d lt. absurd (omega (arith, lt)) }
 all_were_driven tells fabric (one ∷ old) new all = some_driven tells fabric (one ∷ old) new one all
-
--- each worker that there is now was one before, and was driven from there
-pub was_driven : {X : Type 0} (goes : X → X → Type 0) (old new : List X) → length new ≡ length old → ((i : ℕ) (d : X) → i < length old → goes (get_or old i d) (get_or new i d))
-    → (i : ℕ) (now : X) → slice_get new i ≡ Some now → (was : X) × (slice_get old i ≡ Some was) × goes was now
-was_driven goes old new count each i now there =
-    let within = slice_get_within new i now there in
-    let was : i < length old = omega (arith, within, count) in
-    (get_or old i now, slice_get-get_or old i now was, subst (goes (get_or old i now)) (get_or_from_slice_get new i now now there) (each i now was))

@@ -1,75 +1,61 @@
 -- What a teller hears of the receipts of a node that it is driven with, step by step.
-use Rattle.std.proofs.Common.{◌≡◌, Bool, true, ◌+◌, ◌≤◌, arith, List, [], ◌∷◌, ◌++◌, length, refl, sym, ap, ◌∙◌, subst, ◌⊎◌, inl, inr, append_assoc}
-use Rattle.std.proofs.lemmas.List.{append-nil, length-append}
-use Rattle.sq_store.specs.StoreValue.{StoreValue}
-use Rattle.sq_schema.specs.TxnValue.{TxnValue}
-use Rattle.sq_exec.specs.declared.outcome.Outcome.{Outcome}
-use Rattle.sq_exec.specs.declared.outcome.Outcome.TheVariants.{Done, Moved, Waits}
+use Rattle.std.proofs.Common.{◌≡◌, Bool, true, List, [], ◌∷◌, ◌++◌, refl, sym, ap, ◌∙◌, subst, append_assoc}
+use Rattle.std.proofs.lemmas.List.{append-nil}
 use Rattle.sq_node.specs.declared.stepped.Stepped.{Stepped}
 use Rattle.sq_node.specs.declared.stepped.Stepped.TheVariants.{Did, Nothing, Memory}
 use Rattle.sq_node_model.specs.NodeValue.{ReceiptValue}
-use Rattle.sq_node_model.specs.Steps.{receipts_after}
 use Rattle.sq_node.specs.FabricValue.{FabricValue}
 use Rattle.sq_node.specs.NodeState.{NodeState, IsNodeOf}
-use Rattle.sq_node.specs.Steps.{Looks}
+use Rattle.sq_node.specs.Steps.{RequestStep, CutStep, SendStep, RecvStep, LoadStep, CompleteStep, Looks}
 use Rattle.sq_driver.specs.declared.gate.NodeStep.{NodeStep}
-use Rattle.sq_driver.specs.declared.gate.NodeStep.TheVariants.{Job, Request, Cut, Send, Recv, Load, Complete, Resume, Pump, Answered}
 use Rattle.sq_driver.specs.Nodes.{MakesStep}
 use Rattle.sq_driver.specs.Told.{TellsEach, HasTold, DrivenAndTold}
-use Rattle.sq_driver.specs.Laws.{node_no_turn, told_none}
+use Rattle.sq_driver.specs.Laws.{node_no_turn}
 use Rattle.sq_driver.proofs.Driving.{then_step, then_looks}
 
--- at most one receipt was written
-abbrev pub WritesOne : List ReceiptValue → List ReceiptValue → Type 0
-WritesOne old new = (new ≡ old) ⊎ ((receipt : ReceiptValue) × (new ≡ old ++ receipt ∷ []))
+-- a node that is another one with these receipts has written none
+written_none : (old new then : NodeState) → new ≡ then → then.receipts ≡ old.receipts → new.receipts ≡ old.receipts ++ []
+written_none old new then same kept = ap (λ (node : NodeState). node.receipts) same ∙ kept ∙ sym (append-nil old.receipts)
 
-after_outcome : (store : StoreValue) (txn : TxnValue) (outcome : Outcome) (receipts : List ReceiptValue) → WritesOne receipts (receipts_after store txn outcome receipts)
-after_outcome store txn (Done reply) receipts = inr (_, refl)
-after_outcome store txn (Moved who) receipts = inl refl
-after_outcome store txn (Waits seg leaf) receipts = inl refl
+-- only steps on jobs write receipts
+pub request_writes : (old : NodeState) (answer : Stepped) (new : NodeState) → RequestStep old answer new → new.receipts ≡ old.receipts ++ []
+request_writes old Did new made = written_none old new _ made.after refl
+request_writes old Nothing new made = written_none old new _ made.after refl
+request_writes old Memory new made = written_none old new old made refl
 
-written : (old new then : NodeState) → new ≡ then → WritesOne old.receipts then.receipts → WritesOne old.receipts new.receipts
-written old new then same = subst (λ (node : NodeState). WritesOne old.receipts node.receipts) (sym same)
+pub cut_writes : (old : NodeState) (answer : Stepped) (new : NodeState) → CutStep old answer new → new.receipts ≡ old.receipts ++ []
+cut_writes old Did new made = written_none old new _ made.1.after refl
+cut_writes old Nothing new made = written_none old new old made.0 refl
+cut_writes old Memory new made = written_none old new old made refl
 
--- a step writes at most one
-pub step_writes : (fabric : FabricValue) (step : NodeStep) (old : NodeState) (answer : Stepped) (new : NodeState) → MakesStep fabric step old answer new → WritesOne old.receipts new.receipts
-step_writes fabric Job old Did new made = written old new _ made.after (after_outcome old.core.store made.txn made.outcome old.receipts)
-step_writes fabric Job old Nothing new made = written old new old made (inl refl)
-step_writes fabric Job old Memory new made = written old new old made (inl refl)
-step_writes fabric Request old Did new made = written old new _ made.after (inl refl)
-step_writes fabric Request old Nothing new made = written old new _ made.after (inl refl)
-step_writes fabric Request old Memory new made = written old new old made (inl refl)
-step_writes fabric Cut old Did new made = written old new _ made.1.after (inl refl)
-step_writes fabric Cut old Nothing new made = written old new old made.0 (inl refl)
-step_writes fabric Cut old Memory new made = written old new old made (inl refl)
-step_writes fabric Send old Did new made = written old new _ made.1.after (inl refl)
-step_writes fabric Send old Nothing new made = written old new old made.0 (inl refl)
-step_writes fabric Send old Memory new made = absurd made
-step_writes fabric Recv old Did new made = written old new _ made.1.after (inl refl)
-step_writes fabric Recv old Nothing new made = written old new old made.0 (inl refl)
-step_writes fabric Recv old Memory new made = absurd made
-step_writes fabric Load old Did new made = written old new _ made.1.after (inl refl)
-step_writes fabric Load old Nothing new made = written old new old made.0 (inl refl)
-step_writes fabric Load old Memory new made = written old new old made (inl refl)
-step_writes fabric Complete old Did new made = written old new _ made.after (inl refl)
-step_writes fabric Complete old Nothing new made = written old new _ made.0.after (inl refl)
-step_writes fabric Complete old Memory new made = absurd made
-step_writes fabric Resume old Did new made = written old new _ made.after (after_outcome old.core.store made.resumed.txn made.resumed.outcome old.receipts)
-step_writes fabric Resume old Nothing new made = written old new old made.0 (inl refl)
-step_writes fabric Resume old Memory new made = written old new old made (inl refl)
-step_writes fabric Pump old answer new made = written old new old made.1 (inl refl)
-step_writes fabric Answered old answer new made = written old new old made.1 (inl refl)
+pub send_writes : (fabric : FabricValue) (old : NodeState) (answer : Stepped) (new : NodeState) → SendStep fabric old answer new → new.receipts ≡ old.receipts ++ []
+send_writes fabric old Did new made = written_none old new _ made.1.after refl
+send_writes fabric old Nothing new made = written_none old new old made.0 refl
+send_writes fabric old Memory new made = absurd made
 
-longer : (old new : List ReceiptValue) (receipt : ReceiptValue) → new ≡ old ++ receipt ∷ [] → length new ≡ length old + 1
-longer old new receipt grown = ap length grown ∙ length-append old (receipt ∷ [])
+pub recv_writes : (old : NodeState) (answer : Stepped) (new : NodeState) → RecvStep old answer new → new.receipts ≡ old.receipts ++ []
+recv_writes old Did new made = written_none old new _ made.1.after refl
+recv_writes old Nothing new made = written_none old new old made.0 refl
+recv_writes old Memory new made = absurd made
 
--- there are no more receipts than there were
-pub told_nothing : {X : Type 0} (tells : X → ReceiptValue → X → Type 0) (old new : List ReceiptValue) (teller : X)
-    → WritesOne old new → length new ≤ length old → HasTold tells old teller new teller
-told_nothing tells old new teller (inl same) few =
-    subst (λ (receipts : List ReceiptValue). HasTold tells old teller receipts teller) (sym same) (told_none tells old teller)
-told_nothing tells old new teller (inr (receipt, grown)) few =
-    let long : length new ≡ length old + 1 = longer old new receipt grown in absurd (omega (arith, few, long))
+pub load_writes : (old : NodeState) (answer : Stepped) (new : NodeState) → LoadStep old answer new → new.receipts ≡ old.receipts ++ []
+load_writes old Did new made = written_none old new _ made.1.after refl
+load_writes old Nothing new made = written_none old new old made.0 refl
+load_writes old Memory new made = written_none old new old made refl
+
+pub complete_writes : (old : NodeState) (answer : Stepped) (new : NodeState) → CompleteStep old answer new → new.receipts ≡ old.receipts ++ []
+complete_writes old Did new made = written_none old new _ made.after refl
+complete_writes old Nothing new made = written_none old new _ made.0.after refl
+complete_writes old Memory new made = absurd made
+
+-- no receipt was written, and none told
+pub told_nothing : {X : Type 0} (tells : X → ReceiptValue → X → Type 0) (old new : List ReceiptValue) (teller : X) → new ≡ old ++ [] → HasTold tells old teller new teller
+told_nothing tells old new teller same = record { more = []; written = same; told = refl }
+
+-- one was written and told
+pub told_one : {X : Type 0} (tells : X → ReceiptValue → X → Type 0) (old new : List ReceiptValue) (receipt : ReceiptValue) (before after : X)
+    → new ≡ old ++ receipt ∷ [] → tells before receipt after → HasTold tells old before new after
+told_one tells old new receipt before after grown told = record { more = receipt ∷ []; written = grown; told = (after, told, refl) }
 
 -- one step, and the teller heard what it wrote
 pub telling_step : {X : Type 0} (tells : X → ReceiptValue → X → Type 0) (fabric : FabricValue) (step : NodeStep)

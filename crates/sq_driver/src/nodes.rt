@@ -1,14 +1,14 @@
 // Driving nodes.
-ghost use Rattle.std.specs.Prelude.{◌≡◌};
+ghost use Rattle.std.specs.Prelude.{◌≡◌, ◌++◌, option_to_list};
 ghost use Rattle.sq_node.specs.Prelude.{IsNodeOf};
-ghost use Rattle.sq_driver.specs.Nodes.{MakesStep, Driven};
+ghost use Rattle.sq_driver.specs.Nodes.{MakesStep};
 ghost use Rattle.sq_driver.specs.Told.{HasTold, DrivenAndTold, DrivenTelling};
 
 use crate::attendance::Attendance;
 use crate::gate::{Gate, NodeStep, OwnGate, WorkerEvent};
-use crate::teller::{NoTeller, Teller, TellingNode};
+use crate::teller::{Teller, TellingNode};
 use crate::worker::{Turn, Worker, take_turns};
-use sq_node::{Effort, Fabric, Node, Stepped};
+use sq_node::{Effort, Fabric, Node, Receipt, Stepped};
 use std::sync::Wait;
 
 // The steps of a turn, in their order. A second chunk is cut and sent, so that the link fills up
@@ -32,36 +32,6 @@ const JOBS_AT_REST: usize = 32;
 // How many times as much work a node does for jobs as for chunks in a turn, if it has that many
 // jobs.
 const JOBS_FOR_CHUNKS: u64 = 3;
-
-impl Worker for Node {
-    ghost use Rattle.sq_node.specs.Prelude.{IsNodeOf};
-    ghost use Rattle.sq_driver.specs.Nodes.{Driven};
-    ghost use Rattle.sq_driver.specs.Laws.{node_no_turn, node_stays, node_further};
-
-    ghost IsOf = { IsNodeOf };
-
-    ghost Driven = { Driven };
-
-    fn number_in(&self, _fabric: &Fabric) -> u64 {
-        number_of(self)
-    }
-
-    fn come(&self, attendance: &Attendance) {
-        attendance.note_node();
-    }
-
-    fn begin(&mut self, _fabric: &Fabric) {}
-
-    fn take_turn<R: Wait, G: OwnGate>(&mut self, rt: &R, fabric: &Fabric, gate: &G) -> Turn {
-        take_node_turn(rt, fabric, self, &mut NoTeller, gate)
-    }
-
-    ghost no_turn = { node_no_turn };
-
-    ghost stays = { node_stays };
-
-    ghost further = { node_further };
-}
 
 impl<T: Teller> Worker for TellingNode<T> {
     ghost use Rattle.sq_node.specs.Prelude.{IsNodeOf};
@@ -95,27 +65,21 @@ impl<T: Teller> Worker for TellingNode<T> {
         first.node first.teller old.node old.teller new.node new.teller was more };
 }
 
-/// Drives a node for at most `turns` turns. In a turn it performs each step once, and cuts and
-/// sends a second chunk. It takes no request while it has something to cut or to send, and so still
-/// serves the keys that no pull has taken. After it cut or loaded a chunk, it continues with jobs
-/// until it has done three times as much work for them as for chunks, or finds none.
+/// Drives a node with its teller for at most `turns` turns. In a turn it performs each step once,
+/// and cuts and sends a second chunk. It takes no request while it has something to cut or to send,
+/// and so still serves the keys that no pull has taken. After it cut or loaded a chunk, it
+/// continues with jobs until it has done three times as much work for them as for chunks, or finds
+/// none.
 ///
 /// It ends earlier if it is idle, unless the gate lets idle nodes continue. It also ends if the
 /// gate says so, which is asked before each step and after each receipt ([`NodeStep::Answered`]),
 /// and once it has lacked memory for about 3 seconds and done nothing else. The gate is told of
 /// each step that did something, and each time that the node rests after a turn without work, when
 /// it may delay the node.
-pub fn drive<R: Wait, G: Gate>(rt: &R, fabric: &Fabric, node: &mut Node, turns: u64, gate: &G)
-    requires { IsNodeOf fabric.now node.old }
-    ensures { Driven fabric.now node.old node.new }
-{
-    take_turns(rt, fabric, node, turns, gate, &Attendance::alone());
-}
-
-/// Drives a node with its teller, as [`drive`] does. The teller is given each receipt that the node
-/// writes, once, in their order, and nothing else: right after the step that wrote the receipt,
-/// before the gate is told of it.
-pub fn drive_telling<T: Teller, R: Wait, G: Gate>(
+///
+/// The teller is given each receipt that the node writes, once, in their order, and nothing else:
+/// right after the step that wrote the receipt, before the gate is told of it.
+pub fn drive<T: Teller, R: Wait, G: Gate>(
     rt: &R,
     fabric: &Fabric,
     pair: &mut TellingNode<T>,
@@ -190,7 +154,8 @@ fn take_rest_turn<T: Teller, R: Wait, G: OwnGate>(
             Turn::Worked => turn = Turn::Worked,
             ended => return turn.and(ended),
         }
-        // So that jobs for another partition wait in its queue, and no more of them here than come in a turn.
+        // So that jobs for another partition wait in its queue, and no more of them here than come
+        // in a turn.
         if !node.has_forwarded() {
             return turn;
         }
@@ -266,33 +231,36 @@ fn try_step<T: Teller, R: Wait, G: OwnGate>(
     if !gate.lets_pass(number_of(node), step) {
         return Turn::Ended;
     }
-    let receipts = node.receipts().len();
     let before = node.effort();
-    match step_and_tell(rt, fabric, node, teller, step) {
-        Stepped::Did => report(gate, node, event_of(node, step, receipts, before)),
+    let (stepped, has_answered) = step_and_tell(rt, fabric, node, teller, step);
+    match stepped {
+        Stepped::Did => report(gate, node, event_of(node, step, has_answered, before)),
         Stepped::Nothing => Turn::Rested,
         Stepped::Memory => Turn::Lacked,
     }
 }
 
-// Performs a step of a node, and gives its teller the receipt, if it wrote one.
+// Performs a step of a node, and gives its teller the receipt, if it wrote one. Returns whether it
+// did, too.
 fn step_and_tell<T: Teller, R: Wait>(
     rt: &R,
     fabric: &Fabric,
     node: &mut Node,
     teller: &mut T,
     step: NodeStep,
-) -> Stepped
+) -> (Stepped, bool)
     requires { IsNodeOf fabric.now node.old }
-    ensures made { MakesStep fabric.now step node.old result node.new }
+    ensures made { MakesStep fabric.now step node.old result.0 node.new }
     ensures told { HasTold T.Tells node.old.receipts teller.old node.new.receipts teller.new }
 {
-    let receipts = node.receipts().len();
-    let stepped = make_step(rt, fabric, node, step);
-    if let Some(receipt) = node.receipts().get(receipts) {
-        teller.tell(rt, receipt);
+    let (stepped, receipt) = make_step(rt, fabric, node, step);
+    match receipt {
+        Some(receipt) => {
+            teller.tell(rt, receipt);
+            (stepped, true)
+        }
+        None => (stepped, false),
     }
-    stepped
 }
 
 // Tells the gate what a node did in a step. If the step wrote a receipt, the gate decides whether
@@ -313,10 +281,10 @@ fn number_of(node: &Node) -> u64
     u64::from(node.part().number())
 }
 
-// Returns what the gate is told of a step that did something. Before the step the node had
-// `receipts` receipts, and had done the work `before`.
-fn event_of(node: &Node, step: NodeStep, receipts: usize, before: Effort) -> WorkerEvent {
-    if node.receipts().len() != receipts {
+// Returns what the gate is told of a step that did something; `has_answered` says whether it wrote
+// a receipt. Before the step the node had done the work `before`.
+fn event_of(node: &Node, step: NodeStep, has_answered: bool, before: Effort) -> WorkerEvent {
+    if has_answered {
         return WorkerEvent::Answered(step);
     }
     let now = node.effort();
@@ -335,20 +303,27 @@ fn event_of(node: &Node, step: NodeStep, receipts: usize, before: Effort) -> Wor
     WorkerEvent::Made(step)
 }
 
-// Performs a step of a node. `Pump` and `Answered` are not steps of a node.
-fn make_step<R: Wait>(rt: &R, fabric: &Fabric, node: &mut Node, step: NodeStep) -> Stepped
+// Performs a step of a node, and returns the receipt, if it wrote one. `Pump` and `Answered` are
+// not steps of a node.
+fn make_step<R: Wait>(
+    rt: &R,
+    fabric: &Fabric,
+    node: &mut Node,
+    step: NodeStep,
+) -> (Stepped, Option<Receipt>)
     requires { IsNodeOf fabric.now node.old }
-    ensures { MakesStep fabric.now step node.old result node.new }
+    ensures step { MakesStep fabric.now step node.old result.0 node.new }
+    ensures receipt { node.new.receipts ≡ node.old.receipts ++ option_to_list result.1 }
 {
     match step {
         NodeStep::Job => node.step_job(rt, fabric),
-        NodeStep::Request => node.step_request(rt, fabric),
-        NodeStep::Cut => node.step_cut(),
-        NodeStep::Send => node.step_send(rt, fabric),
-        NodeStep::Recv => node.step_recv(rt, fabric),
-        NodeStep::Load => node.step_load(fabric),
-        NodeStep::Complete => node.step_complete(fabric),
+        NodeStep::Request => (node.step_request(rt, fabric), None),
+        NodeStep::Cut => (node.step_cut(), None),
+        NodeStep::Send => (node.step_send(rt, fabric), None),
+        NodeStep::Recv => (node.step_recv(rt, fabric), None),
+        NodeStep::Load => (node.step_load(fabric), None),
+        NodeStep::Complete => (node.step_complete(fabric), None),
         NodeStep::Resume => node.step_resume(rt, fabric),
-        NodeStep::Pump | NodeStep::Answered => Stepped::Nothing,
+        NodeStep::Pump | NodeStep::Answered => (Stepped::Nothing, None),
     }
 }

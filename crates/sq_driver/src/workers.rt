@@ -2,7 +2,6 @@
 ghost use Rattle.std.specs.Prelude.{All};
 ghost use Rattle.sq_node.specs.Prelude.{IsNodeOf};
 ghost use Rattle.sq_driver.specs.Ways.{EachDriven};
-ghost use Rattle.sq_driver.specs.Nodes.{AllDriven};
 ghost use Rattle.sq_driver.specs.Told.{AllDrivenTelling};
 ghost use Rattle.sq_driver.specs.Pumps.{HasAllSeats, AllPumpsDriven};
 
@@ -10,41 +9,21 @@ use crate::attendance::{Attendance, WorkersEnd};
 use crate::gate::{Gate, OwnGate};
 use crate::teller::{Teller, TellingNode};
 use crate::worker::{Worker, take_turns};
-use sq_node::{Fabric, Node};
+use sq_node::Fabric;
 use sq_pull::Pump;
 use std::sync::Wait;
 use std::thread;
 use std::thread::{Threads, join_mut};
 
-/// Drives each node and each pump in a thread of its own, with `turns` turns each, and returns how
-/// they ended. When it returns, all of them have ended, and the run takes no more jobs until
-/// [`Fabric::open_jobs`].
+/// Drives each node, with its teller, and each pump in a thread of its own, with `turns` turns
+/// each, and returns how they ended. When it returns, all of them have ended, and the run takes no
+/// more jobs until [`Fabric::open_jobs`]. A teller is given each receipt that its node writes,
+/// once, in their order, and nothing else, in the thread that drives the node.
 ///
 /// If the system grants fewer threads, workers run one after another. All give up once one of them
 /// has had no work for about 3 seconds while a node or all pumps have no thread, or once one of
 /// them has lacked memory for as long and could do nothing meanwhile.
-pub fn run_workers<R: Threads + Wait + Sync, G: Gate>(
-    rt: &R,
-    fabric: &Fabric,
-    nodes: &mut [Node],
-    pumps: &mut [Pump],
-    turns: u64,
-    gate: &G,
-) -> WorkersEnd
-    requires nodes { All (IsNodeOf fabric.now) nodes.old }
-    requires pumps { All (HasAllSeats fabric.now) pumps.old }
-    ensures nodes { AllDriven fabric.now nodes.old nodes.new }
-    ensures pumps { AllPumpsDriven fabric.now pumps.old pumps.new }
-{
-    let attendance = Attendance::new(nodes.len(), pumps.len());
-    run_all(rt, fabric, nodes, pumps, turns, gate, &attendance);
-    attendance.end()
-}
-
-/// Drives each node, with its teller, and each pump, as [`run_workers`] does. A teller is given
-/// each receipt that its node writes, once, in their order, and nothing else, in the thread that
-/// drives the node.
-pub fn run_telling<T: Teller + Send, R: Threads + Wait + Sync, G: Gate>(
+pub fn run_workers<T: Teller + Send, R: Threads + Wait + Sync, G: Gate>(
     rt: &R,
     fabric: &Fabric,
     pairs: &mut [TellingNode<T>],

@@ -1,146 +1,143 @@
--- What the pages of an engine say together: each job that was posted is on one of them, or is left to the last.
-use Rattle.std.proofs.Common.{◌≡◌, ◌⊎◌, ⊎_elim, inl, inr, ◌+◌, Bool, true, false, List, [], ◌∷◌, Contains, refl, sym, ap, ◌∙◌, subst}
-use Rattle.std.specs.Prelude.{not}
-use Rattle.std.proofs.lemmas.List.Elements.{Contains-append_left}
-use Rattle.sq_ranges.specs.OpeningValue.{OpeningValue}
-use Rattle.sq_ranges.specs.Opening.{IsOpening}
-use Rattle.sq_model.proofs.Lists.{Contains-cases, Contains-first, Contains-later, Contains-nothing, Contains-filter}
+-- How an engine ends that is closed.
+use Rattle.std.proofs.Common.{◌≡◌, ◌+◌, ◌==◌, Bool, true, false, true≢false, List, [], ◌∷◌, ◌++◌, length, refl, sym, ap, ◌∙◌, subst, arith}
+use Rattle.std.specs.Prelude.{◌&&◌, cond, if◌then◌else◌, is_some}
+use Rattle.sq_gather.specs.Prelude.{one_if}
+use Rattle.std.specs.List.Sorted.{IsPermutation}
+use Rattle.std.proofs.lemmas.Bool.{and_parts, eqb-true}
+use Rattle.std.proofs.lemmas.List.{append-nil, nil_from_length}
+use Rattle.std.proofs.lemmas.List.Sorted.{sum_by-IsPermutation}
+use Rattle.sq_schema.specs.Table.{TableValue}
+use Rattle.sq_schema.specs.Effect.{RowList, replay_rows}
+use Rattle.sq_model.specs.Tables.{opening_rows}
+use Rattle.sq_node_model.specs.NodeValue.{ReceiptValue}
+use Rattle.sq_node_model.specs.Receipts.{is_commit}
 use Rattle.sq_node_model.specs.declared.spot.Spot.TheVariants.{Store}
-use Rattle.sq_node_model.specs.Gathered.{GatheredValue}
+use Rattle.sq_node_model.specs.Folded.{folded_opening}
 use Rattle.sq_node_model.proofs.Next.{stands_next}
-use Rattle.sq_audit.specs.declared.job.Job.{Job}
-use Rattle.sq_audit.specs.declared.verdict.Verdict.{Verdict}
-use Rattle.sq_audit.specs.Folding.{has_receipt}
-use Rattle.sq_audit.specs.Sound.{IsSoundRun}
-use Rattle.sq_audit.specs.Defects.{IsVerdict}
-use Rattle.sq_page.specs.Pages.{IsPageOf, SpeaksForRuns}
-use Rattle.sq_page.proofs.Last.{owner_last}
-use Rattle.sq_engine.specs.Values.{PauseValue}
-use Rattle.sq_engine.specs.History.{StartValue, Episode, EpochEnded, PageTaken, pause_after, IsLastStage, HasDoneStage, Follows, HasLeft, IsLeftByPage, HaveCome}
-use Rattle.sq_engine.specs.Ending.{latest_pause, paged, page_jobs, AllSound, EndsItsMove, IsSoundEngine, SpeaksForPause, EngineEndsAsPlanned}
-use Rattle.sq_engine.proofs.Epochs.{placed_there}
-use Rattle.sq_engine.proofs.Logs.{IsDone, rows_with, rows_so_far, paged_done, commits_name, commits_all}
+use Rattle.sq_audit.specs.declared.verdict.Verdict.TheVariants.{Sound, Unsound}
+use Rattle.sq_audit.specs.declared.verdict.Defect.TheVariants as defect
+use Rattle.sq_engine.specs.declared.event.Event.{Event}
+use Rattle.sq_engine.specs.declared.event.Event.TheVariants.{Posts, Refuses, Answers, Drops, Loses, Rests, Ends, MovesTo}
+use Rattle.sq_engine.specs.Events.{answers_in, arrivals_in, are_known, are_whole}
+use Rattle.sq_engine.specs.Open.{OpenJobsValue, JobMap, job_at}
+use Rattle.sq_engine.specs.Values.{EngineValue, AtValue, Between}
+use Rattle.sq_engine.specs.History.{Stands}
+use Rattle.sq_engine.specs.Engine.{receipts_in, AreReceipts, IsReached, EndsMove, verdict_on}
+use Rattle.sq_engine.specs.Ending.{family_after, EndsAsPlanned, HasAnsweredAll, LogsHoldCommits}
+use Rattle.sq_engine.proofs.Committed.{logs_hold_commits}
+use Rattle.sq_engine.proofs.Epochs.{between_placed, between_rows}
+use Rattle.sq_engine.proofs.Jobs.{one_answer}
+use Rattle.sq_engine.proofs.Last.{owner_last}
+use Rattle.sq_engine.proofs.Logs.{base_is}
 
--- the job is on the page of one of these pauses
-abbrev HasPage : List PauseValue → Job → Type 0
-HasPage pauses job = (pause : PauseValue) × Contains pauses pause × Contains (page_jobs pause) job
+module _ (engine : EngineValue) (reached : IsReached engine) (move : EndsMove engine) where
+  stands : Stands engine.first reached.past engine.opening (Between move.gathered false)
+  stands = subst (λ (a : AtValue). Stands engine.first reached.past engine.opening a) move.at reached.stands
 
--- an epoch begins with the jobs of the pause before it
-start_jobs : (pause : PauseValue) (start : StartValue) → Follows pause start → start.jobs ≡ pause.jobs
-start_jobs pause start follows =
-    ⊎_elim (λ next. ap (λ (s : StartValue). s.jobs) next.1) (λ move. ap (λ (s : StartValue). s.jobs) move.2) follows.1
+  written : AreReceipts engine.jobs.events move.gathered.receipts
+  written = subst (λ (a : AtValue). AreReceipts engine.jobs.events (receipts_in a)) move.at reached.written
 
-still_posted : (pause new : PauseValue) (start : StartValue) (job : Job) → Follows pause start → HasLeft start new → Contains pause.jobs job → Contains new.jobs job
-still_posted pause new start job follows left has =
-    let grown = left.jobs in
-    subst (λ (list : List Job). Contains list job) (sym grown.1)
-    (Contains-append_left start.jobs grown.0 job (subst (λ (list : List Job). Contains list job) (sym (start_jobs pause start follows)) has))
+  -- an engine that is closed ended as planned
+  pub ends_as_planned : EndsAsPlanned engine
+  ends_as_planned =
+      let g = move.gathered in
+      let o = engine.opening in
+      let is = reached.set_up.opening in
+      let placed = between_placed engine.first reached.past o g stands in
+      let table = between_rows engine.first reached.past o g stands in
+      record {
+        gathered = g;
+        at = move.at;
+        plan = reached.plan;
+        owned = λ spot root family there.
+            stands_next o is g placed move.done spot root family there
+            ∙ ap (λ part. Store part) (owner_last o is (g.stage + 1) root move.last);
+        rows = λ root.
+            let log = (family_after o g root).log in
+            ap (λ (base : RowList). replay_rows base log)
+            (base_is o g is placed move.done root ∙ ap (λ (rows : TableValue). opening_rows (folded_opening o rows) root) table);
+        named = placed.named;
+        told = placed.told;
+        aborted = placed.aborted;
+        written = written;
+        answered = λ id. one_answer engine.jobs.events engine.jobs.unanswered id reached.open_jobs;
+      }
 
--- a page takes the jobs that have a receipt, and leaves the others
-paged_or_left : (pause new : PauseValue) (pauses : List PauseValue) (job : Job) → IsLeftByPage pause new → Contains pause.jobs job
-    → HasPage (pause ∷ pauses) job ⊎ Contains new.jobs job
-paged_or_left pause new pauses job page has = by (has_receipt pause.gathered.receipts job) refl
+-- if no receipt was dropped, what arrived was given
+known_given : (events : List Event) → are_known events ≡ true → arrivals_in events ≡ answers_in events
+known_given [] known = refl
+known_given (Answers part receipt ∷ more) known = ap (λ (list : List ReceiptValue). receipt ∷ list) (known_given more known)
+known_given (Drops part receipt ∷ more) known = absurd (true≢false (sym known))
+known_given (Posts job ∷ more) known = known_given more known
+known_given (Refuses job fault ∷ more) known = known_given more known
+known_given (Loses ∷ more) known = known_given more known
+known_given (Rests ∷ more) known = known_given more known
+known_given (Ends ∷ more) known = known_given more known
+known_given (MovesTo plan ∷ more) known = known_given more known
+
+-- what a sound verdict says
+pub record IsSound (jobs : OpenJobsValue) : Type 0 where
+  pub known : are_known jobs.events ≡ true
+  pub none_open : jobs.unanswered ≡ []
+  pub whole : are_whole jobs.events ≡ true
+
+pub sound_means : (jobs : OpenJobsValue) → verdict_on jobs ≡ Sound → IsSound jobs
+sound_means jobs sound = by (are_known jobs.events) refl ((length jobs.unanswered == 0) && are_whole jobs.events) refl
   where
-    by : (told : Bool) → has_receipt pause.gathered.receipts job ≡ told → HasPage (pause ∷ pauses) job ⊎ Contains new.jobs job
-    by true told = inl (pause, Contains-first pause pauses, Contains-filter (has_receipt pause.gathered.receipts) pause.jobs job has told)
-    by false told =
-        inr (subst (λ (list : List Job). Contains list job) (sym page.jobs)
-        (Contains-filter (λ (j : Job). not (has_receipt pause.gathered.receipts j)) pause.jobs job has (ap not told)))
-
-module _ (o : OpeningValue) where
-  -- each job that was posted is on a page, or is left after the latest episode
-  jobs_paged : (earlier : List Episode) (episode : Episode) → HaveCome o (episode ∷ earlier) → (other : Episode) (job : Job)
-      → Contains (episode ∷ earlier) other → Contains (pause_after other).jobs job
-      → HasPage (paged (episode ∷ earlier)) job ⊎ Contains (pause_after episode).jobs job
-  jobs_paged [] episode come other job there has =
-      ⊎_elim
-      (λ same. inr (subst (λ (e : Episode). Contains (pause_after e).jobs job) (sym same) has))
-      (λ none. absurd (Contains-nothing other none))
-      (Contains-cases episode [] other there)
-  jobs_paged (before ∷ earlier) (EpochEnded pause) come other job there has =
-      ⊎_elim
-      (λ same. inr (subst (λ (e : Episode). Contains (pause_after e).jobs job) (sym same) has))
-      (λ later.
-      ⊎_elim
-      (λ on. inl on)
-      (λ left. inr (still_posted (pause_after before) pause come.1.0 job come.1.1 come.1.2 left))
-      (jobs_paged earlier before come.0 other job later has))
-      (Contains-cases (EpochEnded pause) (before ∷ earlier) other there)
-  jobs_paged (before ∷ earlier) (PageTaken pause) come other job there has =
-      ⊎_elim
-      (λ same. inr (subst (λ (e : Episode). Contains (pause_after e).jobs job) (sym same) has))
-      (λ later.
-      ⊎_elim
-      (λ on. inl (on.0, Contains-later (pause_after before) (paged (before ∷ earlier)) on.0 on.1, on.2))
-      (λ left. paged_or_left (pause_after before) pause (paged (before ∷ earlier)) job come.1 left)
-      (jobs_paged earlier before come.0 other job later has))
-      (Contains-cases (PageTaken pause) (before ∷ earlier) other there)
-
-  module _ (earlier : List Episode) (episode : Episode) (come : HaveCome o (episode ∷ earlier)) (is : IsOpening (pause_after episode).opening)
-      (done : HasDoneStage (pause_after episode)) (last : IsLastStage (pause_after episode)) where
-    -- where each page is sound and what is left is, the engine ends as planned
-    pub ends_as_planned : AllSound (paged (episode ∷ earlier))
-        → IsSoundRun (pause_after episode).opening (pause_after episode).gathered (pause_after episode).jobs → EngineEndsAsPlanned o (episode ∷ earlier) (pause_after episode)
-    ends_as_planned pages sound =
-        let here = pause_after episode in
-        let g = here.gathered in
-        let at : IsDone here = record { is = is; placed = sound.placed; done = done } in
-        let all_done : (pause : PauseValue) → Contains (here ∷ paged (episode ∷ earlier)) pause → IsDone pause = λ pause has.
-        ⊎_elim
-        (λ same. subst IsDone same at)
-        (λ later. paged_done o earlier episode come pause later)
-        (Contains-cases here (paged (episode ∷ earlier)) pause has) in
+    by : (known : Bool) → are_known jobs.events ≡ known → (all : Bool) → ((length jobs.unanswered == 0) && are_whole jobs.events) ≡ all → IsSound jobs
+    by false unknown all is =
+        let verdict : verdict_on jobs ≡ Unsound defect.ReceiptUnknown =
+        ap (λ (b : Bool). if b then (if (length jobs.unanswered == 0) && are_whole jobs.events then Sound else Unsound defect.Unanswered) else Unsound defect.ReceiptUnknown) unknown in
+        let same : Unsound defect.ReceiptUnknown ≡ Sound = sym verdict ∙ sound in
+        absurd cc
+    by true known false not_all =
+        let verdict : verdict_on jobs ≡ Unsound defect.Unanswered =
+        ap (λ (b : Bool). if b then (if (length jobs.unanswered == 0) && are_whole jobs.events then Sound else Unsound defect.Unanswered) else Unsound defect.ReceiptUnknown) known
+        ∙ ap (λ (b : Bool). if b then Sound else Unsound defect.Unanswered) not_all in
+        let same : Unsound defect.Unanswered ≡ Sound = sym verdict ∙ sound in
+        absurd cc
+    by true known true all =
+        let parts = and_parts (length jobs.unanswered == 0) (are_whole jobs.events) all in
         record {
-          owned = λ spot root family stands.
-              stands_next here.opening is g sound.placed done spot root family stands
-              ∙ ap (λ part. Store part) (owner_last here.opening is (g.stage + 1) root last);
-          rows = λ root. rows_with o here (paged (episode ∷ earlier)) root at (rows_so_far o earlier episode come root);
-          commits = λ pause has root position. commits_name pause (all_done pause has) root position;
-          committed = λ root. commits_all (here ∷ paged (episode ∷ earlier)) root all_done;
-          known = λ pause has. (pages pause has).known;
-          last_known = sound.known;
-          answered = λ other job there has.
-              ⊎_elim
-              (λ on. inl (on.0, on.1, (on.2, (pages on.0 on.1).answered job on.2)))
-              (λ left. inr (left, sound.answered job left))
-              (jobs_paged earlier episode come other job there has);
+          known = known;
+          none_open = nil_from_length jobs.unanswered (eqb-true (length jobs.unanswered) 0 parts.0);
+          whole = parts.1;
         }
 
-    -- what the audit of a page says is the verdict on what the engine had
-    pub page_speaks : (page : GatheredValue) (jobs : List Job) (verdict : Verdict) → IsPageOf (pause_after episode).gathered page
-        → SpeaksForRuns (pause_after episode).opening.new page jobs verdict
-        → IsVerdict (pause_after episode).opening (pause_after episode).gathered jobs verdict
-    page_speaks page jobs verdict of speaks =
-        let here = pause_after episode in
-        (speaks here.opening here.gathered is (placed_there o earlier episode come) done of
-        (record { parts = is.parts; owners = λ root. sym (owner_last here.opening is (here.gathered.stage + 1) root last) })).0
+module _ (engine : EngineValue) (reached : IsReached engine) (move : EndsMove engine) (sound : verdict_on engine.jobs ≡ Sound) where
+  -- what a sound engine's clients were given are all receipts
+  given_all : IsPermutation (answers_in engine.jobs.events) move.gathered.receipts
+  given_all =
+      let is = sound_means engine.jobs sound in
+      let events = engine.jobs.events in
+      let all = written engine reached move in
+      subst (λ (list : List ReceiptValue). IsPermutation list move.gathered.receipts)
+      (ap (λ (lost : List ReceiptValue). arrivals_in events ++ lost) (all.none_lost is.whole)
+      ∙ append-nil (arrivals_in events) ∙ known_given events is.known)
+      all.all
 
--- the latest of the episodes ended with this pause
-ended_with : (earlier : List Episode) (episode : Episode) (pause : PauseValue) → latest_pause (episode ∷ earlier) ≡ pause ∷ [] → pause_after episode ≡ pause
-ended_with earlier episode pause latest = cc
+  -- a sound engine has answered all
+  pub answered_all : HasAnsweredAll engine
+  answered_all = record {
+    gathered = move.gathered;
+    at = move.at;
+    receipts = given_all;
+    each = λ id.
+        let one = one_answer engine.jobs.events engine.jobs.unanswered id reached.open_jobs in
+        let none : one_if (is_some (job_at engine.jobs.unanswered id)) ≡ 0 =
+        ap (λ (jobs : JobMap). one_if (is_some (job_at jobs id))) (sound_means engine.jobs sound).none_open in
+        omega (arith, one, none);
+  }
 
--- so it is at a pause after the last stage of a move, whichever episode that was
-pub ends_at : (o : OpeningValue) (past : List Episode) (pause : PauseValue) → EndsItsMove o past pause → IsSoundEngine past pause → EngineEndsAsPlanned o past pause
-ends_at o [] pause ends sound = absurd (let latest = ends.latest in cc)
-ends_at o (episode ∷ earlier) pause ends sound =
-    let same = ended_with earlier episode pause ends.latest in
-    subst (EngineEndsAsPlanned o (episode ∷ earlier)) same
-    (ends_as_planned o earlier episode ends.come
-    (subst (λ (p : PauseValue). IsOpening p.opening) (sym same) ends.opening)
-    (subst HasDoneStage (sym same) ends.done)
-    (subst IsLastStage (sym same) ends.last)
-    sound.pages
-    (subst (λ (p : PauseValue). IsSoundRun p.opening p.gathered p.jobs) (sym same) sound.rest))
-
-pub page_speaks_at : (o : OpeningValue) (past : List Episode) (pause : PauseValue) (page : GatheredValue) → EndsItsMove o past pause → IsPageOf pause.gathered page → SpeaksForPause pause page
-page_speaks_at o [] pause page ends of = absurd (let latest = ends.latest in cc)
-page_speaks_at o (episode ∷ earlier) pause page ends of =
-    let same = ended_with earlier episode pause ends.latest in
-    subst (λ (p : PauseValue). SpeaksForPause p page) same
-    (λ jobs verdict speaks. page_speaks o earlier episode ends.come
-    (subst (λ (p : PauseValue). IsOpening p.opening) (sym same) ends.opening)
-    (subst HasDoneStage (sym same) ends.done)
-    (subst IsLastStage (sym same) ends.last)
-    page jobs verdict
-    (subst (λ (p : PauseValue). IsPageOf p.gathered page) (sym same) of)
-    speaks)
+  -- its logs hold as many transactions as it gave answers of commits
+  pub logs_committed : LogsHoldCommits engine
+  logs_committed =
+      let g = move.gathered in
+      let o = engine.opening in
+      let placed = between_placed engine.first reached.past o g (stands engine reached move) in (
+        g,
+        move.at,
+        logs_hold_commits o g reached.set_up.opening placed move.done
+            ∙ sum_by-IsPermutation (λ (receipt : ReceiptValue). cond (is_commit receipt.reply) 1 0)
+            (answers_in engine.jobs.events) g.receipts given_all,
+      )

@@ -1,9 +1,12 @@
+pub mod Events
+pub mod Open
+pub mod Clients
+pub mod Progress
+pub mod Rings
+pub mod Telling
+pub mod Crew
 pub mod Values
+pub mod Serving
 pub mod History
-pub mod Outcomes
 pub mod Engine
-pub mod Taken
 pub mod Ending
-pub mod Served
-pub mod Told
-pub mod Verdicts

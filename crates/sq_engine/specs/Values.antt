@@ -1,42 +1,59 @@
--- An engine as a value: in an epoch, and between two epochs.
-use Rattle.std.specs.Prelude.{ℕ, List, ◌++◌}
+-- An engine as a value.
+use Rattle.std.specs.Prelude.{◌≡◌, Bool, true, false, List, ◌++◌}
 use Rattle.std.specs.List.{flat_map}
 use Rattle.sq_ranges.specs.OpeningValue.{OpeningValue}
 use Rattle.sq_pull.specs.Pump.{PumpValue}
 use Rattle.sq_node_model.specs.NodeValue.{ReceiptValue}
 use Rattle.sq_node_model.specs.Gathered.{GatheredValue}
+use Rattle.sq_node_model.specs.Folded.{folded_opening}
 use Rattle.sq_node.specs.FabricValue.{FabricValue}
 use Rattle.sq_node.specs.NodeState.{NodeState}
-use Rattle.sq_audit.specs.declared.job.Job.{Job}
-use Rattle.sq_epoch.specs.Progress.{complete_segments_in}
+use Rattle.sq_engine.specs.declared.at.At.{At}
+use Rattle.sq_engine.specs.declared.at.At.TheVariants as place
+use Rattle.sq_engine.specs.Open.{OpenJobsValue}
 
--- in an epoch: the opening in force, the posted jobs that are on no page, what the workers share,
--- the nodes and the pumps
-pub record EpochValue : Type 0 where
-  pub opening : OpeningValue
-  pub jobs : List Job
+-- a run: what its workers share, its nodes and its pumps
+pub record RunValue : Type 0 where
   pub fabric : FabricValue
   pub nodes : List NodeState
   pub pumps : List PumpValue
 
-abbrev pub epoch_value : OpeningValue → List Job → FabricValue → List NodeState → List PumpValue → EpochValue
-epoch_value opening jobs fabric nodes pumps =
-    record { opening = opening; jobs = jobs; fabric = fabric; nodes = nodes; pumps = pumps }
+abbrev pub run_value : FabricValue → List NodeState → List PumpValue → RunValue
+run_value fabric nodes pumps = record { fabric = fabric; nodes = nodes; pumps = pumps }
 
--- between two epochs: an opening, the posted jobs that are on no page, and what was gathered of the
--- last epoch
-pub record PauseValue : Type 0 where
+-- where an engine is: in an epoch; between two, with what the last one left, and perhaps with a
+-- move that is due; or in a call that changes it
+pub data AtValue : Type 0 where
+  Running : (run : RunValue) → AtValue
+  Between : (gathered : GatheredValue) → (is_due : Bool) → AtValue
+  Changing : AtValue
+
+abbrev pub at_value : At → AtValue
+at_value (place.Running run) = Running (run_value run.fabric run.nodes.items run.pumps.items)
+at_value (place.Between gathered is_due) = Between gathered is_due
+at_value place.Changing = Changing
+
+-- an engine: the opening that it opened with, the opening in force, the open jobs with all events,
+-- and where it is
+pub record EngineValue : Type 0 where
+  pub first : OpeningValue
   pub opening : OpeningValue
-  pub jobs : List Job
-  pub gathered : GatheredValue
+  pub jobs : OpenJobsValue
+  pub at : AtValue
 
-abbrev pub pause_value : OpeningValue → List Job → GatheredValue → PauseValue
-pause_value opening jobs gathered = record { opening = opening; jobs = jobs; gathered = gathered }
+-- the opening in force has the rows of the first one, whatever rows `kept` has, the one in memory
+abbrev pub engine_value : OpeningValue → OpeningValue → OpenJobsValue → AtValue → EngineValue
+engine_value first kept jobs at =
+    record { first = first; opening = folded_opening kept first.table; jobs = jobs; at = at }
 
--- the receipts since the last page
-abbrev pub receipts_since_page : EpochValue → List ReceiptValue
-receipts_since_page epoch = epoch.fabric.receipts ++ flat_map (λ (node : NodeState). node.receipts) epoch.nodes
+-- the receipts that a run has written so far, with those of earlier epochs
+abbrev pub receipts_of : RunValue → List ReceiptValue
+receipts_of run = run.fabric.receipts ++ flat_map (λ (node : NodeState). node.receipts) run.nodes
 
--- how many segments of the gathered stage are complete by their trees
-abbrev pub complete_segments : PauseValue → ℕ
-complete_segments pause = complete_segments_in pause.opening.recon pause.gathered
+-- no epoch runs, and no move is due
+abbrev pub IsEnded : AtValue → Type 0
+IsEnded at = (gathered : GatheredValue) × (at ≡ Between gathered false)
+
+-- the move that follows what was gathered is due
+abbrev pub IsMadeDue : AtValue → AtValue → Type 0
+IsMadeDue old new = (gathered : GatheredValue) × (old ≡ Between gathered false) × (new ≡ Between gathered true)

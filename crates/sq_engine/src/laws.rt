@@ -1,65 +1,56 @@
 //! Laws of engines. The functions do nothing: each states a law, which the checker proves.
-ghost use Rattle.std.specs.Prelude.{◌≡◌, ◌∷◌, List, []};
+ghost use Rattle.std.specs.Prelude.{◌≡◌, ◌+◌, ◌∷◌, ℕ, List, [], is_some};
 ghost use Rattle.sq_ranges.specs.Prelude.{OpeningValue, IsOpening};
-ghost use Rattle.sq_node_model.specs.Prelude.{GatheredValue, IsPlaced};
-ghost use Rattle.sq_page.specs.declared.page.Page.{Page};
-ghost use Rattle.sq_page.specs.Pages.{IsPageOf};
-ghost use Rattle.sq_epoch.specs.Exchanges.{Exchange};
-ghost use Rattle.sq_epoch.specs.declared.long_log.TheConstants.{LONG_LOG};
-ghost use Rattle.sq_engine.specs.Values.{EpochValue, PauseValue};
-ghost use Rattle.sq_engine.specs.History.{Episode, pause_after, HaveCome};
-ghost use Rattle.sq_engine.specs.Ending.{EndsItsMove, IsSoundEngine, SpeaksForPause, EngineEndsAsPlanned};
-ghost use Rattle.sq_engine.specs.declared.closed.Closed.{Closed};
-ghost use Rattle.sq_engine.specs.declared.standing.Standing.{Standing};
-ghost use Rattle.sq_engine.specs.Engine.{receipts_in};
-ghost use Rattle.sq_engine.specs.Taken.{TakesItsPage, HasClosedAfter};
-ghost use Rattle.sq_engine.specs.Served.{segments_of_epoch};
-ghost use Rattle.sq_engine.specs.Told.{AreAnswersGiven, TellsInTurn};
-
-/// The position from which a log is long, in digits.
-pub fn the_limits()
-    ensures { LONG_LOG ≡ 3071 }
-{}
+ghost use Rattle.sq_gather.specs.Prelude.{one_if};
+ghost use Rattle.sq_node_model.specs.Prelude.{IsPlaced};
+ghost use Rattle.sq_audit.specs.declared.verdict.Verdict.TheVariants.{Sound};
+ghost use Rattle.sq_engine.specs.declared.event.Event.{Event};
+ghost use Rattle.sq_engine.specs.Events.{times_posted, times_answered};
+ghost use Rattle.sq_engine.specs.Open.{JobMap, job_at, AreOpen};
+ghost use Rattle.sq_engine.specs.Values.{EngineValue, RunValue};
+ghost use Rattle.sq_engine.specs.History.{EndedEpoch, HaveCome};
+ghost use Rattle.sq_engine.specs.Engine.{IsReached, EndsMove, segments_of, verdict_on};
+ghost use Rattle.sq_engine.specs.Ending.{EndsAsPlanned, HasAnsweredAll, LogsHoldCommits};
 
 /// No segment moves in an epoch at rest, so its client is told that none does.
 pub fn no_segment_moves_at_rest()
-    ensures { (epoch : EpochValue) → IsOpening epoch.opening → epoch.opening.recon.ranges ≡ []
-        → segments_of_epoch epoch ≡ 0 }
+    ensures { (o : OpeningValue) (run : RunValue) → IsOpening o → o.recon.ranges ≡ []
+        → segments_of o run ≡ 0 }
 {}
 
-/// What is gathered of an engine is placed under the opening in force: after each epoch, whatever
-/// its threads did, and after each page.
+/// What is gathered of an engine after each epoch is placed under the opening in force, whatever
+/// its threads did.
 pub fn what_an_engine_comes_by_is_placed()
-    ensures { (o : OpeningValue) (past : List Episode) (episode : Episode)
-        → HaveCome o (episode ∷ past)
-        → IsPlaced (pause_after episode).opening (pause_after episode).gathered }
+    ensures { (o : OpeningValue) (past : List EndedEpoch) (last : EndedEpoch)
+        → HaveCome o (last ∷ past) → IsPlaced last.opening last.gathered }
 {}
 
-/// The audit of a page that was taken after the last stage of a move is a verdict on what the
-/// engine had at that moment.
-pub fn a_page_speaks_for_an_engine()
-    ensures { (o : OpeningValue) (past : List Episode) (pause : PauseValue) (page : GatheredValue)
-        → EndsItsMove o past pause → IsPageOf pause.gathered page → SpeaksForPause pause page }
+/// An engine ends as planned, whatever its threads did: after the last stage of a move each family
+/// is in the store of its owner by the plan that was asked for last; its rows are those that the
+/// engine opened with, after a replay of everything committed since on its root key, in the order
+/// of its log; the receipts of commits name each position of each log once, with the transaction
+/// there; each receipt has the reply that the log before its position gives; and what its clients
+/// were given are these receipts, each once, but for those that were lost or are no open job's.
+pub fn an_engine_ends_where_planned()
+    ensures { (engine : EngineValue) → IsReached engine → EndsMove engine
+        → EndsAsPlanned engine }
 {}
 
-/// A sound engine ends as planned. If each page was found sound, and so is what is left after the
-/// last stage of a move, for all jobs that are on no page, then each family is in the store of its
-/// owner by the new plan; its rows are those that the engine opened with, after a replay of
-/// everything committed since on its root key, in the order of its logs, page by page; each receipt
-/// is the answer to a job; and each posted job has one receipt.
-pub fn a_sound_engine_ends_where_planned()
-    ensures { (o : OpeningValue) (past : List Episode) (pause : PauseValue)
-        → EndsItsMove o past pause → IsSoundEngine past pause → EngineEndsAsPlanned o past pause }
+/// An engine that is sound has answered all: each job once, and with each receipt.
+pub fn a_sound_engine_has_answered_all()
+    ensures { (engine : EngineValue) → IsReached engine → EndsMove engine
+        → verdict_on engine.jobs ≡ Sound → HasAnsweredAll engine }
 {}
 
-/// The answers that an engine gave are on its pages. If it gave each answer that was written since
-/// it was opened or since its last page, the receipts of its next page, or of the page at its
-/// close, are exactly the answers that its clients were given, each once.
-pub fn what_was_told_is_on_the_page()
-    ensures page { (first last next : Standing) (told : List (List Exchange)) (page : Page)
-        → receipts_in first ≡ [] → TellsInTurn told first last → TakesItsPage last page next
-        → AreAnswersGiven told page.run.receipts }
-    ensures closed { (first last : Standing) (told : List (List Exchange)) (end : Closed)
-        → receipts_in first ≡ [] → TellsInTurn told first last → HasClosedAfter last end
-        → AreAnswersGiven told end.page.run.receipts }
+/// The logs of a sound engine hold as many transactions as it gave answers of commits.
+pub fn logs_hold_what_was_committed()
+    ensures { (engine : EngineValue) → IsReached engine → EndsMove engine
+        → verdict_on engine.jobs ≡ Sound → LogsHoldCommits engine }
+{}
+
+/// Each answer that an engine gave is that of a job of its own: of each id as many jobs were posted
+/// as were answered, and one more if a job with this id is open.
+pub fn each_job_has_one_answer()
+    ensures { (events : List Event) (jobs : JobMap) (id : ℕ) → AreOpen events jobs
+        → times_posted id events ≡ times_answered id events + one_if (is_some (job_at jobs id)) }
 {}

@@ -1,32 +1,37 @@
 //! A long-running engine: it takes and answers jobs while rows move, and performs one move after
 //! another.
 //!
-//! An engine runs in epochs. An [`Epoch`] is one stage of a move, or rest, which is a move of no
-//! rows: it takes jobs and runs its workers. What it leaves when it ends is a [`Pause`], from which
-//! the next stage begins, a page is taken, or the engine is closed. After the last stage a
-//! [`NextMove`] leads to another plan.
+//! An [`Engine`] runs in epochs. An epoch is one stage of a move, or rest, which is a move of no
+//! rows. In it the workers run, and a [`Client`] posts jobs and is given their answers. An engine
+//! goes from stage to stage by itself, and after the last stage to rest.
 //!
-//! An [`Engine`] goes through them on its own: from stage to stage, and after the last stage to
-//! rest.
+//! What happened in an engine is the list of its [`Event`]s: contracts say which events a call
+//! adds, and [`laws`] say what they mean.
 #![tactic(auto)]
 
-mod closed;
+mod at;
+mod back_off;
+mod client;
+mod crew;
 mod engine;
-mod epoch;
+mod epoch_gate;
+mod event;
 pub mod laws;
-mod next_move;
-mod pause;
-mod rest_page;
+mod meeting;
+mod node_bell;
+mod nodes_here;
+mod open_jobs;
+mod posting;
+mod rings;
 mod serving;
-mod standing;
-mod verdict;
+mod stage_progress;
+mod stages;
+mod telling;
 
-pub use closed::Closed;
-pub use engine::{Engine, EngineServed, NotMoved, NotPosted};
-pub use epoch::Epoch;
-pub use next_move::NextMove;
-pub use pause::{NotTaken, Pause, StageEnd};
-pub use rest_page::RestPage;
-pub use serving::Served;
-pub use sq_epoch::{Client, Command, PostFault, StageProgress};
-pub use standing::Standing;
+pub use back_off::BackOff;
+pub use client::{Client, Command};
+pub use engine::{Engine, NotEnded, NotMoved, NotPosted, Served};
+pub use event::Event;
+pub use open_jobs::{OpenJobs, PostFault};
+pub use serving::EpochEnd;
+pub use stage_progress::StageProgress;

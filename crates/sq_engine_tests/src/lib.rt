@@ -1,4 +1,4 @@
-//! Tests of an engine that lasts: jobs at random come while rows move in one stage and in several, and pages are taken.
+//! Tests of an engine that lasts: jobs at random come while rows move in one stage and in several.
 #![tactic(auto)]
 
 #[cfg(test)]

@@ -5,6 +5,7 @@ ghost use Rattle.std.specs.Prelude.{◌≡◌, IfSome};
 ghost use Rattle.std.specs.List.{AllPass};
 ghost use Rattle.sq_examples.specs.Moves.{LeadsWithRow, is_of_the_move};
 
+use sq_ranges::LOG_LIMIT;
 use sq_world::{Config, FamilyStore, GivenRow, Plan, Root, RowKey, Schema, Step, World};
 use std::alloc::Global;
 
@@ -36,6 +37,7 @@ fn open(alloc: Global, number: i64) -> Option<World>
         width: 1,
         limit: 64,
         capacity: 1,
+        log_limit: LOG_LIMIT,
     };
     let row = GivenRow {
         root: 5,

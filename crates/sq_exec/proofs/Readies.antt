@@ -63,7 +63,7 @@ and_true false = refl
 
 module _ (core : CoreValue) (arrivals : List Arrival) (due : list_all (is_due_here core) arrivals ≡ true) where
   off_unless_due : list_all (pass_unless_due (is_off core)) arrivals ≡ true
-  off_unless_due = all_follow (is_due_here core) (pass_unless_due (is_off core)) (λ a. a) (λ a here. follows a.is_due (is_coming_here core (a.txn).root) (is_stuck core.part (route core (a.txn).root) core.store a.txn) here) arrivals due
+  off_unless_due = all_follow (is_due_here core) (pass_unless_due (is_off core)) (λ a. a) (λ a here. follows a.is_due (is_coming_here core (a.txn).root) (is_stuck core (a.txn).root) here) arrivals due
     where
       follows : (d c s : Bool) → (d || c) ≡ true → (d || not (not c && not s)) ≡ true
       follows true c s h = refl

@@ -44,7 +44,7 @@ module _ (core : CoreValue) (place : ℕ) (first : position (is_ready_here core)
       let ready = position-Some (is_ready_here core) core.waiting place none first in
       let here : TxnValue = get_or core.waiting place none in
       let not_coming : is_coming_here core here.root ≡ false =
-      was_false (is_coming_here core here.root) (and_left (not (is_coming_here core here.root)) (not (is_stuck core.part (route core here.root) core.store here)) ready.1) in
+      was_false (is_coming_here core here.root) (and_left (not (is_coming_here core here.root)) (not (is_stuck core here.root)) ready.1) in
       let not_all : list_all (λ txn. is_coming_here core txn.root) core.waiting ≡ false = list_all_at (λ txn. is_coming_here core txn.root) core.waiting place none ready.0 not_coming in
       λ k. if not_all k then Some NoneReady else if is_none (first k) then Some LogFull else None
     where

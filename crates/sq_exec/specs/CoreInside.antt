@@ -13,6 +13,7 @@ core_inside contents p =
       plan = p.plan;
       recon = p.recon;
       limit = p.limit;
+      log_limit = p.log_limit;
       started = p.started;
       stage = p.stage;
       store = contents p.store;

@@ -12,15 +12,17 @@ use Rattle.sq_exec.specs.declared.run.Run.{Run}
 use Rattle.sq_exec.specs.GivenUp.{none_given_up}
 use Rattle.sq_exec.specs.OutLink.{OutLinkValue, new_out_link}
 
--- a partition: the plan before the move and what moves, the limit of a chunk in bytes, whether the
--- move has started, and the running stage; its families, and the waiting transactions in their
--- order of arrival; for each partition the end of the link to it, and the chunk that came from it;
--- and for each segment the leaves that were given up, and what was loaded
+-- a partition: the plan before the move and what moves, the limits of a chunk in bytes and of a log
+-- in transactions, whether the move has started, and the running stage; its families, and the
+-- waiting transactions in their order of arrival; for each partition the end of the link to it, and
+-- the chunk that came from it; and for each segment the leaves that were given up, and what was
+-- loaded
 pub record CoreValue : Type 0 where
   pub part : ℕ
   pub plan : PlanValue
   pub recon : ReconValue
   pub limit : ℕ
+  pub log_limit : ℕ
   pub started : Bool
   pub stage : ℕ
   pub store : StoreValue
@@ -50,6 +52,7 @@ opened_core o part store =
       plan = o.old;
       recon = o.recon;
       limit = o.config.limit;
+      log_limit = o.config.log_limit;
       started = false;
       stage = 0;
       store = store;

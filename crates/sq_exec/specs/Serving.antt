@@ -17,13 +17,18 @@ use Rattle.sq_exec.specs.declared.location.Location.{Location}
 use Rattle.sq_exec.specs.CoreValue.{CoreValue}
 use Rattle.sq_exec.specs.Location.{location, is_coming_here, route, waits_for}
 
--- the log of the transaction's root key is full
-abbrev pub is_log_full : StoreValue → TxnValue → Bool
-is_log_full store txn = nat_le MAX_LOG (log_length store txn.root)
+-- the log of the root key is full: it has `limit` transactions
+abbrev pub is_log_full : ℕ → StoreValue → ℕ → Bool
+is_log_full limit store root = nat_le limit (log_length store root)
 
--- the transaction belongs here, and the log of its root key is full
-abbrev pub is_stuck : ℕ → ℕ → StoreValue → TxnValue → Bool
-is_stuck here who store txn = (who == here) && is_log_full store txn
+-- the root key belongs here, and its log is full
+abbrev pub is_stuck : CoreValue → ℕ → Bool
+is_stuck core root = (route core root == core.part) && is_log_full core.log_limit core.store root
+
+-- a root key that belongs to one partition has its log here, and the log is as long as can be
+-- counted
+abbrev pub is_at_end : ℕ → ℕ → StoreValue → ℕ → Bool
+is_at_end here who store root = (who == here) && is_log_full MAX_LOG store root
 
 -- a transaction that belongs to one partition is served at another: it runs if these are the same,
 -- and is forwarded if not; with the store after it
@@ -45,7 +50,7 @@ must_wait core root = waits_for core root || is_coming_here core root
 abbrev pub submit_refusal : CoreValue → TxnValue → Option SubmitFault
 submit_refusal core txn =
     if must_wait core txn.root then if nat_le MAX_WAITING (length core.waiting) then Some submit.WaitFull else None
-    else if is_stuck core.part (route core txn.root) core.store txn then Some submit.LogFull
+    else if is_stuck core txn.root then Some submit.LogFull
     else None
 
 -- taking it uses memory: it waits, or it runs here
@@ -71,7 +76,7 @@ IsTaken false old txn outcome new = IsServed old txn outcome new
 -- a waiting transaction can go: its rows aren't on their way here, and if it runs here, its log has
 -- room
 abbrev pub is_ready_here : CoreValue → TxnValue → Bool
-is_ready_here core txn = not (is_coming_here core txn.root) && not (is_stuck core.part (route core txn.root) core.store txn)
+is_ready_here core txn = not (is_coming_here core txn.root) && not (is_stuck core txn.root)
 
 -- why a transaction stays: its rows are on their way, or else the log is full
 abbrev pub stays_by : Bool → ResumeFault

@@ -29,6 +29,7 @@ pub struct PartCore<S: FamilyStore> {
     plan: Plan,
     recon: Recon,
     limit: u64,
+    log_limit: u64,
     started: bool,
     stage: u64,
     store: S,

@@ -1,8 +1,7 @@
 -- What nodes left, added one after another.
-use Rattle.std.proofs.Common.{◌≡◌, ℕ, zero, suc, ◌+◌, ◌<◌, List, [], ◌∷◌, ◌++◌, length, map, sum_by, refl, sym, ap, ◌∙◌, subst, append_assoc, append-nil, length-append, arith}
+use Rattle.std.proofs.Common.{◌≡◌, ℕ, zero, suc, ◌+◌, ◌<◌, List, [], ◌∷◌, ◌++◌, length, map, refl, sym, ap, ◌∙◌, subst, append_assoc, append-nil, length-append, arith}
 use Rattle.std.specs.Prelude.{slice_get, Some}
 use Rattle.std.specs.List.{flat_map}
-use Rattle.std.proofs.lemmas.List.Sums.{sum_by-cons}
 use Rattle.std.proofs.lemmas.Option.{same_Some}
 use Rattle.sq_schema.specs.TxnValue.{TxnValue}
 use Rattle.sq_link.specs.Values.{LinkValue}
@@ -26,12 +25,10 @@ ends_kept old node new adds = adds.destinations.count ∙ adds.sources.count
 -- there is room for the others where there was room for all
 pub room_left : (old : GatheringValue) (node : NodeState) (nodes left : List NodeState) (new : GatheringValue) → AddsNode old node new → left ≡ node ∷ nodes → HasRoomFor old left → HasRoomFor new nodes
 room_left old node nodes left new adds is room =
-    let sums : sum_by (λ (n : NodeState). length n.receipts) left ≡ length node.receipts + sum_by (λ (n : NodeState). length n.receipts) nodes = ap (λ (list : List NodeState). sum_by (λ (n : NodeState). length n.receipts) list) is ∙ sum_by-cons (λ (n : NodeState). length n.receipts) node nodes in
     record {
       stores = omega (arith, room.stores, ap length is, ap length adds.stores, length-append old.stores (node.core.store ∷ []), adds.room.stores);
       waiting = omega (arith, room.waiting, ap length is, ap length adds.waiting, length-append old.waiting (node.core.waiting ∷ []), adds.room.waiting);
       posts = omega (arith, room.posts, ap length is, adds.posts, adds.room.posts);
-      receipts = omega (arith, room.receipts, sums, ap length adds.receipts, length-append old.receipts node.receipts, adds.room.receipts);
       owners = omega (arith, room.owners, ap length is, ap length adds.owners, length-append old.owners (node.seats ∷ []), adds.room.owners);
     }
 
@@ -61,7 +58,6 @@ has_added old [] new adds = record {
     stores = omega (arith, ap (λ (g : GatheringValue). g.room.stores) adds);
     waiting = omega (arith, ap (λ (g : GatheringValue). g.room.waiting) adds);
     posts = omega (arith, ap (λ (g : GatheringValue). g.room.posts) adds);
-    receipts = omega (arith, ap (λ (g : GatheringValue). g.room.receipts) adds);
     owners = omega (arith, ap (λ (g : GatheringValue). g.room.owners) adds);
     links = omega (arith, ap (λ (g : GatheringValue). g.room.links) adds);
     trees = ap (λ (g : GatheringValue). g.room.trees) adds;
@@ -82,7 +78,6 @@ has_added old (node ∷ nodes) new adds =
         stores = omega (arith, one.room.stores, rest.room.stores);
         waiting = omega (arith, one.room.waiting, rest.room.waiting);
         posts = omega (arith, one.room.posts, rest.room.posts);
-        receipts = omega (arith, one.room.receipts, rest.room.receipts);
         owners = omega (arith, one.room.owners, rest.room.owners);
         links = omega (arith, one.room.links, rest.room.links);
         trees = rest.room.trees ∙ one.room.trees;

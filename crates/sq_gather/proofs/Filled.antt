@@ -3,7 +3,7 @@ use Rattle.std.proofs.Common.{◌≡◌, ⊎_elim, ℕ, ◌+◌, ◌<◌, ◌≤
 use Rattle.std.specs.Prelude.{slice_get, slice_set}
 use Rattle.std.proofs.lemmas.Bool.{cases_lt}
 use Rattle.std.proofs.lemmas.List.{length-set, length-map, map-set, map-append}
-use Rattle.std.proofs.lemmas.Option.{same_Some, none-some, slice_get_within}
+use Rattle.std.proofs.lemmas.Option.{same_Some, slice_get_within}
 use Rattle.sq_ranges.specs.declared.opening.TheConstants.{MAX_WAITING}
 use Rattle.sq_node.specs.declared.fabric.TheConstants.{JOB_PLACES}
 use Rattle.sq_schema.specs.TxnValue.{TxnValue}
@@ -154,10 +154,6 @@ begins_still waiting old new begins grows part first jobs there at small =
     let low = slice_get_within new part jobs at in
     let was : (list : List TxnValue) × (slice_get old part ≡ Some list) = stands_at old part (omega (arith, low, grows.count)) in
     begins_more first was.0 jobs (begins part first was.0 there was.1 small) (grows.each part was.0 jobs was.1 at)
-
--- rooms, one by one
-pub rooms_none : AreRooms 0 []
-rooms_none = record { count = refl; each = λ part room there. absurd (none-some room there) }
 
 pub rooms_more : (parts : ℕ) (rooms : List Room) (room : Room) → AreRooms parts rooms → room.0 ≡ [] → JOB_PLACES + MAX_WAITING ≤ room.1 → AreRooms (parts + 1) (rooms ++ room ∷ [])
 rooms_more parts rooms room are none roomy = record {

@@ -5,7 +5,7 @@ use Rattle.std.specs.List.{flat_map}
 use Rattle.std.specs.Option.{option_map_or}
 use Rattle.std.specs.List.Sorted.{IsPermutation}
 use Rattle.std.proofs.lemmas.List.{length-map}
-use Rattle.std.proofs.lemmas.List.Sorted.{length_permutation, sum_by-IsPermutation}
+use Rattle.std.proofs.lemmas.List.Sorted.{length_permutation}
 use Rattle.std.proofs.lemmas.Option.{same_Some, slice_get_within, get_or_from_slice_get}
 use Rattle.atomic_table.specs.Seated.{TableId}
 use Rattle.sq_chunk.specs.ChunkValue.{ChunkValue}
@@ -28,7 +28,7 @@ use Rattle.sq_gather.specs.Links.{IsClosed, HaveBothEnds}
 use Rattle.sq_gather.specs.Links.{AreClosed as AreClosedLinks}
 use Rattle.sq_gather.specs.Trees.{AllAreSeatsOf, AwaitOwners}
 use Rattle.sq_gather.specs.Trees.{AreClosed as AreClosedTrees}
-use Rattle.sq_gather.specs.GatheringValue.{GatheringValue, AreReserved, IsReserved, AddsReceipts, IsAddable, HasRoomFor, KeepsCore, AddsNodes, IsClosable}
+use Rattle.sq_gather.specs.GatheringValue.{GatheringValue, IsReserved, IsAddable, HasRoomFor, KeepsCore, AddsNodes, IsClosable}
 use Rattle.sq_gather.specs.Left.{BeginWithWaiting}
 use Rattle.sq_gather.specs.Gathered.{AreByPart, IsGathered, owners_of, closed_ends, waiting_at}
 use Rattle.sq_gather.proofs.ByPart.{AllInOrder, LinksHaveNodes}
@@ -36,38 +36,26 @@ use Rattle.sq_gather.proofs.Lists.{maps_same}
 use Rattle.sq_gather.proofs.Filling.{HasSource, HasDestination, AreFilled}
 use Rattle.sq_gather.proofs.Adding.{HasAdded, has_added, addable, all_filled}
 
--- there is room for the receipts of earlier stages, and for the rest once they are added
-module _ (fabric : FabricValue) (nodes : List NodeState) (pumps : ℕ) (none : GatheringValue) (reserved : IsReserved [] fabric nodes pumps none) (past : List ReceiptValue) (of : past ≡ fabric.receipts) where
-  pub room_for_past : length none.receipts + length past ≤ none.room.receipts
-  room_for_past = omega (arith, reserved.room.receipts, ap length reserved.receipts, ap length of)
-
-  pub with_past : (new : GatheringValue) → AddsReceipts none past new → IsReserved fabric.receipts fabric nodes pumps new
-  with_past new adds =
-      let room = adds.room in
-      record {
-        stores = ap (λ (g : GatheringValue). g.stores) adds.is ∙ reserved.stores;
-        waiting = ap (λ (g : GatheringValue). g.waiting) adds.is ∙ reserved.waiting;
-        posts = ap (λ (g : GatheringValue). g.posts) adds.is ∙ reserved.posts;
-        receipts = ap (λ (g : GatheringValue). g.receipts) adds.is ∙ ap (λ (list : List ReceiptValue). list ++ past) reserved.receipts ∙ of;
-        owners = ap (λ (g : GatheringValue). g.owners) adds.is ∙ reserved.owners;
-        ends = subst (λ (g : GatheringValue). AreReserved fabric.links g.ends) (sym adds.is) reserved.ends;
-        left = ap (λ (g : GatheringValue). g.left) adds.is ∙ reserved.left;
-        room = record {
-          stores = omega (arith, reserved.room.stores, room.stores);
-          waiting = omega (arith, reserved.room.waiting, room.waiting);
-          posts = omega (arith, reserved.room.posts, room.posts);
-          receipts = omega (arith, reserved.room.receipts, room.receipts);
-          owners = omega (arith, reserved.room.owners, room.owners);
-          links = omega (arith, reserved.room.links, room.links);
-          trees = room.trees ∙ reserved.room.trees;
-        };
-      }
+-- there is room for the rest once the receipts of earlier stages are added
+pub with_past : (fabric : FabricValue) (nodes : List NodeState) (pumps : ℕ) (none : GatheringValue) → IsReserved [] fabric nodes pumps none → (past : List ReceiptValue) → past ≡ fabric.receipts
+    → (new : GatheringValue) → new ≡ record none { receipts = none.receipts ++ past } → IsReserved fabric.receipts fabric nodes pumps new
+with_past fabric nodes pumps none reserved past of new is =
+    subst (IsReserved fabric.receipts fabric nodes pumps) (sym is)
+    (record {
+      stores = reserved.stores;
+      waiting = reserved.waiting;
+      posts = reserved.posts;
+      receipts = ap (λ (list : List ReceiptValue). list ++ past) reserved.receipts ∙ of;
+      owners = reserved.owners;
+      ends = reserved.ends;
+      left = reserved.left;
+      room = reserved.room;
+    })
 
 -- room for nodes is room for them in another order
 pub room_in_order : (fabric : FabricValue) (nodes by_part : List NodeState) (pumps : ℕ) (past : List ReceiptValue) (gathering : GatheringValue) → IsPermutation nodes by_part → IsReserved past fabric nodes pumps gathering → IsReserved past fabric by_part pumps gathering
 room_in_order fabric nodes by_part pumps past gathering same reserved =
     let many = length_permutation nodes by_part same in
-    let sums = sum_by-IsPermutation (λ (node : NodeState). length node.receipts) nodes by_part same in
     record {
       stores = reserved.stores;
       waiting = reserved.waiting;
@@ -80,7 +68,6 @@ room_in_order fabric nodes by_part pumps past gathering same reserved =
         stores = omega (arith, reserved.room.stores, many);
         waiting = omega (arith, reserved.room.waiting, many);
         posts = omega (arith, reserved.room.posts, many);
-        receipts = omega (arith, reserved.room.receipts, sums);
         owners = omega (arith, reserved.room.owners, many);
         links = reserved.room.links;
         trees = reserved.room.trees;
@@ -96,7 +83,6 @@ module _ (fabric : FabricValue) (nodes : List NodeState) (pumps : List PumpValue
     stores = omega (arith, reserved.room.stores, ap length reserved.stores);
     waiting = omega (arith, reserved.room.waiting, ap length reserved.waiting);
     posts = omega (arith, reserved.room.posts, reserved.posts);
-    receipts = omega (arith, reserved.room.receipts, ap length reserved.receipts);
     owners = omega (arith, reserved.room.owners, ap length reserved.owners);
   }
 

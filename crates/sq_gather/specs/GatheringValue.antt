@@ -1,5 +1,5 @@
 -- What is gathered so far, and the room for the rest.
-use Rattle.std.specs.Prelude.{◌≡◌, ℕ, ◌+◌, ◌≤◌, List, [], ◌∷◌, ◌++◌, length, sum_by, slice_get, Some}
+use Rattle.std.specs.Prelude.{◌≡◌, ℕ, ◌+◌, ◌≤◌, List, [], ◌∷◌, ◌++◌, length, slice_get, Some}
 use Rattle.atomic_table.specs.Seated.{TableId}
 use Rattle.sq_schema.specs.TxnValue.{TxnValue}
 use Rattle.sq_store.specs.StoreValue.{StoreValue}
@@ -16,13 +16,12 @@ use Rattle.sq_gather.specs.Links.{no_ends, HaveBothEnds}
 use Rattle.sq_gather.specs.Trees.{AllAreSeatsOf, AwaitOwners}
 use Rattle.sq_gather.specs.Ends.{AreApart, AreAmong, SourcesPut, DestinationsPut}
 
--- the room for stores, lists of waiting jobs, lists of jobs to forward, receipts, owners of seats
--- and links, and the number of trees
+-- the room for stores, lists of waiting jobs, lists of jobs to forward, owners of seats and links,
+-- and the number of trees
 pub record RoomValue : Type 0 where
   pub stores : ℕ
   pub waiting : ℕ
   pub posts : ℕ
-  pub receipts : ℕ
   pub owners : ℕ
   pub links : ℕ
   pub trees : ℕ
@@ -45,7 +44,6 @@ pub record IsRoomFor (fabric : FabricValue) (nodes : List NodeState) (pumps : �
   pub stores : length nodes ≤ room.stores
   pub waiting : length nodes ≤ room.waiting
   pub posts : length nodes ≤ room.posts
-  pub receipts : length fabric.receipts + sum_by (λ node. length node.receipts) nodes ≤ room.receipts
   pub owners : length nodes + pumps ≤ room.owners
   pub links : length fabric.links ≤ room.links
   pub trees : room.trees ≡ length fabric.recon.segments
@@ -73,15 +71,9 @@ pub record KeepsRoom (old new : RoomValue) : Type 0 where
   pub stores : old.stores ≤ new.stores
   pub waiting : old.waiting ≤ new.waiting
   pub posts : old.posts ≤ new.posts
-  pub receipts : old.receipts ≤ new.receipts
   pub owners : old.owners ≤ new.owners
   pub links : old.links ≤ new.links
   pub trees : new.trees ≡ old.trees
-
--- these receipts are added
-pub record AddsReceipts (old : GatheringValue) (receipts : List ReceiptValue) (new : GatheringValue) : Type 0 where
-  pub is : new ≡ record old { receipts = old.receipts ++ receipts; room = new.room }
-  pub room : KeepsRoom old.room new.room
 
 -- a node has an end for each partition, each of one of `links` links, and no two of the same link
 pub record IsAddable (links : ℕ) (node : NodeState) : Type 0 where
@@ -97,7 +89,6 @@ pub record HasRoomFor (gathering : GatheringValue) (nodes : List NodeState) : Ty
   pub stores : length gathering.stores + length nodes ≤ gathering.room.stores
   pub waiting : length gathering.waiting + length nodes ≤ gathering.room.waiting
   pub posts : gathering.posts + length nodes ≤ gathering.room.posts
-  pub receipts : length gathering.receipts + sum_by (λ node. length node.receipts) nodes ≤ gathering.room.receipts
   pub owners : length gathering.owners + length nodes ≤ gathering.room.owners
 
 -- the invariant of a node's partition

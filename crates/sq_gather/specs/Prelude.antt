@@ -11,7 +11,7 @@ pub use Rattle.sq_node_model.specs.BeganWith.{is_opened}
 pub use Rattle.sq_node_model.specs.FamiliesHold.{IsOf}
 pub use Rattle.sq_node_model.specs.Folded.{IsFolded, folded_family}
 pub use Rattle.sq_node_model.specs.Gathered.{GatheredLink, HasEachLink}
-pub use Rattle.sq_node_model.specs.Placed.{AllStand, AreTold, KeepBases, NameEach, StandOnce}
+pub use Rattle.sq_node_model.specs.Placed.{AllStand, AreAborted, AreTold, HasNone, KeepBases, NameEach, StandOnce}
 pub use Rattle.sq_node_model.specs.Prelude.{AllGrown, FitTogether, GatheredValue, HasEachPart, IsLinkNote, IsLinkPlaced, IsPlaced, IsStageDone, IsStageOver, ReceiptValue, cut_notes, folded_gathered, folded_opening, is_commit, loaded_count, loads_of}
 pub use Rattle.sq_node_model.specs.Receipts.{names, times_named}
 pub use Rattle.sq_node_model.specs.Spots.{IsSpotOf, StandsAt, chunk_in, family_at_spot, gathered_place, gathered_status, loaded_notes}

@@ -5,6 +5,7 @@ ghost use Rattle.sq_store.specs.Prelude.{store_coded};
 ghost use Rattle.sq_node_model.specs.Prelude.{GatheredValue};
 
 use crate::links::ClosedLink;
+use sq_history::History;
 use sq_node::Receipt;
 use sq_schema::Txn;
 use sq_slab::SlabStore;
@@ -22,9 +23,9 @@ pub struct Gathered {
     pub links: Vec<ClosedLink>,
     /// The statuses of the nodes of each segment's tree, from node 1 on.
     pub statuses: Vec<[Status; NODES]>,
-    /// The receipts of earlier stages, then those of each partition, in the order in which they
-    /// were written.
-    pub receipts: Vec<Receipt>,
+    /// The history of receipts: those of earlier stages, then those of each partition, in the order
+    /// in which they were written.
+    pub receipts: History<Receipt>,
     /// The unanswered jobs of each partition: first those that waited there, in their order, then
     /// those that were pending for it, then those in its queue.
     pub left: Vec<Vec<Txn>>,

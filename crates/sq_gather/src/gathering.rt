@@ -1,10 +1,10 @@
 // Gathering a run, node by node.
-ghost use Rattle.std.specs.Prelude.{◌≡◌, ℕ, ◌+◌, ◌<◌, ◌≤◌, ◌∷◌, [], ◌++◌, length, map, sum_by, slice_get, Some, IfOk, IfSome, OnOk};
+ghost use Rattle.std.specs.Prelude.{◌≡◌, ℕ, ◌+◌, ◌<◌, ◌≤◌, ◌∷◌, [], ◌++◌, length, map, slice_get, Some, IfOk, OnOk};
 ghost use Rattle.sq_ranges.specs.Prelude.{IsRecon};
 ghost use Rattle.sq_node.specs.Prelude.{NodeState};
 ghost use Rattle.sq_gather.specs.Links.{AreClosed as AreClosedLinks};
 ghost use Rattle.sq_gather.specs.Trees.{AreClosed as AreClosedTrees};
-ghost use Rattle.sq_gather.specs.GatheringValue.{IsAddable, HasRoomFor, AreReserved, IsReserved, AddsReceipts, AddsNode, AddsNodes, IsClosable};
+ghost use Rattle.sq_gather.specs.GatheringValue.{IsAddable, HasRoomFor, AreReserved, IsReserved, AddsNode, AddsNodes, IsClosable};
 ghost use Rattle.sq_gather.specs.Left.{BeginWithWaiting};
 
 use crate::ends::{put_destinations, put_sources};
@@ -15,6 +15,7 @@ use crate::links::{ClosedLink, close_links};
 use crate::trees::close_trees;
 use crossbeam_queue::ArrayQueue;
 use sq_exec::CoreParts;
+use sq_history::History;
 use sq_link::SharedLink;
 use sq_node::{Fabric, Node, NodeParts, Post, Receipt};
 use sq_pull::Pump;
@@ -34,7 +35,7 @@ pub(crate) struct Gathering {
     stores: Vec<SlabStore>,
     waiting: Vec<Waiting>,
     posts: Vec<VecDeque<Post>>,
-    receipts: Vec<Receipt>,
+    receipts: History<Receipt>,
     owners: Vec<Vec<TreeSeat>>,
     ends: Vec<LinkEnds>,
     links: Vec<ClosedLink>,
@@ -66,7 +67,6 @@ impl Model for Gathering {
         stores = vec_capacity g.stores;
         waiting = vec_capacity g.waiting;
         posts = vec_capacity g.posts;
-        receipts = vec_capacity g.receipts;
         owners = vec_capacity g.owners;
         links = vec_capacity g.links;
         trees = length g.statuses.items;
@@ -79,8 +79,7 @@ impl Model for Gathering {
 }
 
 impl Gathering {
-    // Reserves room for the receipts of earlier stages, and for all that `nodes` and `pumps` pumps
-    // left.
+    // Reserves room for all that `nodes` and `pumps` pumps left.
     pub(crate) fn reserve(
         alloc: Global,
         fabric: &Fabric,
@@ -90,15 +89,13 @@ impl Gathering {
         ensures reserved { IfOk result (IsReserved [] fabric.now nodes.now pumps) }
         ensures recon { OnOk result (IsRecon fabric.now.recon) }
     {
-        let past = fabric.receipts().len();
-        let receipts = count_receipts(past, nodes).ok_or(AllocError)?;
         let owners = nodes.len().checked_add(pumps).ok_or(AllocError)?;
         let trees = fabric.recon().segments().len();
         Ok(Gathering {
             stores: Vec::with_capacity(alloc, nodes.len())?,
             waiting: Vec::with_capacity(alloc, nodes.len())?,
             posts: Vec::with_capacity(alloc, nodes.len())?,
-            receipts: Vec::with_capacity(alloc, receipts)?,
+            receipts: History::new(),
             owners: Vec::with_capacity(alloc, owners)?,
             ends: reserve_ends(alloc, fabric.links())?,
             links: Vec::with_capacity(alloc, fabric.links().len())?,
@@ -108,13 +105,13 @@ impl Gathering {
     }
 
     // Adds the receipts of earlier stages.
-    pub(crate) fn add_receipts(&mut self, mut receipts: Vec<Receipt>)
-        requires { length self.old.receipts + length receipts.items ≤ self.old.room.receipts }
-        ensures { AddsReceipts self.old receipts.items self.new }
+    pub(crate) fn add_receipts(&mut self, receipts: &History<Receipt>)
+        ensures { self.new ≡ record self.old {
+          receipts = self.old.receipts
+              ++ receipts.now.items;
+        } }
     {
-        let Ok(()) = self.receipts.append(&mut receipts) else {
-            unreachable!()
-        };
+        self.receipts = self.receipts.before(receipts);
     }
 
     // Adds what the nodes left.
@@ -133,8 +130,6 @@ impl Gathering {
         requires stores { length self.old.stores < self.old.room.stores }
         requires waiting { length self.old.waiting < self.old.room.waiting }
         requires posts { self.old.posts < self.old.room.posts }
-        requires receipts { length self.old.receipts + length node.receipts
-            ≤ self.old.room.receipts }
         requires owners { length self.old.owners < self.old.room.owners }
         requires ends { IsAddable (length self.old.ends) node }
         ensures { AddsNode self.old node self.new }
@@ -144,7 +139,7 @@ impl Gathering {
             seats,
             sends,
             recvs,
-            mut receipts,
+            receipts,
             posts,
             ..
         } = node.into_parts();
@@ -157,9 +152,7 @@ impl Gathering {
         self.stores.push_reserved(store);
         self.waiting.push_reserved(waiting);
         self.posts.push_reserved(posts);
-        let Ok(()) = self.receipts.append(&mut receipts) else {
-            unreachable!()
-        };
+        self.receipts = self.receipts.before(&receipts);
         self.owners.push_reserved(seats);
         put_sources(&mut self.ends, sends, outs);
         put_destinations(&mut self.ends, recvs, inboxes);
@@ -216,19 +209,6 @@ impl Gathering {
             left,
         }
     }
-}
-
-// Returns how many receipts there are: `past` of earlier stages and those of `nodes`. Returns
-// `None` if the count overflows.
-fn count_receipts(past: usize, nodes: &[Node]) -> Option<usize>
-    ensures { IfSome result (λ count. count
-        ≡ past + sum_by (λ node. length node.receipts) nodes.now) }
-{
-    let mut count = past;
-    for node in nodes {
-        count = count.checked_add(node.receipts().len())?;
-    }
-    Some(count)
 }
 
 // Reserves room for what is under way on each link.

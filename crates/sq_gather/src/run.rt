@@ -47,7 +47,7 @@ pub fn gather<R: Wait>(rt: &R, alloc: Global, run: RunParts) -> Result<Gathered,
         jobs,
         ..
     } = fabric.into_parts();
-    gathering.add_receipts(receipts);
+    gathering.add_receipts(&receipts);
     gathering.add_nodes(nodes);
     gathering.add_pumps(pumps);
     Ok(gathering.close(rt, stage, trees, seats, links, jobs))

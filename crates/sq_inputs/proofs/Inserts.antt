@@ -72,12 +72,6 @@ inserted_goes_on at_start (Some m) (Some o) (Some n) xs x consumed =
     ap (λ z. z ++ m) (ap (ended at_start) (consumed ∙ append_assoc xs (x ∷ []) n) ∙ ended-after at_start xs x n)
     ∙ append_assoc xs (x ∷ ended (x == 10) n) m ∙ sym (append_assoc xs (x ∷ []) (ended (x == 10) n ++ m))
 
-pub inserted_kept : (at_start : Bool) (main old new : Option (List ℕ)) → Keeps old new → Keeps (ended_text at_start main old) (ended_text at_start main new)
-inserted_kept at_start None old new kept = tt
-inserted_kept at_start (Some m) None new kept = tt
-inserted_kept at_start (Some m) (Some o) None kept = absurd kept
-inserted_kept at_start (Some m) (Some o) (Some n) kept = ap (λ z. ended at_start z ++ m) kept
-
 -- the line end behind its last line, once it is at its end
 pub inserted_ends : (main old new : Option (List ℕ)) → Consumes old new [] → IsAtEnd new → Consumes (ended_text false main old) (ended_text true main new) (10 ∷ [])
 unfolding ended
@@ -184,9 +178,6 @@ pub other_is_over : {E : Type 0} (place : Place) (at_start : Bool) (main old new
 other_is_over place at_start main old new after (suc k) buf result given is starts none room took ended read = absurd (omega (arith, none))
 other_is_over place at_start main old new after zero buf result given is starts none room took ended read =
     subst (λ (p : Place). ReadConsumes (left_at p main old) after result given) (sym (is ∙ ap Inserted starts)) (read_behind main old new after result given took (ended refl room) read)
-
-pub other_kept : (place : Place) (at_start : Bool) (main old new : Option (List ℕ)) → place ≡ Inserted at_start → Keeps old new → Keeps (left_at place main old) (left_at place main new)
-other_kept place at_start main old new is kept = subst (λ (p : Place). Keeps (left_at p main old) (left_at p main new)) (sym is) (inserted_kept at_start main old new kept)
 
 -- what is read of the first bytes that a reader gives, to their end
 taken : (left : Option (List ℕ)) (limit : ℕ) (items : List ℕ) → IfSome (option_map (take limit) left) (λ bytes. items ≡ bytes) → IfSome left (λ bytes. items ≡ take limit bytes)

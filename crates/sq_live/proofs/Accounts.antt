@@ -3,15 +3,21 @@ use Rattle.std.proofs.Common.{◌≡◌, ℕ, ◌+◌, ◌-◌, ◌≤◌, List,
 use Rattle.std.specs.Prelude.{not}
 use Rattle.std.proofs.lemmas.List.Filters.{length-filter_both}
 use Rattle.sq_ranges.specs.Opening.{IsOpening}
+use Rattle.sq_node_model.specs.NodeValue.{ReceiptValue}
 use Rattle.sq_node_model.specs.Gathered.{GatheredValue}
 use Rattle.sq_node_model.proofs.Folded.{rowless_opening}
 use Rattle.sq_audit.specs.declared.job.Job.{Job}
 use Rattle.sq_audit.specs.declared.folded.Folded.{Folded}
+use Rattle.sq_audit.specs.Sound.{with_receipts}
 use Rattle.sq_audit.specs.Folding.{has_receipt, answered_jobs, IsFold}
 use Rattle.sq_live.specs.Account.{AccountValue, IsAccount}
 use Rattle.sq_live.specs.Outcome.{commit_count}
 use Rattle.sq_live.specs.Stages.{HasFolded}
 use Rattle.sq_live.proofs.Commits.{few_commits}
+
+-- a fold of what was gathered with its own receipts
+pub fold_of_own : (old : AccountValue) (g : GatheredValue) (told : List ReceiptValue) (folded : Folded) → told ≡ g.receipts → IsFold old.opening (with_receipts g told) old.jobs folded → IsFold old.opening g old.jobs folded
+fold_of_own old g told folded own fold = subst (λ (x : GatheredValue). IsFold old.opening x old.jobs folded) (ap (with_receipts g) own) fold
 
 module _ (old : AccountValue) (g : GatheredValue) (folded : Folded) (fold : IsFold old.opening g old.jobs folded) where
   -- each job has a receipt or is left
@@ -31,7 +37,7 @@ module _ (old : AccountValue) (g : GatheredValue) (folded : Folded) (fold : IsFo
     account_then is =
         let few = is.few in
         let before = is.commits in
-        let most = few_commits g (answered_jobs g.receipts old.jobs) fold.sound.known fold.sound.answered in
+        let most = few_commits old.opening g (answered_jobs g.receipts old.jobs) fold.sound.known fold.sound.answered in
         record {
           is_opening = subst IsOpening (sym fold.opening) (rowless_opening old.opening folded.opening.table is.is_opening);
           differ = fold.differ;

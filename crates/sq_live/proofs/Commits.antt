@@ -6,11 +6,12 @@ use Rattle.sq_model.proofs.Lists.{Contains-first, Contains-later, Contains-cases
 use Rattle.sq_node_model.specs.NodeValue.{ReceiptValue}
 use Rattle.sq_node_model.specs.Receipts.{is_commit}
 use Rattle.sq_node_model.specs.Gathered.{GatheredValue}
+use Rattle.sq_ranges.specs.OpeningValue.{OpeningValue}
 use Rattle.sq_audit.specs.declared.job.Job.{Job}
 use Rattle.sq_audit.specs.Answers.{is_of, AreKnown, AreAnswered}
-use Rattle.sq_audit.proofs.Jobs.{of_from}
 use Rattle.sq_audit.proofs.Knowing.{count_first}
 use Rattle.sq_live.specs.Outcome.{commit_count}
+use Rattle.sq_live.proofs.Ofs.{of_same}
 
 -- the pairs that go together are as many by the one as by the other
 module _ {X Y : Type 0} (goes : X → Y → Bool) where
@@ -70,20 +71,20 @@ some_count p (y ∷ ys) x has passes = elim (Contains-cases y ys x has) [
       omega (arith, first, rest)
 ]
 
--- each receipt is the answer to a job, and no two are to the same
-pub few_receipts : (g : GatheredValue) (jobs : List Job) → AreKnown g jobs → AreAnswered g jobs → length g.receipts ≤ length jobs
-few_receipts g jobs known answered =
+-- each receipt is of a job, and no two are of the same
+pub few_receipts : (o : OpeningValue) (g : GatheredValue) (jobs : List Job) → AreKnown o g jobs → AreAnswered g jobs → length g.receipts ≤ length jobs
+few_receipts o g jobs known answered =
     let goes : ReceiptValue → Job → Bool = λ receipt job. is_of job.txn receipt in
     let some = each_some (λ receipt. count_by (λ job. goes receipt job) jobs) g.receipts (λ receipt has.
-    let (job, family, job_has, of_root, answer) = known receipt has in
-    some_count (λ (job : Job). goes receipt job) jobs job job_has (of_from job.txn receipt answer.id answer.root)) in
+    let (job, job_has, is) = known.posted receipt has in
+    some_count (λ (job : Job). goes receipt job) jobs job job_has (of_same job.txn receipt is)) in
     let one = each_one (λ job. count_by (λ receipt. goes receipt job) g.receipts) jobs answered in
     let same = crossed goes g.receipts jobs in
     let few : length g.receipts ≤ length jobs = omega (arith, some, one, same) in
     few
 
-pub few_commits : (g : GatheredValue) (jobs : List Job) → AreKnown g jobs → AreAnswered g jobs → commit_count g.receipts ≤ length jobs
-few_commits g jobs known answered =
-    let few = few_receipts g jobs known answered in
+pub few_commits : (o : OpeningValue) (g : GatheredValue) (jobs : List Job) → AreKnown o g jobs → AreAnswered g jobs → commit_count g.receipts ≤ length jobs
+few_commits o g jobs known answered =
+    let few = few_receipts o g jobs known answered in
     let most = count_by-le-length (λ (receipt : ReceiptValue). is_commit receipt.reply) g.receipts in
     omega (arith, few, most)

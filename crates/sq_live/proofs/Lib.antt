@@ -2,6 +2,7 @@ mod JobIds
 mod JobRuns
 mod SpelledJobs
 mod Counts
+mod Ofs
 mod LiveRuns
 mod Moved
 mod Commits

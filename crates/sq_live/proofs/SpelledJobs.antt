@@ -1,6 +1,6 @@
 -- The jobs of an input are those that its lines spell, or else the fault is that of the first line that spells none.
-use Rattle.std.proofs.Common.{◌≡◌, ⊎_elim, ◌⊎◌, inl, inr, ℕ, zero, suc, ◌+◌, ◌<◌, ◌≤◌, ◌==◌, Bool, true, false, List, [], ◌∷◌, ◌++◌, length, slice_get, Contains, Option, Some, None, refl, sym, ap, ◌∙◌, subst, arith, true≢false, eq-eqb}
-use Rattle.std.specs.Prelude.{Result, Ok, Err, All, nat_lt, if◌then◌else◌, bytes_eq, codes, ok_or}
+use Rattle.std.proofs.Common.{◌≡◌, ⊎_elim, ◌⊎◌, inl, inr, ℕ, zero, suc, ◌<◌, ◌≤◌, ◌==◌, Bool, true, false, List, [], ◌∷◌, ◌++◌, length, slice_get, Option, Some, None, refl, sym, ap, ◌∙◌, subst, arith}
+use Rattle.std.specs.Prelude.{Result, Ok, Err, nat_lt, if◌then◌else◌, bytes_eq, codes, ok_or}
 use Rattle.std.specs.List.{AllZip}
 use Rattle.std.proofs.lemmas.Bool.{cases_lt, cond_both, lt-ltb, le-ltb, ltb-true, ltb-false, eqb-true, ne_eqb, false_from_ne_true}
 use Rattle.std.proofs.lemmas.List.{append-nil, append_assoc, length-append}
@@ -10,29 +10,24 @@ use Rattle.sq_schema.specs.Refusals.{txn_fault}
 use Rattle.sq_schema.specs.declared.fault.TxnFault.{TxnFault}
 use Rattle.sq_audit.specs.declared.job.Job.{Job}
 use Rattle.sq_audit.specs.Answers.{IdsDiffer}
-use Rattle.sq_lines.specs.declared.reader.TheConstants.{MAX_LINES}
 use Rattle.sq_lines.specs.Pieces.{PieceValue, Line, Rest, Failed, Endless, TooMany as TooManyLines}
 use Rattle.sq_model.specs.declared.step.Step.{Step}
 use Rattle.sq_model.specs.declared.step.Step.TheVariants.{Submit}
 use Rattle.sq_model.proofs.Lists.{any_in, Contains-slice_get, slice_get-Contains}
 use Rattle.sq_text.specs.declared.fault.LineFault.{LineFault}
 use Rattle.sq_text.specs.declared.fault.LineFault.TheVariants as line
-use Rattle.sq_text.specs.declared.input_fault.InputFault.TheVariants as input
-use Rattle.sq_text.specs.declared.located.InputLine.TheVariants.{Later}
 use Rattle.sq_text.specs.declared.step.TheConstants.{MAX_LINE}
-use Rattle.sq_text.specs.Located.{located}
 use Rattle.sq_text.specs.Words.{Word, words_of}
 use Rattle.sq_text.specs.Steps.{TxnLine, step_of, step_in, txn_in, txn_step, submit_unless, verb_step}
 use Rattle.sq_live.specs.declared.job_list.TheConstants.{MAX_JOBS}
 use Rattle.sq_live.specs.declared.fault.JobFault.{JobFault}
 use Rattle.sq_live.specs.declared.fault.JobFault.TheVariants as faults
 use Rattle.sq_live.specs.declared.fault.LiveFault.{LiveFault}
-use Rattle.sq_live.specs.declared.fault.LiveFault.TheVariants.{Input}
 use Rattle.sq_live.specs.Faults.{fault_at}
 use Rattle.sq_live.specs.Jobs.{has_id, HavePartitions}
 use Rattle.sq_live.specs.JobLines.{job_by, job_of, jobs_then, jobs_in}
-use Rattle.sq_live.specs.SpelledJobs.{SpellsTxn, SpellsFaulty, IsOfTxn, IsJobLine, SpellJobs, SaysOfLine, IsFaultOf, EndInFault}
-use Rattle.sq_live.proofs.JobIds.{its_id, differ_then, few_then, below_most}
+use Rattle.sq_live.specs.SpelledJobs.{SpellsTxn, SpellsFaulty, IsJobLine, SpellJobs, SaysOfLine, IsFaultOf, EndInFault}
+use Rattle.sq_live.proofs.JobIds.{differ_then, few_then, below_most}
 
 -- ---- the words of a line
 

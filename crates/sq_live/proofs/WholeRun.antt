@@ -17,6 +17,7 @@ use Rattle.sq_model.proofs.Lists.{Contains-nothing, Contains-slice_get, slice_ge
 use Rattle.sq_node_model.specs.NodeValue.{ReceiptValue}
 use Rattle.sq_node_model.specs.BeganWith.{BeganWith}
 use Rattle.sq_node_model.specs.Gathered.{GatheredValue}
+use Rattle.sq_node_model.specs.Placed.{IsPlaced}
 use Rattle.sq_node_model.specs.Next.{IsStageDone}
 use Rattle.sq_node_model.specs.Folded.{folded_opening, IsFolded}
 use Rattle.sq_node_model.proofs.Lists.{after_append}
@@ -26,12 +27,12 @@ use Rattle.sq_audit.specs.Answers.{IsAnswerTo, IdsDiffer, is_of}
 use Rattle.sq_audit.specs.Sound.{IsSoundRun}
 use Rattle.sq_audit.specs.Folding.{has_receipt, answered_jobs, jobs_left}
 use Rattle.sq_audit.proofs.Each.{same_of}
-use Rattle.sq_audit.proofs.Jobs.{of_parts}
 use Rattle.sq_audit.proofs.Lists.{counted}
 use Rattle.sq_live.specs.Account.{AccountValue, first_account}
 use Rattle.sq_live.specs.Outcome.{commit_count}
 use Rattle.sq_live.specs.Stages.{HasFolded, HavePassed}
 use Rattle.sq_live.specs.WholeRun.{receipts_over, log_over, whole_family, IsCommitted}
+use Rattle.sq_live.proofs.Ofs.{of_parts}
 use Rattle.sq_live.proofs.StageAdds.{stored_then, base_then, rows_then, folded_rows, told_then, logged, once_then}
 
 count_append : {X : Type 0} (p : X → Bool) (xs ys : List X) → count_by p (xs ++ ys) ≡ count_by p xs + count_by p ys
@@ -44,37 +45,33 @@ take_behind (x ∷ xs) ys n =
 
 -- ---- an answer by a longer log
 
-module _ (root : ℕ) (base : RowList) (front : List TxnValue) (txn : TxnValue) (receipt : ReceiptValue) where
+module _ (root : ℕ) (base : RowList) (front : List TxnValue) (receipt : ReceiptValue) where
   abbrev with_log : List TxnValue → FamilyValue
   with_log log = record { root = root; base = base; log = log }
 
   -- what follows in the log changes nothing
-  longer : (back : List TxnValue) → IsAnswerTo (with_log front) txn receipt → IsAnswerTo (with_log (front ++ back)) txn receipt
+  longer : (back : List TxnValue) → IsAnswerTo (with_log front) receipt → IsAnswerTo (with_log (front ++ back)) receipt
   longer back answer =
       let within = answer.within in
       record {
-        id = answer.id;
-        root = answer.root;
         within = omega (arith, within, length-append front back);
-        told = answer.told ∙ ap (λ (log : List TxnValue). reply (replay_rows base log) txn) (sym (take-append-le receipt.position front back within));
-        there = λ commit. slice_get-front front back receipt.position txn (answer.there commit);
+        told = answer.told ∙ ap (λ (log : List TxnValue). reply (replay_rows base log) receipt.txn) (sym (take-append-le receipt.position front back within));
+        there = λ commit. slice_get-front front back receipt.position receipt.txn (answer.there commit);
       }
 
   -- and what went before is in the rows that the log starts from
-  behind : (family : FamilyValue) → family.base ≡ replay_rows base front → IsAnswerTo family txn receipt
-      → IsAnswerTo (with_log (front ++ family.log)) txn (record receipt { position = length front + receipt.position })
+  behind : (family : FamilyValue) → family.base ≡ replay_rows base front → IsAnswerTo family receipt
+      → IsAnswerTo (with_log (front ++ family.log)) (record receipt { position = length front + receipt.position })
   behind family starts answer =
       let within = answer.within in
       let first = take receipt.position family.log in
       record {
-        id = answer.id;
-        root = answer.root;
         within = omega (arith, within, length-append front family.log);
         told =
-            answer.told ∙ ap (λ (rows : RowList). reply (replay_rows rows first) txn) starts
-            ∙ ap (λ (rows : RowList). reply rows txn) (sym (fold-append effect base front first))
-            ∙ ap (λ (log : List TxnValue). reply (replay_rows base log) txn) (sym (take_behind front family.log receipt.position));
-        there = λ commit. after_append front family.log receipt.position txn (answer.there commit);
+            answer.told ∙ ap (λ (rows : RowList). reply (replay_rows rows first) receipt.txn) starts
+            ∙ ap (λ (rows : RowList). reply rows receipt.txn) (sym (fold-append effect base front first))
+            ∙ ap (λ (log : List TxnValue). reply (replay_rows base log) receipt.txn) (sym (take_behind front family.log receipt.position));
+        there = λ commit. after_append front family.log receipt.position receipt.txn (answer.there commit);
       }
 
 -- ---- what holds of the stages so far
@@ -91,8 +88,8 @@ pub record HaveTold (o : OpeningValue) (jobs : List Job) (stages : List Gathered
   pub within : (job : Job) → Contains left job → Contains jobs job
   pub settled : (job : Job) → Contains jobs job → IsSettled (receipts_over stages) left job
   pub answers : (receipt : ReceiptValue) → Contains (receipts_over stages) receipt
-      → (job : Job) × (position : ℕ) × Contains jobs job × (Contains left job → ⊥)
-      × IsAnswerTo (whole_family o stages receipt.root) job.txn (record receipt { position = position })
+      → (job : Job) × (position : ℕ) × Contains jobs job × (Contains left job → ⊥) × (job.txn ≡ receipt.txn)
+      × IsAnswerTo (whole_family o stages receipt.txn.root) (record receipt { position = position })
   pub each : (root : ℕ) (txn : TxnValue) → Contains (log_over o stages root) txn
       → (job : Job) × Contains jobs job × (job.txn ≡ txn) × (txn.root ≡ root) × IsCommitted (receipts_over stages) job
   pub once : (root id : ℕ) → count_by (λ (txn : TxnValue). txn.id == id) (log_over o stages root) ≤ 1
@@ -114,37 +111,39 @@ pub record AreParted (receipts : List ReceiptValue) (left taken rest : List Job)
 
 module _ (o : OpeningValue) (is : IsOpening o) (jobs : List Job) (differ : IdsDiffer jobs) (earlier : List GatheredValue) (table : TableValue) (left : List Job) (committed : ℕ)
     (told : HaveTold o jobs earlier (λ root. rows_in table root) left committed) (g : GatheredValue) (taken rest : List Job) (sound : IsSoundRun (folded_opening o table) g taken)
-    (done : IsStageDone (folded_opening o table) g) (parted : AreParted g.receipts left taken rest) where
+    (placed : IsPlaced (folded_opening o table) g) (done : IsStageDone (folded_opening o table) g) (parted : AreParted g.receipts left taken rest) where
   abbrev stored : ℕ → FamilyValue
-  stored root = stored_then o is table g taken sound done root
+  stored root = stored_then o is table g taken sound placed done root
 
   pub rows_more : (root : ℕ) → rows_of (stored root) ≡ rows_of (whole_family o (g ∷ earlier) root)
   rows_more root =
-      rows_then o is table g taken sound done root ∙ ap (λ (rows : RowList). replay_rows rows (stored root).log) (told.rows_are root)
+      rows_then o is table g taken sound placed done root ∙ ap (λ (rows : RowList). replay_rows rows (stored root).log) (told.rows_are root)
       ∙ sym (fold-append effect (opening_rows o root) (log_over o earlier root) (stored root).log)
 
   answers_more : (receipt : ReceiptValue) → Contains (receipts_over earlier ++ g.receipts) receipt
-      → (job : Job) × (position : ℕ) × Contains jobs job × (Contains rest job → ⊥)
-      × IsAnswerTo (whole_family o (g ∷ earlier) receipt.root) job.txn (record receipt { position = position })
+      → (job : Job) × (position : ℕ) × Contains jobs job × (Contains rest job → ⊥) × (job.txn ≡ receipt.txn)
+      × IsAnswerTo (whole_family o (g ∷ earlier) receipt.txn.root) (record receipt { position = position })
   answers_more receipt has =
       ⊎_elim
       (λ before.
-      let (job, position, among, gone, answer) = told.answers receipt before in
-      let root = receipt.root in (
+      let (job, position, among, gone, is, answer) = told.answers receipt before in
+      let root = receipt.txn.root in (
         job,
         position,
         among,
         λ stays. gone (parted.rest_of job stays),
-        longer root (opening_rows o root) (log_over o earlier root) job.txn (record receipt { position = position }) (stored root).log answer,
+        is,
+        longer root (opening_rows o root) (log_over o earlier root) (record receipt { position = position }) (stored root).log answer,
       ))
       (λ now.
-      let (job, among, answer) = told_then o is table g taken sound done receipt now in
-      let root = receipt.root in (
+      let (job, among, same, answer) = told_then o is table g taken sound placed done receipt now in
+      let root = receipt.txn.root in (
         job,
         length (log_over o earlier root) + receipt.position,
         told.within job (parted.taken_of job among),
         parted.apart job among,
-        behind root (opening_rows o root) (log_over o earlier root) job.txn receipt (stored root) (base_then o is table g taken sound done root ∙ told.rows_are root) answer,
+        same,
+        behind root (opening_rows o root) (log_over o earlier root) receipt (stored root) (base_then o is table g taken sound placed done root ∙ told.rows_are root) answer,
       ))
       (Contains-append_cases (receipts_over earlier) g.receipts receipt has)
 
@@ -156,7 +155,7 @@ module _ (o : OpeningValue) (is : IsOpening o) (jobs : List Job) (differ : IdsDi
       let (job, among, same, root_is, committed) = told.each root txn before in
       (job, among, same, root_is, (committed.0, Contains-append_left (receipts_over earlier) g.receipts committed.0 committed.1, committed.2, committed.3)))
       (λ now.
-      let is_logged = logged o is table g taken sound done root now.0 txn (slice_get-Contains (stored root).log txn now) in
+      let is_logged = logged o is table g taken sound placed done root now.0 txn (slice_get-Contains (stored root).log txn now) in
       let receipt = is_logged.receipt in (
         is_logged.job,
         told.within is_logged.job (parted.taken_of is_logged.job is_logged.among),
@@ -178,10 +177,10 @@ module _ (o : OpeningValue) (is : IsOpening o) (jobs : List Job) (differ : IdsDi
       let old = counted has_id (log_over o earlier root) some in
       let new = counted has_id (stored root).log more in
       let (was, was_among, was_is, was_root, committed) = told.each root old.one (Contains-slice_get (log_over o earlier root) old.place old.one old.there) in
-      let (job, position, among, gone, answer) = told.answers committed.0 committed.1 in
-      let now = logged o is table g taken sound done root new.place new.one new.there in
+      let (job, position, among, gone, same, answer) = told.answers committed.0 committed.1 in
+      let now = logged o is table g taken sound placed done root new.place new.one new.there in
       let left_now = parted.taken_of now.job now.among in
-      let old_id : old.one.id ≡ job.txn.id = ap (λ (t : TxnValue). t.id) (sym was_is) ∙ sym (of_parts was.txn committed.0 committed.2).id ∙ answer.id in
+      let old_id : old.one.id ≡ job.txn.id = ap (λ (t : TxnValue). t.id) (sym was_is) ∙ sym (of_parts was.txn committed.0 committed.2).id ∙ ap (λ (t : TxnValue). t.id) (sym same) in
       let ids : now.job.txn.id ≡ job.txn.id = ap (λ (t : TxnValue). t.id) now.is ∙ eqb-true new.one.id id new.passes ∙ sym (eqb-true old.one.id id old.passes) ∙ old_id in
       gone (subst (Contains left) (same_job jobs differ now.job job (told.within now.job left_now) among ids) left_now)
 
@@ -190,7 +189,7 @@ module _ (o : OpeningValue) (is : IsOpening o) (jobs : List Job) (differ : IdsDi
       let has_id : TxnValue → Bool = λ txn. txn.id == id in
       let all = count_append has_id (log_over o earlier root) (stored root).log in
       let before = told.once root id in
-      let here = once_then o is table g taken sound done root id in
+      let here = once_then o is table g taken sound placed done root id in
       ⊎_elim
       (λ some. ⊎_elim (λ more. absurd (not_again root id some more)) (λ none. omega (arith, all, before, none)) (cases_lt 0 (count_by has_id (stored root).log)))
       (λ none. omega (arith, all, here, none))
@@ -200,9 +199,9 @@ module _ (o : OpeningValue) (is : IsOpening o) (jobs : List Job) (differ : IdsDi
   none_again : (job : Job) → Contains jobs job → (Contains left job → ⊥) → 0 < count_by (is_of job.txn) g.receipts → ⊥
   none_again job has away some =
       let found = counted (is_of job.txn) g.receipts some in
-      let (other, among, answer) = told_then o is table g taken sound done found.one (Contains-slice_get g.receipts found.place found.one found.there) in
+      let (other, among, same, answer) = told_then o is table g taken sound placed done found.one (Contains-slice_get g.receipts found.place found.one found.there) in
       let other_left = parted.taken_of other among in
-      let ids : other.txn.id ≡ job.txn.id = sym answer.id ∙ (of_parts job.txn found.one found.passes).id in
+      let ids : other.txn.id ≡ job.txn.id = ap (λ (t : TxnValue). t.id) same ∙ (of_parts job.txn found.one found.passes).id in
       away (subst (Contains left) (same_job jobs differ other job (told.within other other_left) has ids) other_left)
 
   settled_more : (job : Job) → Contains jobs job → IsSettled (receipts_over earlier ++ g.receipts) rest job
@@ -290,9 +289,12 @@ module _ (o : OpeningValue) (is : IsOpening o) (jobs : List Job) (differ : IdsDi
   at_begin account first = subst (HaveToldTo o jobs []) (sym first) (record { opening = refl; told = none_told })
 
   module _ (earlier : List GatheredValue) (old : AccountValue) (at : HaveToldTo o jobs earlier old) (g : GatheredValue) (new : AccountValue) (next : GatheredValue)
-      (done : IsStageDone old.opening g) (fold : HasFolded old g new next) where
+      (placed : IsPlaced old.opening g) (done : IsStageDone old.opening g) (fold : HasFolded old g new next) where
     abbrev sound_then : IsSoundRun (folded_opening o old.opening.table) g (answered_jobs g.receipts old.jobs)
     sound_then = subst (λ (p : OpeningValue). IsSoundRun p g (answered_jobs g.receipts old.jobs)) at.opening fold.is.sound
+
+    abbrev placed_then : IsPlaced (folded_opening o old.opening.table) g
+    placed_then = subst (λ (p : OpeningValue). IsPlaced p g) at.opening placed
 
     abbrev done_then : IsStageDone (folded_opening o old.opening.table) g
     done_then = subst (λ (p : OpeningValue). IsStageDone p g) at.opening done
@@ -308,9 +310,9 @@ module _ (o : OpeningValue) (is : IsOpening o) (jobs : List Job) (differ : IdsDi
 
     at_fold : HaveTold o jobs (g ∷ earlier) (λ root. rows_in fold.folded.opening.table root) (jobs_left g.receipts old.jobs) (old.committed + commit_count g.receipts)
     at_fold =
-        told_more o is jobs differ earlier old.opening.table old.jobs old.committed at.told g (answered_jobs g.receipts old.jobs) (jobs_left g.receipts old.jobs) sound_then done_then (receipts_part g.receipts old.jobs)
+        told_more o is jobs differ earlier old.opening.table old.jobs old.committed at.told g (answered_jobs g.receipts old.jobs) (jobs_left g.receipts old.jobs) sound_then placed_then done_then (receipts_part g.receipts old.jobs)
         (λ root. rows_in fold.folded.opening.table root)
-        (folded_rows o is old.opening.table g (answered_jobs g.receipts old.jobs) sound_then done_then fold.folded.opening.table fold.folded.gathered.stores
+        (folded_rows o is old.opening.table g (answered_jobs g.receipts old.jobs) sound_then placed_then done_then fold.folded.opening.table fold.folded.gathered.stores
         (subst (λ (p : OpeningValue). IsFolded p g fold.folded.opening.table fold.folded.gathered.stores) at.opening fold.is.is_folded))
 
     pub once_folded : HaveToldTo o jobs (g ∷ earlier) new
@@ -324,7 +326,7 @@ module _ (o : OpeningValue) (is : IsOpening o) (jobs : List Job) (differ : IdsDi
   told_by_folds [] account began passed = at_begin account passed.0
   told_by_folds (g ∷ earlier) account began passed =
       let (old, before, have, has) = passed in
-      once_folded earlier old (told_by_folds earlier old before have) g account has.next has.done has.continues
+      once_folded earlier old (told_by_folds earlier old before have) g account has.next has.ran.placed has.done has.continues
 
   -- without them the end has all
   same_account : (earlier : List GatheredValue) (account : AccountValue) (began : BeganWith) → HavePassed false o jobs earlier account began → account ≡ first_account o jobs

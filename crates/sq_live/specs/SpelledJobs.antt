@@ -1,5 +1,5 @@
 -- What the jobs of an input are, and what each fault says of its line, in the words of the lines.
-use Rattle.std.specs.Prelude.{◌≡◌, ◌<◌, ◌≤◌, ◌+◌, ◌⊎◌, ℕ, List, ◌∷◌, ◌++◌, length, Contains, Result, Ok, Err, Some}
+use Rattle.std.specs.Prelude.{◌≡◌, ◌<◌, ◌≤◌, ◌+◌, ◌⊎◌, ℕ, List, ◌∷◌, ◌++◌, length, Contains, Ok, Err, Some}
 use Rattle.std.specs.List.{AllZip}
 use Rattle.sq_schema.specs.TxnValue.{TxnValue}
 use Rattle.sq_schema.specs.declared.fault.TxnFault.{TxnFault}

@@ -15,6 +15,7 @@ use Rattle.sq_audit.specs.Folding.{IsFold, answered_jobs}
 use Rattle.sq_run.specs.StageRunValue.{BeganFrom, RanFrom}
 use Rattle.sq_live.specs.declared.outcome.LiveOutcome.{LiveOutcome}
 use Rattle.sq_live.specs.declared.outcome.LiveOutcome.TheVariants as outcome
+use Rattle.sq_live.specs.declared.continuing.Continued.{Continued}
 use Rattle.sq_live.specs.declared.stages.Ready.{Ready}
 use Rattle.sq_live.specs.Account.{AccountValue, IsAccount, first_account}
 use Rattle.sq_stages.specs.Leading.{leading, HasGoneOn}
@@ -38,8 +39,9 @@ ContinuesWith true old g new next = HasFolded old g new next
 ContinuesWith false old g new next = (new ≡ old) × (next ≡ g)
 
 -- a run continues with `now`, or the audit before the fold found a defect
-abbrev pub ContinuesIfSound : Bool → AccountValue → GatheredValue → ControlFlow Defect (AccountValue × GatheredValue) → Type 0
-ContinuesIfSound folds old g (Continue now) = ContinuesWith folds old g now.0 now.1
+abbrev pub ContinuesIfSound : Bool → AccountValue → GatheredValue → ControlFlow Defect Continued → Type 0
+ContinuesIfSound folds old g (Continue now) =
+    ContinuesWith folds old g now.account now.gathered × (now.told.items ≡ now.gathered.receipts)
 ContinuesIfSound folds old g (Break defect) = (folds ≡ true) × IsFirstDefect old.opening g (answered_jobs g.receipts old.jobs) defect
 
 -- a stage that began with `began` left `g`, with all of its segments complete, the leader moved on,
@@ -66,6 +68,7 @@ pub record IsReady (began : BeganWith) (ready : Ready) : Type 0 where
   pub run : BeganFrom ready.account.opening began ready.run
   pub led : ready.moving ≡ leading ready.account.opening began.stage
   pub is_account : IsAccount ready.account
+  pub told : ready.told.items ≡ ready.run.fabric.receipts
 
 -- what comes after a stage that began with `began`: the run ends, or the next stage is ready
 abbrev pub ComesAfterStage : Bool → AccountValue → BeganWith → ControlFlow LiveOutcome Ready → Type 0

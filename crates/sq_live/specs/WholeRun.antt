@@ -16,7 +16,7 @@ use Rattle.sq_node_model.specs.declared.spot.Spot.TheVariants.{Store}
 use Rattle.sq_node_model.specs.Gathered.{GatheredValue}
 use Rattle.sq_node_model.specs.Spots.{family_at_spot, StandsAt}
 use Rattle.sq_audit.specs.declared.job.Job.{Job}
-use Rattle.sq_audit.specs.Answers.{IsAnswerTo, is_of, AreAnsweredBy}
+use Rattle.sq_audit.specs.Answers.{IsAnswerTo, IsPosted, is_of, AreAnsweredBy}
 use Rattle.sq_live.specs.declared.outcome.LiveOutcome.{LiveOutcome}
 use Rattle.sq_live.specs.declared.outcome.LiveOutcome.TheVariants.{Sound, Stopped, Unsound}
 use Rattle.sq_live.specs.declared.ending.LiveEnding.{LiveEnding}
@@ -69,13 +69,12 @@ pub record HasJustCommitted (receipts : List ReceiptValue) (jobs : List Job)
       → Contains log job.txn
   pub once : (id : ℕ) → count_by (λ txn. txn.id == id) log ≤ 1
 
--- each receipt is the right answer to a job at some position of the whole log of its root key
+-- each receipt is of a job, and the right answer at some position of the whole log of its root key
 abbrev pub AreAllAnswers : OpeningValue → List Job → List GatheredValue → Type 0
 AreAllAnswers o jobs stages =
     (receipt : ReceiptValue) → Contains (receipts_over stages) receipt
-    → (job : Job) × (position : ℕ) × Contains jobs job
-    × IsAnswerTo (whole_family o stages receipt.root) job.txn
-    (record receipt { position = position })
+    → IsPosted jobs receipt × (position : ℕ)
+    × IsAnswerTo (whole_family o stages receipt.txn.root) (record receipt { position = position })
 
 -- a run of these jobs ended as the opening plans it: `stages` have its receipts and logs, and its
 -- last stage left `g`

@@ -25,16 +25,18 @@ use std::thread::Threads;
 /// The largest number of segments, as the length of an array.
 const SEGMENTS: usize = SEGMENT_LIMIT as usize;
 
-/// Returns the outcome of a run whose last stage left `g`, after the leader ended the move. `moved`
-/// marks the complete segments. The run is audited only if each job is answered, and it is sound
-/// only if the audit found it so.
+/// Returns the outcome of a run whose last stage left `g`, after the leader ended the move. `told`
+/// are the receipts so far, and `moved` marks the complete segments. The run is audited only if
+/// each job is answered, and it is sound only if the audit found it so.
 pub(crate) fn judge_end<R: Threads + Sync>(
     rt: &R,
     alloc: Global,
     account: &Account,
     g: &Gathered,
+    told: &[Receipt],
     moved: &[bool],
 ) -> Result<LiveOutcome, AllocError>
+    requires told { told.now ≡ g.now.receipts }
     requires moved { MarksMoved g.now.statuses moved.now }
     requires last { g.now.stage + 1 ≡ stages account.now.opening.recon }
     requires done { IsStageDone account.now.opening g.now }
@@ -42,14 +44,14 @@ pub(crate) fn judge_end<R: Threads + Sync>(
         × HasEnded account.now.opening g.now.stage (is_complete_in g.now) at }
     ensures { IfOk result (λ outcome. (folds : Bool) → CameTo folds account.now g.now outcome) }
 {
-    let answered = count_answered(alloc, &g.receipts, &account.jobs)?;
+    let answered = count_answered(alloc, told, &account.jobs)?;
     if answered < account.jobs.len() {
         return Ok(stopped(account, g, moved, answered));
     }
-    match audit_in_threads(rt, &account.opening, g, &account.jobs)? {
+    match audit_in_threads(rt, &account.opening, g, told, &account.jobs)? {
         Verdict::Sound => Ok(LiveOutcome::Sound {
             families: count_families(&g.stores),
-            committed: account.committed + count_commits(&g.receipts),
+            committed: account.committed + count_commits(told),
         }),
         Verdict::Unsound(defect) => Ok(LiveOutcome::Unsound(defect)),
     }
@@ -60,13 +62,15 @@ pub(crate) fn judge_stopped(
     alloc: Global,
     account: &Account,
     g: &Gathered,
+    told: &[Receipt],
     moved: &[bool],
 ) -> Result<LiveOutcome, AllocError>
+    requires told { told.now ≡ g.now.receipts }
     requires moved { MarksMoved g.now.statuses moved.now }
     requires missing { IsStageDone account.now.opening g.now → ⊥ }
     ensures { IfOk result (λ outcome. (folds : Bool) → CameTo folds account.now g.now outcome) }
 {
-    let answered = count_answered(alloc, &g.receipts, &account.jobs)?;
+    let answered = count_answered(alloc, told, &account.jobs)?;
     Ok(stopped(account, g, moved, answered))
 }
 

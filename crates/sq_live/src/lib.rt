@@ -22,5 +22,6 @@ pub use judging::count_commits;
 pub use outcome::{LiveOutcome, write_outcome};
 pub use sq_audit::Job;
 pub use sq_gather::Gathered;
+pub use sq_node::Receipt;
 pub use stages::RunManner;
 pub use watch::Watch;

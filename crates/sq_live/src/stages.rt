@@ -12,7 +12,7 @@ ghost use Rattle.sq_live.specs.Faults.{run_fault};
 ghost use Rattle.sq_live.specs.Live.{WereRun};
 
 use crate::account::Account;
-use crate::continuing::continue_with;
+use crate::continuing::{Continued, continue_with};
 use crate::fault::RunFault;
 use crate::judging::{judge_end, judge_stopped, moved_segments};
 use crate::outcome::LiveOutcome;
@@ -21,7 +21,7 @@ use sq_audit::Job;
 use sq_driver::WorkersEnd;
 use sq_gather::Gathered;
 use sq_leader::Moving;
-use sq_node::Fabric;
+use sq_node::{Fabric, Receipt};
 use sq_run::StageRun;
 use sq_stages::{Led, lead_on};
 use std::alloc::{AllocError, Global};
@@ -47,6 +47,8 @@ pub(crate) struct Ready {
     pub(crate) account: Account,
     pub(crate) moving: Moving,
     pub(crate) run: StageRun,
+    /// The receipts of earlier stages, but for those of folded logs.
+    pub(crate) told: Vec<Receipt>,
 }
 
 /// Runs the jobs of `account` stage by stage, from the first stage to the last, or to the first one
@@ -93,6 +95,7 @@ fn first_ready<R: Threads + Wait + Sync>(
         account,
         moving,
         run,
+        told: Vec::new(alloc),
     })
 }
 
@@ -124,19 +127,20 @@ fn run_stage<R: Threads + Wait + Sync, G: Watch>(
         account,
         moving,
         run,
+        told,
     } = ready;
-    let gathered = drive_all(rt, alloc, run, manner.turns, watch)?;
+    let (gathered, told) = drive_all(rt, alloc, run, told, manner.turns, watch)?;
     let moved = moved_segments(&gathered.statuses);
     match lead_on(moving, &account.opening, &moved) {
-        Led::Next(moving) => go_on(rt, alloc, account, gathered, moving, manner),
+        Led::Next(moving) => go_on(rt, alloc, account, gathered, told, moving, manner),
         Led::Ended => {
-            let outcome = judge_end(rt, alloc, &account, &gathered, &moved)?;
-            watch.leaves(gathered, account.opening, account.jobs);
+            let outcome = judge_end(rt, alloc, &account, &gathered, &told, &moved)?;
+            watch.leaves(gathered, told, account.opening, account.jobs);
             Ok(ControlFlow::Break(outcome))
         }
         Led::Missing => {
-            let outcome = judge_stopped(alloc, &account, &gathered, &moved)?;
-            watch.leaves(gathered, account.opening, account.jobs);
+            let outcome = judge_stopped(alloc, &account, &gathered, &told, &moved)?;
+            watch.leaves(gathered, told, account.opening, account.jobs);
             Ok(ControlFlow::Break(outcome))
         }
     }
@@ -148,17 +152,25 @@ fn go_on<R: Threads + Sync>(
     alloc: Global,
     account: Account,
     gathered: Gathered,
+    told: Vec<Receipt>,
     moving: Moving,
     manner: RunManner,
 ) -> Result<ControlFlow<LiveOutcome, Ready>, RunFault>
+    requires told { told.items ≡ gathered.receipts }
     requires placed { IsPlaced account.opening gathered }
     requires done { IsStageDone account.opening gathered }
     requires led { moving ≡ leading account.opening (gathered.stage + 1) }
     ensures { IfOk result (GoesOnTo manner.folds account gathered) }
 {
-    match continue_with(rt, alloc, manner.folds, account, gathered)? {
-        ControlFlow::Continue((account, gathered)) => {
-            let ready = next_ready(alloc, account, gathered, moving, manner.pumps)?;
+    match continue_with(rt, alloc, manner.folds, account, gathered, told)? {
+        ControlFlow::Continue(
+            Continued {
+                account,
+                gathered,
+                told,
+            },
+        ) => {
+            let ready = next_ready(alloc, account, gathered, told, moving, manner.pumps)?;
             Ok(ControlFlow::Continue(ready))
         }
         ControlFlow::Break(defect) => Ok(ControlFlow::Break(LiveOutcome::Unsound(defect))),
@@ -166,43 +178,50 @@ fn go_on<R: Threads + Sync>(
 }
 
 // Drives each partition and each pump in a thread of its own, and gathers what they left, which is
-// placed, whatever the threads did. `watch` is called before the threads start, after they have
-// ended, and with what was gathered.
+// placed, whatever the threads did, with the receipts so far: `told` are those of earlier stages.
+// `watch` is called before the threads start, after they have ended, and with what was gathered.
 fn drive_all<R: Threads + Wait + Sync, G: Watch>(
     rt: &R,
     alloc: Global,
     mut run: StageRun,
+    told: Vec<Receipt>,
     turns: u64,
     watch: &G,
-) -> Result<Gathered, RunFault>
-    ensures { IfOk result (λ g. (o : OpeningValue) (began : BeganWith)
-        → IsOpening o → BeganFrom o began run → RanFrom o began g) }
+) -> Result<(Gathered, Vec<Receipt>), RunFault>
+    requires { told.items ≡ run.fabric.receipts }
+    ensures ran { IfOk result (λ left. (o : OpeningValue) (began : BeganWith)
+        → IsOpening o → BeganFrom o began run → RanFrom o began left.0) }
+    ensures told { IfOk result (λ left. left.1.items ≡ left.0.receipts) }
 {
     watch.stage_begins();
     let end = run.drive(rt, turns, watch);
-    watch.stage_ends(run.nodes());
-    let gathered = gather_from(rt, alloc, run, end)?;
-    watch.gathers(&gathered);
-    Ok(gathered)
+    watch.stage_ends(run.pairs());
+    let (gathered, told) = gather_from(rt, alloc, run, told, end)?;
+    watch.gathers(&gathered, &told);
+    Ok((gathered, told))
 }
 
-// Gathers what the workers of a stage left, unless they gave up.
+// Gathers what the workers of a stage left, unless they gave up, and adds the stage's receipts to
+// `told`.
 fn gather_from<R: Wait>(
     rt: &R,
     alloc: Global,
     run: StageRun,
+    told: Vec<Receipt>,
     end: WorkersEnd,
-) -> Result<Gathered, RunFault>
-    ensures ran { IfOk result (λ g. (o : OpeningValue) (began : BeganWith)
-        → IsOpening o → BeganFrom o began run → RanFrom o began g) }
+) -> Result<(Gathered, Vec<Receipt>), RunFault>
+    requires { told.items ≡ run.fabric.receipts }
+    ensures ran { IfOk result (λ left. (o : OpeningValue) (began : BeganWith)
+        → IsOpening o → BeganFrom o began run → RanFrom o began left.0) }
+    ensures told { IfOk result (λ left. left.1.items ≡ left.0.receipts) }
     ensures done { OnOk result (end ≡ ends.Done) }
     ensures fault { IfErr result (λ fault. fault ≡ run_fault end) }
 {
     if end != WorkersEnd::Done {
         return Err(RunFault::of(end));
     }
-    match run.gather(rt, alloc) {
-        Ok(gathered) => Ok(gathered),
+    match run.gather(rt, alloc, told) {
+        Ok(left) => Ok(left),
         Err(_) => Err(RunFault::of(end)),
     }
 }
@@ -212,10 +231,12 @@ fn next_ready(
     alloc: Global,
     account: Account,
     gathered: Gathered,
+    told: Vec<Receipt>,
     moving: Moving,
     pumps: u32,
 ) -> Result<Ready, AllocError>
     requires pumps { pumps ≤ MAX_PUMPS }
+    requires told { told.items ≡ gathered.receipts }
     requires placed { IsPlaced account.opening gathered }
     requires done { IsStageDone account.opening gathered }
     requires led { moving ≡ leading account.opening (gathered.stage + 1) }
@@ -227,6 +248,7 @@ fn next_ready(
             account,
             moving,
             run,
+            told,
         }),
         Err(_) => Err(AllocError),
     }

@@ -1,6 +1,5 @@
 //! As many jobs as the word of its command line says are answered by an engine while root keys move: from one partition to four in
-//! three stages, and back in one, ten times. Each job is answered once, each root key's numbers are 1, 2, 3 and so on, and each page
-//! is sound.
+//! three stages, and back in one, ten times. Each job is answered once, and each root key's numbers are 1, 2, 3 and so on.
 #![tactic(auto)]
 
 use anyhow::Context;

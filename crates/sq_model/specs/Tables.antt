@@ -3,7 +3,6 @@
 use Rattle.std.specs.Prelude.{◌≡◌, ℕ, Bool, ◌==◌, nat_le, if◌then◌else◌, List, [], ◌∷◌, ◌++◌, length}
 use Rattle.sq_schema.specs.Effect.{RowTable, replay, replay_rows, only}
 use Rattle.sq_schema.specs.TxnValue.{TxnValue}
-use Rattle.sq_schema.specs.declared.family.TheConstants.{MAX_LOG}
 use Rattle.sq_schema.specs.Family.{FamilyValue, rows_size, family_stands}
 use Rattle.sq_schema.specs.Table.{rows_in}
 use Rattle.sq_ranges.specs.OpeningValue.{OpeningValue}
@@ -41,7 +40,7 @@ log_of o t root = only root (unfolded t (destination o root))
 
 -- the log of a root key is full
 abbrev pub is_full : OpeningValue → Trace → ℕ → Bool
-is_full o t root = nat_le MAX_LOG (length (log_of o t root))
+is_full o t root = nat_le o.config.log_limit (length (log_of o t root))
 
 -- the family of a root key
 abbrev pub family_of : OpeningValue → Trace → ℕ → FamilyValue

@@ -19,6 +19,7 @@ use Rattle.sq_model.specs.declared.step.Step.TheVariants.{Prepare, Start, Submit
 use Rattle.sq_model.specs.declared.answer.Answer.{Answer}
 use Rattle.sq_model.specs.declared.answer.Answer.TheVariants.{Done, Replied, Moved, Waits, Resumed, WasCut, WasLoaded, Reads, Refused}
 use Rattle.sq_model.specs.declared.answer.Refusal.TheVariants.{NotMoving, NoSuchSegment, NoSuchNode, NotFree, NotLive, IsLeaf, NotClaimed, WrongPull, NothingToCut, OutboxFull, OutboxEmpty, LinkFull, LinkEmpty, InboxEmpty, NotLoaded, AlreadyMoving, NotFinished, NoSuchPartition, NoneReady, NoSuchLink, NotPartial, NotPrepared}
+use Rattle.sq_ranges.specs.declared.opening.TheConstants.{LOG_LIMIT}
 
 -- one root row with a note, which enlarges its family
 abbrev pub noted_row : ℤ → List ℕ → RowList
@@ -42,7 +43,7 @@ four_keys limit capacity table =
             ∷ record { lo = 8; hi = ROOT_END; owner = 0 } ∷ [];
       };
       recon = record { width = 1; ranges = moving; segments = moving; auto = false };
-      config = record { width = 1; limit = limit; capacity = capacity };
+      config = record { width = 1; limit = limit; capacity = capacity; log_limit = LOG_LIMIT };
       table = table;
     }
 

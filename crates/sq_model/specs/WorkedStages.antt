@@ -13,6 +13,7 @@ use Rattle.sq_model.specs.declared.answer.Answer.{Answer}
 use Rattle.sq_model.specs.declared.answer.Answer.TheVariants.{Done, Moved, Waits, Resumed, Refused}
 use Rattle.sq_model.specs.declared.answer.Refusal.TheVariants.{NoSuchSegment, NoSuchLink, NotFinished, LastStage}
 use Rattle.sq_model.specs.Worked.{row, get_row, found, got, carried_to, carried_answers}
+use Rattle.sq_ranges.specs.declared.opening.TheConstants.{LOG_LIMIT}
 
 -- partition 0 sends the keys 4 to 7 and 12 to 15 to partition 1 in the first stage, and the keys 8
 -- to 11 to partition 2 in the second
@@ -31,7 +32,7 @@ two_stages =
             ∷ record { lo = 16; hi = ROOT_END; owner = 0 } ∷ [];
       };
       recon = record { width = 1; ranges = moving; segments = moving; auto = true };
-      config = record { width = 1; limit = 64; capacity = 1 };
+      config = record { width = 1; limit = 64; capacity = 1; log_limit = LOG_LIMIT };
       table = (5, row (pos 10)) ∷ (9, row (pos 20)) ∷ [];
     }
 

@@ -16,4 +16,4 @@ pub mod Bridges
 pub mod Keeps
 pub mod Told
 pub mod Rooms
-pub mod Turned
+pub mod Turning

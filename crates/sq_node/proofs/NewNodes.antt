@@ -155,25 +155,6 @@ pub same_new : (o : OpeningValue) (old new : FabricValue) (part : ℕ) (store : 
 same_new o old new part store node same made =
     subst (λ (fabric : FabricValue). IsNewNode fabric (running_core o fabric.stage part store) node) (sym same) (same_node old new.seats new.receipts (running_core o old.stage part store) node made)
 
--- one more node, of a partition with one more store
-pub more_nodes : (o : OpeningValue) (fabric : FabricValue) (stores : List StoreValue) (store : StoreValue) (nodes : List NodeState) (node : NodeState) → AreNewNodes o fabric stores nodes
-    → IsNewNode fabric (running_core o fabric.stage (length stores) store) node → AreNewNodes o fabric (stores ++ store ∷ []) (nodes ++ node ∷ [])
-more_nodes o fabric stores store nodes node are made =
-    record {
-      all = length-append nodes (node ∷ []) ∙ ap (λ (n : ℕ). n + 1) are.all ∙ sym (length-append stores (store ∷ []));
-      each = λ part one there. ⊎_elim
-          (λ (earlier : slice_get nodes part ≡ Some one).
-          let lt = slice_get_within nodes part one earlier in
-          let within : part < length stores = omega (arith, are.all) in
-          subst (λ (s : StoreValue). IsNewNode fabric (running_core o fabric.stage part s) one) (sym (before stores store empty part within)) (are.each part one earlier))
-          (λ (end : (part ≡ length nodes) × (node ≡ one)).
-          let here : length stores ≡ part = sym are.all ∙ sym end.0 in
-          let store_is : store ≡ slice_index_or (stores ++ store ∷ []) part empty = sym (last stores store empty) ∙ ap (λ (k : ℕ). get_or (stores ++ store ∷ []) k empty) here in
-          subst (IsNewNode fabric (running_core o fabric.stage part (slice_index_or (stores ++ store ∷ []) part empty))) end.1
-          (subst (λ (core : CoreValue). IsNewNode fabric core node) (λ k. running_core o fabric.stage (here k) (store_is k)) made))
-          (push_stood nodes node part one there);
-    }
-
 pub no_nodes : (o : OpeningValue) (fabric : FabricValue) (first : ℕ) → AreNewNodesFrom o fabric first [] []
 no_nodes o fabric first = record { all = refl; each = λ at node there. absurd (omega (arith, slice_get_within [] at node there)) }
 

@@ -95,9 +95,9 @@ pub after_resumed : (old new : CoreValue) (resumed : Resumed) (seats : List Seat
 after_resumed old new resumed seats pending complete taken =
     same_loads old new seats pending complete (ap (λ (core : CoreValue). core.recon) taken.after) (ap (λ (core : CoreValue). core.loaded) taken.after)
 
-pub receipt_same : (old : StoreValue) (txn : TxnValue) (reply : Reply) (after : ℕ) (receipt : ReceiptValue) → receipt ≡ record { id = txn.id; root = txn.root; position = position_before after reply; reply = reply }
+pub receipt_same : (old : StoreValue) (txn : TxnValue) (reply : Reply) (after : ℕ) (receipt : ReceiptValue) → receipt ≡ record { txn = txn; position = position_before after reply; reply = reply }
     → position_before after reply ≡ log_length old txn.root → receipt ≡ receipt_of old txn reply
-receipt_same old txn reply after receipt is position = is ∙ (λ k. record { id = txn.id; root = txn.root; position = position k; reply = reply })
+receipt_same old txn reply after receipt is position = is ∙ (λ k. record { txn = txn; position = position k; reply = reply })
 
 -- a claim leaves what a seat knows
 knows_claimed : (leaf pull : ℕ) (claim : LeafClaim) (v w : View) → ClaimsLeaf leaf pull claim v w → KnowsNoLess v w

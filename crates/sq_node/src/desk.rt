@@ -3,6 +3,7 @@ ghost use Rattle.std.specs.Prelude.{◌≡◌, ◌↔◌, ◌++◌, ◌∷◌, [
 
 use crate::fabric::Fabric;
 use crate::receipt::Receipt;
+use sq_history::History;
 use sq_plan::PartId;
 use sq_schema::Txn;
 use std::alloc::{AllocError, Global};
@@ -18,15 +19,16 @@ pub struct Post {
     pub job: Txn,
 }
 
-/// The receipts of a node, and the jobs that it has to forward. To a contract it is a `DeskValue`.
+/// The history of a node's receipts, and the jobs that it has to forward. To a contract it is a
+/// `DeskValue`.
 #[derive(Debug, Drop)]
 pub(crate) struct Desk {
-    receipts: Vec<Receipt>,
+    receipts: History<Receipt>,
     posts: VecDeque<Post>,
 }
 
 impl Model for Desk {
-    ghost use Rattle.std.specs.Prelude.{nat_lt, ◌&&◌, vec_len, vec_capacity};
+    ghost use Rattle.std.specs.Prelude.{nat_lt};
     ghost use Rattle.std.specs.VecDeque.{deque_len, deque_capacity};
     ghost use Rattle.sq_node.specs.DeskValue.{DeskValue};
 
@@ -35,8 +37,7 @@ impl Model for Desk {
     ghost view = { λ d. record {
       receipts = d.receipts.items;
       posts = d.posts.items;
-      has_room = nat_lt (vec_len d.receipts) (vec_capacity d.receipts)
-          && nat_lt (deque_len d.posts) (deque_capacity d.posts);
+      has_room = nat_lt (deque_len d.posts) (deque_capacity d.posts);
     } };
 }
 
@@ -47,7 +48,7 @@ impl Desk {
         ensures posts { result.posts ≡ [] }
     {
         Desk {
-            receipts: Vec::new(alloc),
+            receipts: History::new(),
             posts: VecDeque::new(alloc),
         }
     }
@@ -60,30 +61,21 @@ impl Desk {
         self.posts = posts;
     }
 
-    /// Returns the receipts, in the order in which they were added.
-    pub(crate) fn receipts(&self) -> &[Receipt]
-        ensures { result.now ≡ self.now.receipts }
-    {
-        &self.receipts
-    }
-
-    /// Reserves room for one more receipt and one more job.
+    /// Reserves room for one more job.
     pub(crate) fn reserve(&mut self) -> Result<(), AllocError>
         ensures receipts { self.new.receipts ≡ self.old.receipts }
         ensures posts { self.new.posts ≡ self.old.posts }
         ensures ok { OnOk result (self.new.has_room ≡ true) }
     {
-        self.receipts.reserve(1)?;
         self.posts.reserve(1)
     }
 
-    /// Appends `receipt`, for which there is room.
-    pub(crate) fn add(&mut self, receipt: Receipt)
-        requires { self.old.has_room ≡ true }
-        ensures receipts { self.new.receipts ≡ self.old.receipts ++ receipt ∷ [] }
+    /// Adds `receipt` to the history.
+    pub(crate) fn add(&mut self, receipt: &Receipt)
+        ensures receipts { self.new.receipts ≡ self.old.receipts ++ receipt.now ∷ [] }
         ensures posts { self.new.posts ≡ self.old.posts }
     {
-        self.receipts.push_reserved(receipt);
+        self.receipts = self.receipts.and(receipt);
     }
 
     /// Forwards `job` to partition `to`. If the queue of `to` is full or memory runs out, the job
@@ -127,8 +119,8 @@ impl Desk {
         self.posts.is_empty()
     }
 
-    /// Returns the receipts, and the jobs that are left to forward.
-    pub(crate) fn into_parts(self) -> (Vec<Receipt>, VecDeque<Post>)
+    /// Returns the history of receipts, and the jobs that are left to forward.
+    pub(crate) fn into_parts(self) -> (History<Receipt>, VecDeque<Post>)
         ensures receipts { result.0.items ≡ self.receipts }
         ensures posts { result.1.items ≡ self.posts }
     {

@@ -5,6 +5,7 @@ ghost use Rattle.sq_node.specs.FabricValue.{IsFabric};
 
 use crate::receipt::Receipt;
 use crossbeam_queue::ArrayQueue;
+use sq_history::History;
 use sq_link::SharedLink;
 use sq_plan::PartId;
 use sq_pull::{Request, Shared};
@@ -32,8 +33,8 @@ pub const JOB_PLACES: usize = 4096;
 const CLOSED: u64 = 0x8000_0000_0000_0000;
 
 /// What the nodes of a run share by `&`: the split trees, the links, for each partition a queue of
-/// requests to begin nodes and a queue of jobs, and the receipts of earlier stages. To a contract
-/// it is a `FabricValue`.
+/// requests to begin nodes and a queue of jobs, and the history of receipts of earlier stages. To a
+/// contract it is a `FabricValue`.
 #[derive(Drop)]
 pub struct Fabric {
     recon: Recon,
@@ -43,7 +44,7 @@ pub struct Fabric {
     trees: Vec<StatusTree>,
     seats: Vec<TreeSeat>,
     links: Vec<SharedLink>,
-    receipts: Vec<Receipt>,
+    receipts: History<Receipt>,
     requests: Vec<ArrayQueue<Request>>,
     jobs: Vec<ArrayQueue<Box<Txn>>>,
     posted: AtomicU64,
@@ -77,8 +78,8 @@ pub struct FabricParts {
     /// The seat that each segment's tree was opened with.
     pub seats: Vec<TreeSeat>,
     pub links: Vec<SharedLink>,
-    /// The receipts of earlier stages, in the order in which they were passed in.
-    pub receipts: Vec<Receipt>,
+    /// The history of receipts of earlier stages.
+    pub receipts: History<Receipt>,
     /// The requests that each partition has not taken.
     pub requests: Vec<ArrayQueue<Request>>,
     /// The jobs that each partition has not taken.
@@ -234,13 +235,6 @@ impl Fabric {
     pub fn is_answered(&self) -> bool {
         let answered = self.answered.load(Ordering::SeqCst);
         answered == self.posted.load(Ordering::SeqCst) & !CLOSED
-    }
-
-    /// Returns the receipts of earlier stages.
-    pub fn receipts(&self) -> &[Receipt]
-        ensures { result.now ≡ self.now.receipts }
-    {
-        &self.receipts
     }
 
     /// Returns true if the stage that runs is the last one.

@@ -16,7 +16,7 @@ pub use desk::Post;
 pub use effort::Effort;
 pub use ends::{LinkEnd, PartEnd, Receiver, RecvEnd, SendEnd, Sender};
 pub use fabric::{Fabric, FabricParts, JOB_PLACES, Unposted, Unresumed};
-pub use node::{Node, NodeParts};
+pub use node::{Node, NodeParts, Turned};
 pub use receipt::Receipt;
 pub use run_parts::RunParts;
 pub use stepped::Stepped;

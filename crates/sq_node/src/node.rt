@@ -8,6 +8,7 @@ use crate::effort::Effort;
 use crate::ends::{Receiver, Sender};
 use crate::receipt::Receipt;
 use sq_exec::{CoreParts, PartCore};
+use sq_history::History;
 use sq_plan::PartId;
 use sq_pull::Puller;
 use sq_ranges::SegId;
@@ -23,8 +24,10 @@ mod links;
 mod trees;
 mod turn;
 
+pub use turn::Turned;
+
 /// A partition in a thread of its own: the partition, its seat at each tree, its ends of the links,
-/// and the receipts of the jobs that it answered. To a contract it is a `NodeState`.
+/// and the history of its receipts. To a contract it is a `NodeState`.
 #[derive(Drop)]
 pub struct Node {
     core: PartCore<SlabStore>,
@@ -115,13 +118,6 @@ impl Node {
         self.desk.keep(posts);
     }
 
-    /// Returns the receipts of the jobs that it answered, in the order in which they were written.
-    pub fn receipts(&self) -> &[Receipt]
-        ensures { result.now ≡ self.now.receipts }
-    {
-        self.desk.receipts()
-    }
-
     /// Returns how many jobs it has to forward.
     pub fn pending_jobs(&self) -> usize {
         self.desk.pending()
@@ -152,8 +148,8 @@ pub struct NodeParts {
     pub sends: Vec<Sender>,
     /// Its end of the link from each partition.
     pub recvs: Vec<Receiver>,
-    /// The receipts, in the order in which they were written.
-    pub receipts: Vec<Receipt>,
+    /// The history of its receipts, in the order in which they were written.
+    pub receipts: History<Receipt>,
     /// The jobs that it still had to forward.
     pub posts: VecDeque<Post>,
     /// The claims that it won, with the requests that weren't sent.

@@ -62,6 +62,7 @@ first_can o = record {
   opening = λ root opened. ap (λ b. is_some (if b then Some (opening_family o root) else None)) opened;
   named = λ root family e position. none_first position ∙ ap (λ (one : FamilyValue). one_if (nat_lt position (length one.log))) (opening_is root family e);
   told = λ receipt has commit. absurd (Contains-nothing receipt has);
+  aborted = λ receipt has aborts. absurd (Contains-nothing receipt has);
 }
   where
     opening_is : (root : ℕ) (family : FamilyValue) → (first_began o).families root ≡ Some family → opening_family o root ≡ family

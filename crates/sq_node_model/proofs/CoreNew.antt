@@ -124,6 +124,7 @@ module _ (o : OpeningValue) (began : BeganWith) (can : CanBegin o began) (part :
           ∙ none_between (length family.log) position);
       named_came = λ root chunk family has covered stored position. absurd (none_loaded chunk has);
       told = λ receipt has commit. absurd (Contains-nothing receipt has);
+      aborted = λ receipt has aborts. absurd (Contains-nothing receipt has);
     };
   }
 

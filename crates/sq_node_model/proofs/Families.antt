@@ -50,14 +50,12 @@ pub record IsCarriedOn (g : GatheredValue) (root : ℕ) (family : FamilyValue) :
 pub told_on : (first family : FamilyValue) (receipt : ReceiptValue) → GrowsFrom first family → IsToldBy first receipt → IsToldBy family receipt
 told_on first family receipt grows t =
     let more = grows.log.0 in
-    let within = slice_get_within first.log receipt.position t.txn t.there in
+    let within = slice_get_within first.log receipt.position receipt.txn t.there in
     record {
-      txn = t.txn;
-      there = ap (λ log. slice_get log receipt.position) grows.log.1 ∙ slice_get-front first.log more receipt.position t.txn t.there;
-      id = t.id;
+      there = ap (λ log. slice_get log receipt.position) grows.log.1 ∙ slice_get-front first.log more receipt.position receipt.txn t.there;
       told =
           t.told
-          ∙ ap₂ (λ base log. reply (replay_rows base log) t.txn) (sym grows.base)
+          ∙ ap₂ (λ base log. reply (replay_rows base log) receipt.txn) (sym grows.base)
           (sym (ap (take receipt.position) grows.log.1 ∙ take-append-le receipt.position first.log more (omega (arith, within))));
     }
 

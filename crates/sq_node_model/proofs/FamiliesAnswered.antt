@@ -1,14 +1,15 @@
 -- The families of a partition once a transaction was answered at it.
-use Rattle.std.proofs.Common.{◌≡◌, ◌⊎◌, inl, inr, ⊎_elim, ℕ, suc, ◌+◌, ◌≤◌, true, false, ◌==◌, ◌&&◌, nat_le, nat_lt, if◌then◌else◌, List, [], ◌∷◌, ◌++◌, length, Option, Some, None, refl, sym, ap, ◌∙◌, subst, true≢false, append_assoc, append-nil, length-append, arith}
+use Rattle.std.proofs.Common.{◌≡◌, ◌⊎◌, inl, inr, ⊎_elim, ℕ, suc, ◌+◌, ◌≤◌, true, false, ◌==◌, ◌&&◌, nat_le, nat_lt, if◌then◌else◌, List, [], ◌∷◌, ◌++◌, length, take, Option, Some, None, refl, sym, ap, ◌∙◌, subst, true≢false, append_assoc, append-nil, length-append, arith}
 use Rattle.std.specs.Prelude.{◌≢◌, not, is_some, unwrap_or}
 use Rattle.std.specs.Cmp.{unsigned_tied, nat_cmp_total}
 use Rattle.std.specs.FinMap.{get, insert, get-insert}
 use Rattle.std.proofs.lemmas.Bool.{cases_Bool, ne_eqb, eq-eqb}
 use Rattle.std.proofs.lemmas.Bool.Decides.{eqb_tells}
 use Rattle.std.proofs.lemmas.List.Elements.{All-nil, All-push, Contains-push_cases}
+use Rattle.std.proofs.Math.Seq.{take-append_seam}
 use Rattle.sq_schema.specs.TxnValue.{TxnValue}
 use Rattle.sq_schema.specs.declared.txn.Reply.{Reply}
-use Rattle.sq_schema.specs.Effect.{RowList}
+use Rattle.sq_schema.specs.Effect.{RowList, replay_rows, reply}
 use Rattle.sq_schema.specs.Family.{FamilyValue, logged}
 use Rattle.sq_store.specs.StoreValue.{StoreValue, absent, family_at, family_in, store_reply}
 use Rattle.sq_store.proofs.Applies.{found_family, absent_family}
@@ -21,10 +22,10 @@ use Rattle.sq_node_model.specs.BeganWith.{BeganWith, is_given, given_family, is_
 use Rattle.sq_node_model.specs.NodeValue.{ReceiptValue}
 use Rattle.sq_node_model.specs.Steps.{receipt_of}
 use Rattle.sq_node_model.specs.Chunks.{IsCovered}
-use Rattle.sq_node_model.specs.Receipts.{is_commit, names, times_named, IsToldBy}
-use Rattle.sq_node_model.specs.FamiliesHold.{IsHome, IsStored, IsCarried, IsStoredOrCut, IsOf, GrowsFrom, brought, StoreHolds, FamiliesHold, ReceiptsHold}
+use Rattle.sq_node_model.specs.Receipts.{is_commit, names, times_named, IsToldBy, IsReplyIn}
+use Rattle.sq_node_model.specs.FamiliesHold.{IsHome, IsStored, IsCarried, IsStoredOrCut, IsOf, GrowsFrom, brought, CameWithout, IsAbortHere, StoreHolds, FamiliesHold, ReceiptsHold}
 use Rattle.sq_node_model.proofs.Named.{unnamed, named_more}
-use Rattle.sq_node_model.proofs.Told.{told_more, told_new, one_more_position, none_before}
+use Rattle.sq_node_model.proofs.Told.{told_more, told_new, reply_on, one_more_position, none_before}
 
 -- a root key that was given no family
 pub not_given : (began : BeganWith) (root : ℕ) → is_given began root ≡ false → given_family began root ≡ absent root
@@ -46,24 +47,10 @@ not_opened o root none = here (opening_rows o root) none
     here [] e = refl
     here (row ∷ rows) e = absurd (true≢false (sym (ap not (ne_eqb (suc (length rows)) 0 (λ z. omega (arith, z)))) ∙ e))
 
--- a transaction that aborted leaves a receipt and nothing else
-pub receipts_aborted : {began : BeganWith} (o : OpeningValue) (part : ℕ) (cut loaded : ChunkValue → Type 0) (store : StoreValue) (receipts : List ReceiptValue) (receipt : ReceiptValue) → is_commit receipt.reply ≡ false
-    → ReceiptsHold o began part cut loaded store receipts → ReceiptsHold o began part cut loaded store (receipts ++ receipt ∷ [])
-receipts_aborted o part cut loaded store receipts receipt aborted r = record {
-  named_home = λ root family kept owned position. same root position ∙ r.named_home root family kept owned position;
-  named_came = λ root chunk family has covered stored position. same root position ∙ r.named_came root chunk family has covered stored position;
-  told = λ other has commit.
-      ⊎_elim
-      (λ old. r.told other old commit)
-      (λ new. absurd (true≢false (sym commit ∙ ap (λ (one : ReceiptValue). is_commit one.reply) (sym new) ∙ aborted)))
-      (Contains-push_cases receipts receipt other has);
-}
-  where
-    same : (root position : ℕ) → times_named root position (receipts ++ receipt ∷ []) ≡ times_named root position receipts
-    same root position =
-        let none : one_if (names root position receipt) ≡ 0 = ap (λ b. one_if (b && ((receipt.root == root) && (receipt.position == position)))) aborted in
-        named_more root position receipts receipt
-        ∙ (let e : times_named root position receipts + one_if (names root position receipt) ≡ times_named root position receipts = omega (arith, none) in e)
+-- a value is none if it isn't some
+none_is : {X : Type 0} (found : Option X) → is_some found ≡ false → found ≡ None
+none_is None e = refl
+none_is (Some x) e = absurd (true≢false e)
 
 module _ {began : BeganWith} (o : OpeningValue) (part : ℕ) (cut loaded : ChunkValue → Type 0) (store : StoreValue) (txn : TxnValue)
     (here : IsHome o began.stage part cut txn.root ⊎ IsCovered loaded txn.root) (away : (root : ℕ) → IsCovered loaded root → owner_in o began.stage root ≢ part)
@@ -136,6 +123,14 @@ module _ {began : BeganWith} (o : OpeningValue) (part : ℕ) (cut loaded : Chunk
     came = λ root other family has carried. let found = s.came root other family has carried in stored_some root found.0 found.1;
   }
 
+  -- a root key at home without a family was given none
+  not_given_here : get store txn.root ≡ None → IsHome o began.stage part cut txn.root → is_given began txn.root ≡ false
+  not_given_here none at_home =
+      elim (cases_Bool (is_given began txn.root)) [
+        | inl given ↦ let found = s.home txn.root at_home given in absurd (not_stored found.0 none found.1)
+        | inr e ↦ e
+      ]
+
   -- the family continues what the root key was given, also where that is nothing
   home_was_grown : IsHome o began.stage part cut txn.root → GrowsFrom (given_family began txn.root) was
   home_was_grown at_home =
@@ -143,10 +138,7 @@ module _ {began : BeganWith} (o : OpeningValue) (part : ℕ) (cut loaded : Chunk
       (λ has. f.home_grown txn.root was at_home has)
       (λ none.
       subst (λ first. GrowsFrom first was)
-      (none.1 ∙ sym (not_given began txn.root (elim (cases_Bool (is_given began txn.root)) [
-        | inl given ↦ let found = s.home txn.root at_home given in absurd (not_stored found.0 none.0 found.1)
-        | inr e ↦ e
-      ])))
+      (none.1 ∙ sym (not_given began txn.root (not_given_here none.0 at_home)))
       (grows_itself was))
       stood
 
@@ -205,6 +197,60 @@ module _ {began : BeganWith} (o : OpeningValue) (part : ℕ) (cut loaded : Chunk
         (λ old. f.grown root other family has covered old.1)
         (stored_now root family stored);
   }
+
+  -- a root key without a family here came without one
+  came_without : get store txn.root ≡ None → CameWithout began loaded txn.root
+  came_without none =
+      ⊎_elim
+      (λ at_home. inl (none_is (began.families txn.root) (not_given_here none at_home)))
+      (λ (covered : IsCovered loaded txn.root).
+      let chunk = covered.0 in
+      inr (chunk, covered.1, covered.2, nothing chunk covered.1 (family_in chunk.families txn.root) refl))
+      here
+    where
+      nothing : (other : ChunkValue) → loaded other → (found : Option FamilyValue) → family_in other.families txn.root ≡ found → family_in other.families txn.root ≡ None
+      nothing other has (Some family) e = let found = s.came txn.root other family has e in absurd (not_stored found.0 none found.1)
+      nothing other has None e = e
+
+  -- the reply is that of the next position of the log
+  reply_here : (given : Reply) → given ≡ store_reply store txn → IsReplyIn was (receipt_of store txn given)
+  reply_here given is = record {
+    within = omega arith;
+    told =
+        is ∙ ap (λ log. reply (replay_rows was.base log) txn)
+        (sym (ap (take (length was.log)) (sym (append-nil was.log)) ∙ take-append_seam was.log []));
+  }
+
+  abort_here : (given : Reply) → given ≡ store_reply store txn → IsAbortHere began cut loaded store (receipt_of store txn given)
+  abort_here given is =
+      ⊎_elim
+      (λ has. inl (was, inl has, reply_here given is))
+      (λ none. inr (came_without none.0, subst (λ (one : FamilyValue). IsReplyIn one (receipt_of store txn given)) none.1 (reply_here given is)))
+      stood
+
+  -- a transaction that aborted leaves a receipt and nothing else
+  pub receipts_aborted : (receipts : List ReceiptValue) → ReceiptsHold o began part cut loaded store receipts → (given : Reply) → is_commit given ≡ false → given ≡ store_reply store txn
+      → ReceiptsHold o began part cut loaded store (receipts ++ receipt_of store txn given ∷ [])
+  receipts_aborted receipts r given aborts is = record {
+    named_home = λ root family kept owned position. same root position ∙ r.named_home root family kept owned position;
+    named_came = λ root chunk family has covered stored position. same root position ∙ r.named_came root chunk family has covered stored position;
+    told = λ other has commit.
+        ⊎_elim
+        (λ old. r.told other old commit)
+        (λ new. absurd (true≢false (sym commit ∙ ap (λ (one : ReceiptValue). is_commit one.reply) (sym new) ∙ aborts)))
+        (Contains-push_cases receipts (receipt_of store txn given) other has);
+    aborted = λ other has aborted.
+        ⊎_elim
+        (λ old. r.aborted other old aborted)
+        (λ new. subst (IsAbortHere began cut loaded store) new (abort_here given is))
+        (Contains-push_cases receipts (receipt_of store txn given) other has);
+  }
+    where
+      same : (root position : ℕ) → times_named root position (receipts ++ receipt_of store txn given ∷ []) ≡ times_named root position receipts
+      same root position =
+          let none : one_if (names root position (receipt_of store txn given)) ≡ 0 = ap (λ b. one_if (b && ((txn.root == root) && (length was.log == position)))) aborts in
+          named_more root position receipts (receipt_of store txn given)
+          ∙ (let e : times_named root position receipts + one_if (names root position (receipt_of store txn given)) ≡ times_named root position receipts = omega (arith, none) in e)
 
   module _ (receipts : List ReceiptValue) (r : ReceiptsHold o began part cut loaded store receipts) (given : Reply) (commits : is_commit given ≡ true) (is : given ≡ store_reply store txn) where
     abbrev receipt : ReceiptValue
@@ -273,16 +319,29 @@ module _ {began : BeganWith} (o : OpeningValue) (part : ℕ) (cut loaded : Chunk
     first_below : (first : FamilyValue) → GrowsFrom first was → length first.log ≤ length was.log
     first_below first g = let sum = ap length g.log.1 ∙ length-append first.log g.log.0 in omega (arith, sum)
 
-    told_now : (other : ReceiptValue) → (family : FamilyValue) → IsStoredOrCut cut store other.root family → IsToldBy family other → (now : FamilyValue) × IsStoredOrCut cut more other.root now × IsToldBy now other
+    told_now : (other : ReceiptValue) → (family : FamilyValue) → IsStoredOrCut cut store other.txn.root family → IsToldBy family other → (now : FamilyValue) × IsStoredOrCut cut more other.txn.root now × IsToldBy now other
     told_now other family kept t =
         ⊎_elim
         (λ stored.
         ⊎_elim
         (λ e.
         let is_was : family ≡ was = sym (found_family store txn.root family (subst (λ k. IsStored store k family) e.1 stored)) in
-        (new, inl (stored_new other.root e.1), told_more was txn other (subst (λ one. IsToldBy one other) is_was t)))
-        (λ e. (family, inl (stored_other other.root family e.1 stored), t))
-        (eqb_tells other.root txn.root))
+        (new, inl (stored_new other.txn.root e.1), told_more was txn other (subst (λ one. IsToldBy one other) is_was t)))
+        (λ e. (family, inl (stored_other other.txn.root family e.1 stored), t))
+        (eqb_tells other.txn.root txn.root))
+        (λ went. (family, inr went, t))
+        kept
+
+    reply_now : (other : ReceiptValue) → (family : FamilyValue) → IsStoredOrCut cut store other.txn.root family → IsReplyIn family other → (now : FamilyValue) × IsStoredOrCut cut more other.txn.root now × IsReplyIn now other
+    reply_now other family kept t =
+        ⊎_elim
+        (λ stored.
+        ⊎_elim
+        (λ e.
+        let is_was : family ≡ was = sym (found_family store txn.root family (subst (λ k. IsStored store k family) e.1 stored)) in
+        (new, inl (stored_new other.txn.root e.1), reply_on was new other (new_grown was (grows_itself was)) (subst (λ one. IsReplyIn one other) is_was t)))
+        (λ e. (family, inl (stored_other other.txn.root family e.1 stored), t))
+        (eqb_tells other.txn.root txn.root))
         (λ went. (family, inr went, t))
         kept
 
@@ -318,7 +377,16 @@ module _ {began : BeganWith} (o : OpeningValue) (part : ℕ) (cut loaded : Chunk
           ⊎_elim
           (λ old. let t = r.told other old commit in told_now other t.0 t.1 t.2)
           (λ one.
-          subst (λ any. (now : FamilyValue) × IsStoredOrCut cut more any.root now × IsToldBy now any) one
-          (new, inl (stored_new txn.root refl), told_new was txn receipt refl refl is))
+          subst (λ (any : ReceiptValue). (now : FamilyValue) × IsStoredOrCut cut more any.txn.root now × IsToldBy now any) one
+          (new, inl (stored_new txn.root refl), told_new was receipt refl is))
+          (Contains-push_cases receipts receipt other has);
+      aborted = λ other has aborts.
+          ⊎_elim
+          (λ old.
+          ⊎_elim
+          (λ (kept : (family : FamilyValue) × IsStoredOrCut cut store other.txn.root family × IsReplyIn family other). inl (reply_now other kept.0 kept.1 kept.2))
+          (λ none. inr none)
+          (r.aborted other old aborts))
+          (λ one. absurd (true≢false (sym commits ∙ ap (λ (any : ReceiptValue). is_commit any.reply) one ∙ aborts)))
           (Contains-push_cases receipts receipt other has);
     }

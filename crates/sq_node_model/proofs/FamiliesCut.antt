@@ -12,6 +12,7 @@ use Rattle.sq_model.specs.Staged.{owner_in}
 use Rattle.sq_node_model.specs.BeganWith.{BeganWith}
 use Rattle.sq_node_model.specs.NodeValue.{ReceiptValue}
 use Rattle.sq_node_model.specs.Chunks.{IsCovered}
+use Rattle.sq_node_model.specs.Receipts.{IsReplyIn}
 use Rattle.sq_node_model.specs.OutHolds.{IsWholeChunk}
 use Rattle.sq_node_model.specs.FamiliesHold.{IsHome, IsStored, IsCarried, IsStoredOrCut, StoreHolds, FamiliesHold, ReceiptsHold}
 use Rattle.sq_node_model.proofs.OneMore.{IsOneMore}
@@ -125,7 +126,12 @@ module _ {began : BeganWith} (o : OpeningValue) (part : ℕ) (cut now loaded : C
   receipts_cut receipts r = record {
     named_home = λ root family kept owned position. r.named_home root family (kept_before root family kept) owned position;
     named_came = λ root other family has covered stored position. r.named_came root other family has covered (stored_before root family stored).0 position;
-    told = λ receipt has commit. let t = r.told receipt has commit in (t.0, kept_after receipt.root t.0 t.1, t.2);
+    told = λ receipt has commit. let t = r.told receipt has commit in (t.0, kept_after receipt.txn.root t.0 t.1, t.2);
+    aborted = λ receipt has aborts.
+        ⊎_elim
+        (λ (old : (family : FamilyValue) × IsStoredOrCut cut store receipt.txn.root family × IsReplyIn family receipt). inl (old.0, kept_after receipt.txn.root old.0 old.1, old.2))
+        (λ none. inr none)
+        (r.aborted receipt has aborts);
   }
 
   -- the chunk has the families of its keys

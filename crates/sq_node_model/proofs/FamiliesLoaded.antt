@@ -13,8 +13,8 @@ use Rattle.sq_status.specs.View.{one_if}
 use Rattle.sq_node_model.specs.BeganWith.{BeganWith}
 use Rattle.sq_node_model.specs.NodeValue.{ReceiptValue}
 use Rattle.sq_node_model.specs.Chunks.{IsCovered}
-use Rattle.sq_node_model.specs.Receipts.{times_named}
-use Rattle.sq_node_model.specs.FamiliesHold.{IsStored, IsCarried, IsOf, GrowsFrom, brought, StoreHolds, FamiliesHold, ReceiptsHold}
+use Rattle.sq_node_model.specs.Receipts.{times_named, IsReplyIn}
+use Rattle.sq_node_model.specs.FamiliesHold.{IsStored, IsStoredOrCut, IsCarried, IsOf, GrowsFrom, brought, CameWithout, StoreHolds, FamiliesHold, ReceiptsHold}
 use Rattle.sq_node_model.proofs.OneMore.{IsOneMore}
 use Rattle.sq_node_model.proofs.Carried.{carried_covered}
 use Rattle.sq_node_model.proofs.Named.{unnamed, none_between}
@@ -120,6 +120,13 @@ module _ {began : BeganWith} (o : OpeningValue) (part : ℕ) (cut loaded now : C
       (λ went. own_apart root (carried_cut went.0 root t.0 went.1 (subst (λ k. IsCarried went.0 k t.0) of_root went.2)) e)
       t.1)
 
+  without_now : (root : ℕ) → CameWithout began loaded root → CameWithout began now root
+  without_now root without =
+      ⊎_elim
+      (λ none. inl none)
+      (λ (came : (other : ChunkValue) × loaded other × (covers other.note root ≡ true) × (family_in other.families root ≡ None)). inr (came.0, m.more came.0 came.1, came.2, came.3))
+      without
+
   pub receipts_loaded : (receipts : List ReceiptValue) → ReceiptsHold o began part cut loaded store receipts → ReceiptsHold o began part cut now more receipts
   receipts_loaded receipts r = record {
     named_home = λ root family kept owned position.
@@ -140,5 +147,11 @@ module _ {began : BeganWith} (o : OpeningValue) (part : ℕ) (cut loaded now : C
         (m.only other has);
     told = λ receipt has commit.
         let t = r.told receipt has commit in
-        (t.0, ⊎_elim (λ stored. inl (stored_after receipt.root t.0 stored)) (λ went. inr went) t.1, t.2);
+        (t.0, ⊎_elim (λ stored. inl (stored_after receipt.txn.root t.0 stored)) (λ went. inr went) t.1, t.2);
+    aborted = λ receipt has aborts.
+        ⊎_elim
+        (λ (old : (family : FamilyValue) × IsStoredOrCut cut store receipt.txn.root family × IsReplyIn family receipt).
+        inl (old.0, ⊎_elim (λ stored. inl (stored_after receipt.txn.root old.0 stored)) (λ went. inr went) old.1, old.2))
+        (λ (none : CameWithout began loaded receipt.txn.root × IsReplyIn (absent receipt.txn.root) receipt). inr (without_now receipt.txn.root none.0, none.1))
+        (r.aborted receipt has aborts);
   }

@@ -20,12 +20,12 @@ use Rattle.sq_node_model.specs.declared.spot.Spot.{Spot}
 use Rattle.sq_node_model.specs.declared.spot.Spot.TheVariants.{Store, Chunk}
 use Rattle.sq_node_model.specs.Gathered.{GatheredLink, GatheredValue}
 use Rattle.sq_node_model.specs.Spots.{gathered_place, family_at_spot, StandsAt, IsSpotOf}
-use Rattle.sq_node_model.specs.Placed.{IsLinkPlaced, IsPlaced}
+use Rattle.sq_node_model.specs.Placed.{IsLinkPlaced, FitTogether, StandOnce, IsPlaced}
 use Rattle.sq_node_model.specs.Next.{IsStageDone}
 use Rattle.sq_node_model.specs.Folded.{folded_family, folded_opening, folded_gathered, IsFolded}
 use Rattle.sq_model.specs.Staged.{owner_in}
 use Rattle.sq_node_model.proofs.Began.{none_first}
-use Rattle.sq_node_model.proofs.Next.{stands_next}
+use Rattle.sq_node_model.proofs.Next.{stands_fit}
 
 abbrev as_folded : FamilyValue → FamilyValue
 as_folded family = record { root = family.root; base = rows_of family; log = [] }
@@ -62,7 +62,7 @@ rowless_opening o table is =
       small_capacity = is.small_capacity;
     }
 
-module _ (o : OpeningValue) (is : IsOpening o) (g : GatheredValue) (p : IsPlaced o g) (done : IsStageDone o g) (table : TableValue) (stores : List StoreValue) (f : IsFolded o g table stores) where
+module _ (o : OpeningValue) (is : IsOpening o) (g : GatheredValue) (fits : FitTogether o g) (stood : StandOnce g) (done : IsStageDone o g) (table : TableValue) (stores : List StoreValue) (f : IsFolded o g table stores) where
   abbrev now : OpeningValue
   now = folded_opening o table
 
@@ -74,7 +74,7 @@ module _ (o : OpeningValue) (is : IsOpening o) (g : GatheredValue) (p : IsPlaced
   came_of (Store part) root family stands =
       option_and_then_some folded_family (family_at_spot g (Store part) root) family (sym (f.families part root) ∙ stands)
       (λ was there e. (was, there, folded_is was family e))
-  came_of (Chunk i j) root family stands = absurd (let e = stands_next o is g p done (Chunk i j) root family stands in cc)
+  came_of (Chunk i j) root family stands = absurd (let e = stands_fit o is g fits done (Chunk i j) root family stands in cc)
 
   same_place : (root : ℕ) → gathered_place now h root ≡ gathered_place o g root
   same_place root = refl
@@ -82,12 +82,12 @@ module _ (o : OpeningValue) (is : IsOpening o) (g : GatheredValue) (p : IsPlaced
   placed_too : (spot : Spot) (root : ℕ) (family : FamilyValue) → StandsAt h spot root family → IsSpotOf h spot (gathered_place now h root)
   placed_too (Store part) root family stands =
       let was = came_of (Store part) root family stands in
-      same_place root ∙ p.fit.placed (Store part) root was.0 was.1
-  placed_too (Chunk i j) root family stands = absurd (let e = stands_next o is g p done (Chunk i j) root family stands in cc)
+      same_place root ∙ fits.placed (Store part) root was.0 was.1
+  placed_too (Chunk i j) root family stands = absurd (let e = stands_fit o is g fits done (Chunk i j) root family stands in cc)
 
   link_too : (i : ℕ) (link : GatheredLink) → slice_get g.links i ≡ Some link → IsLinkPlaced now h link
   link_too i link there =
-      let placed = p.fit.links i link there in
+      let placed = fits.links i link there in
       record {
         way = placed.way;
         numbered = placed.numbered;
@@ -109,30 +109,30 @@ module _ (o : OpeningValue) (is : IsOpening o) (g : GatheredValue) (p : IsPlaced
             | inr e ↦ e
           ]
 
-  pub folded_placed : IsPlaced now h
-  folded_placed = record {
+  pub fit_folded : IsPlaced now h
+  fit_folded = record {
     fit = record {
       parts = record {
-        all_stores = f.count ∙ p.fit.parts.all_stores;
-        each_link = assumption (p.fit.parts.each_link);
-        all_statuses = p.fit.parts.all_statuses;
+        all_stores = f.count ∙ fits.parts.all_stores;
+        each_link = assumption (fits.parts.each_link);
+        all_statuses = fits.parts.all_statuses;
       };
       links = link_too;
-      apart = p.fit.apart;
-      grown = p.fit.grown;
-      complete = p.fit.complete;
+      apart = fits.apart;
+      grown = fits.grown;
+      complete = fits.complete;
       placed = placed_too;
       keyed = λ spot root family stands.
           let was = came_of spot root family stands in
           record {
-            same_root = ap (λ (one : FamilyValue). one.root) (sym was.2) ∙ (p.fit.keyed spot root was.0 was.1).same_root;
-            own_log = (subst (IsOf root) was.2 (record { same_root = (p.fit.keyed spot root was.0 was.1).same_root; own_log = All-nil (λ (txn : TxnValue). txn.root ≡ root) })).own_log;
+            same_root = ap (λ (one : FamilyValue). one.root) (sym was.2) ∙ (fits.keyed spot root was.0 was.1).same_root;
+            own_log = (subst (IsOf root) was.2 (record { same_root = (fits.keyed spot root was.0 was.1).same_root; own_log = All-nil (λ (txn : TxnValue). txn.root ≡ root) })).own_log;
           };
     };
-    once = λ one other root family again stands stands'. p.once one other root (came_of one root family stands).0 (came_of other root again stands').0 (came_of one root family stands).1 (came_of other root again stands').1;
+    once = λ one other root family again stands stands'. stood one other root (came_of one root family stands).0 (came_of other root again stands').0 (came_of one root family stands).1 (came_of other root again stands').1;
     opening = λ root opened.
         let found = f.opened root opened in
-        let at = stands_next o is g p done found.0 root found.1 found.2 in
+        let at = stands_fit o is g fits done found.0 root found.1 found.2 in
         let there = subst (λ spot. StandsAt g spot root found.1) at found.2 in (
           Store (owner_in o (g.stage + 1) root),
           as_folded found.1,
@@ -147,7 +147,16 @@ module _ (o : OpeningValue) (is : IsOpening o) (g : GatheredValue) (p : IsPlaced
         let was = came_of spot root family stands in
         none_first position ∙ ap (λ (one : FamilyValue). one_if (nat_lt position (length one.log))) was.2;
     told = λ receipt has commit. absurd (Contains-nothing receipt has);
+    aborted = λ receipt has aborts. absurd (Contains-nothing receipt has);
   }
 
-  pub folded_done : IsStageDone now h
-  folded_done seg segment there runs = done seg segment there runs
+  pub done_folded : IsStageDone now h
+  done_folded seg segment there runs = done seg segment there runs
+
+pub folded_placed : (o : OpeningValue) → IsOpening o → (g : GatheredValue) → IsPlaced o g → IsStageDone o g → (table : TableValue) (stores : List StoreValue) → IsFolded o g table stores
+    → IsPlaced (folded_opening o table) (folded_gathered g stores)
+folded_placed o is g p done table stores f = fit_folded o is g p.fit p.once done table stores f
+
+pub folded_done : (o : OpeningValue) → IsOpening o → (g : GatheredValue) → IsPlaced o g → IsStageDone o g → (table : TableValue) (stores : List StoreValue) → IsFolded o g table stores
+    → IsStageDone (folded_opening o table) (folded_gathered g stores)
+folded_done o is g p done table stores f = done_folded o is g p.fit p.once done table stores f

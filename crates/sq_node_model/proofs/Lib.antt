@@ -38,8 +38,10 @@ pub mod Stands
 pub mod Places
 pub mod Families
 pub mod Receipts
+pub mod Aborted
 pub mod Placed
 pub mod Next
 pub mod Folded
 mod Empty
 pub mod Onward
+pub mod Aborts

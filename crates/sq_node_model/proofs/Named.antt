@@ -10,7 +10,7 @@ use Rattle.sq_node_model.specs.NodeValue.{ReceiptValue}
 use Rattle.sq_node_model.specs.Receipts.{is_commit, names, times_named}
 
 -- where no committed receipt is of the root key, no position is named
-pub unnamed : (root position : ℕ) (receipts : List ReceiptValue) → ((receipt : ReceiptValue) → Contains receipts receipt → is_commit receipt.reply ≡ true → receipt.root ≡ root → ⊥) → times_named root position receipts ≡ 0
+pub unnamed : (root position : ℕ) (receipts : List ReceiptValue) → ((receipt : ReceiptValue) → Contains receipts receipt → is_commit receipt.reply ≡ true → receipt.txn.root ≡ root → ⊥) → times_named root position receipts ≡ 0
 unnamed root position receipts none =
     sym (length-filter (names root position) receipts) ∙ ap length (nothing_kept (names root position) receipts no_name)
   where
@@ -20,9 +20,9 @@ unnamed root position receipts none =
           | inl some ↦
               let found = any_in (names root position) receipts some in
               let at = (found.0).position == position in
-              let parts = and_parts (is_commit (found.0).reply) (((found.0).root == root) && at) found.2 in
-              let of_root = and_parts ((found.0).root == root) at parts.1 in
-              absurd (none found.0 found.1 parts.0 (eqb-true (found.0).root root of_root.0))
+              let parts = and_parts (is_commit (found.0).reply) (((found.0).txn.root == root) && at) found.2 in
+              let of_root = and_parts ((found.0).txn.root == root) at parts.1 in
+              absurd (none found.0 found.1 parts.0 (eqb-true (found.0).txn.root root of_root.0))
           | inr e ↦ e
         ]
 

@@ -1,6 +1,6 @@
 -- Once the segments of a stage are complete, nothing is under way, each family is where the next stage has its source, and so the next stage can begin with what was gathered.
 use Rattle.std.proofs.Common.{◌≡◌, ⊎_elim, ℕ, ◌+◌, true, false, ◌==◌, ◌&&◌, nat_le, nat_lt, if◌then◌else◌, List, [], ◌∷◌, ◌++◌, reverse, take, drop, slice_get, find, Contains, Option, Some, None, refl, sym, ap, ap₂, ◌∙◌, subst, true≢false, arith}
-use Rattle.std.specs.Prelude.{is_some, option_and_then}
+use Rattle.std.specs.Prelude.{is_some, option_and_then, unwrap_or}
 use Rattle.std.specs.FinMap.{get}
 use Rattle.std.proofs.lemmas.Bool.{cases_Bool, and_parts, and_from, eqb-true, eq-eqb, ltb-true, lt-ltb}
 use Rattle.std.proofs.lemmas.Bool.Decides.{nat_tests}
@@ -11,7 +11,7 @@ use Rattle.sq_schema.specs.Family.{FamilyValue}
 use Rattle.sq_tree.specs.Status.{covering}
 use Rattle.sq_tree.proofs.Covering.{covering_is}
 use Rattle.sq_model.proofs.Statuses.{all_complete}
-use Rattle.sq_store.specs.StoreValue.{StoreValue}
+use Rattle.sq_store.specs.StoreValue.{StoreValue, absent}
 use Rattle.sq_chunk.specs.declared.chunk.Note.{Note}
 use Rattle.sq_chunk.specs.ChunkValue.{ChunkValue, covers}
 use Rattle.sq_ranges.specs.declared.recon.Range.{Range}
@@ -28,16 +28,18 @@ use Rattle.sq_model.proofs.Tiles.{tile, last_reached, covers_of, covered_is}
 use Rattle.sq_model.proofs.Apart.{covers_extent}
 use Rattle.sq_model.specs.Staged.{owner_in}
 use Rattle.sq_node_model.specs.Stages.{runs_in, is_on_link_in, cut_place_in}
-use Rattle.sq_node_model.specs.BeganWith.{CanBegin}
+use Rattle.sq_node_model.specs.BeganWith.{given_family, CanBegin}
+use Rattle.sq_node_model.specs.Receipts.{IsReplyIn}
 use Rattle.sq_node_model.specs.NodeHolds.{NodeHolds}
 use Rattle.sq_node_model.specs.Cores.{staged_core, OpensWith, IsUnused}
 use Rattle.sq_node_model.specs.declared.spot.Spot.{Spot}
 use Rattle.sq_node_model.specs.declared.spot.Spot.TheVariants.{Store, Chunk}
 use Rattle.sq_node_model.specs.Gathered.{GatheredLink, GatheredValue}
 use Rattle.sq_node_model.specs.Spots.{gathered_status, cut_notes, loaded_notes, loaded_count, loads_of, gathered_place, family_at_spot, StandsAt}
-use Rattle.sq_node_model.specs.Placed.{IsPlaced}
+use Rattle.sq_node_model.specs.Placed.{FitTogether, HasNone, IsPlaced}
 use Rattle.sq_node_model.specs.Next.{IsStageDone, next_began}
 use Rattle.sq_node_model.proofs.Made.{node_with}
+use Rattle.sq_node_model.proofs.Began.{given_is}
 use Rattle.sq_node_model.proofs.Members.{Contains-reverse, Contains-unreversed}
 use Rattle.sq_node_model.proofs.Keys.{moved_from}
 use Rattle.sq_node_model.proofs.Staged.{on_link_goes, link_runs, moved_source, staying_source}
@@ -83,12 +85,12 @@ opens_owned o g q store there owned root =
     none None e away = e
     none (Some family) e away = absurd (true≢false (sym (eq-eqb (owner_in o (g.stage + 1) root) q (owned root family e)) ∙ away))
 
-module _ (o : OpeningValue) (is : IsOpening o) (g : GatheredValue) (p : IsPlaced o g) where
+module _ (o : OpeningValue) (is : IsOpening o) (g : GatheredValue) (fit : FitTogether o g) where
   moving_note : (root : ℕ) (note : Note) → Contains (cut_notes g) note → covers note root ≡ true → IsMovingNote o g.stage root note
   moving_note root note has covered =
       let found = flat_map_in (λ (link : GatheredLink). link.notes) g.links note has in
       let link = found.0 in
-      let placed = p.fit.links (found.1).0 link (slice_get-Contains g.links link found.1) in
+      let placed = fit.links (found.1).0 link (slice_get-Contains g.links link found.1) in
       let about = placed.about note found.2 in
       record {
         src = link.src;
@@ -118,17 +120,17 @@ module _ (o : OpeningValue) (is : IsOpening o) (g : GatheredValue) (p : IsPlaced
         let status = gathered_status g seg in
         let leaf = leaf_of o.recon.width segment root in
         let n = covering status leaf in
-        let whole = all_complete status (p.fit.grown seg) (done seg segment at.there (eqb-true (stage_on o.recon segment.src segment.dst) g.stage runs)) in
-        let last = p.fit.complete seg n (whole leaf at.leaf) in
+        let whole = all_complete status (fit.grown seg) (done seg segment at.there (eqb-true (stage_on o.recon segment.src segment.dst) g.stage runs)) in
+        let last = fit.complete seg n (whole leaf at.leaf) in
         let keys = extent_of o seg n in
-        let within : is_within keys root ≡ true = above_within o is root seg n segment at (covering_is status (p.fit.grown seg) leaf at.leaf).above in
+        let within : is_within keys root ≡ true = above_within o is root seg n segment at (covering_is status (fit.grown seg) leaf at.leaf).above in
         let bounds = and_parts (nat_le keys.lo root) (nat_lt root keys.hi) within in
         let high = ltb-true root keys.hi bounds.1 in
         let some = any_in (λ (note : Note). is_about seg n note && note.last) (loaded_notes g) last in
         let from = flat_map_in loads_of g.links some.0 some.1 in
         let link = from.0 in
         let loads = loads_of link in
-        let tiles = loads_tile link (p.fit.links (from.1).0 link (slice_get-Contains g.links link from.1)).tiles in
+        let tiles = loads_tile link (fit.links (from.1).0 link (slice_get-Contains g.links link from.1)).tiles in
         let ended : has_last seg n (reverse loads) ≡ true = list_any-Contains (λ (note : Note). is_about seg n note && note.last) (reverse loads) some.0 (Contains-reverse loads some.0 from.2) some.2 in
         let ends = last_reached o (reverse loads) tiles seg n ended in
         let any = covered_is o (reverse loads) tiles seg n root ∙ and_from (nat_le keys.lo root) (nat_lt root (reached o seg n (reverse loads))) bounds.0 (lt-ltb root (reached o seg n (reverse loads)) (omega (arith, high, ends))) in
@@ -180,39 +182,59 @@ module _ (o : OpeningValue) (is : IsOpening o) (g : GatheredValue) (p : IsPlaced
             (cases_Bool (runs_in o g.stage segment.src segment.dst))
 
     -- nothing is under way, and each family is at the next stage's source
-    pub stands_next : (spot : Spot) (root : ℕ) (family : FamilyValue) → StandsAt g spot root family → spot ≡ Store (owner_in o (g.stage + 1) root)
-    stands_next (Store part) root family stands =
-        let at = sym (p.fit.placed (Store part) root family stands) ∙ next_place root in
+    pub stands_fit : (spot : Spot) (root : ℕ) (family : FamilyValue) → StandsAt g spot root family → spot ≡ Store (owner_in o (g.stage + 1) root)
+    stands_fit (Store part) root family stands =
+        let at = sym (fit.placed (Store part) root family stands) ∙ next_place root in
         let same : part ≡ owner_in o (g.stage + 1) root = let e = at in cc in
         ap Store same
-    stands_next (Chunk i j) root family stands =
-        let at = p.fit.placed (Chunk i j) root family stands in
+    stands_fit (Chunk i j) root family stands =
+        let at = fit.placed (Chunk i j) root family stands in
         absurd (let e = sym at.2 ∙ next_place root in cc)
 
-    pub can_next : CanBegin o (next_began o g)
-    can_next = record {
-      keyed = λ root family e. p.fit.keyed (Store (owner_in o (g.stage + 1) root)) root family e;
-      base = λ root family e. p.base (Store (owner_in o (g.stage + 1) root)) root family e;
-      opening = λ root opened.
-          let stands = p.opening root opened in
-          ap is_some (subst (λ spot. StandsAt g spot root stands.1) (stands_next stands.0 root stands.1 stands.2) stands.2);
-      named = λ root family e position. p.named (Store (owner_in o (g.stage + 1) root)) root family e position;
-      told = λ receipt has commit.
-          let t = p.told receipt has commit in
-          (t.1, subst (λ spot. StandsAt g spot receipt.root t.1) (stands_next t.0 receipt.root t.1 t.2) t.2, t.3);
-    }
+module _ (o : OpeningValue) (is : IsOpening o) (g : GatheredValue) (p : IsPlaced o g) (done : IsStageDone o g) where
+  pub stands_next : (spot : Spot) (root : ℕ) (family : FamilyValue) → StandsAt g spot root family → spot ≡ Store (owner_in o (g.stage + 1) root)
+  stands_next = stands_fit o is g p.fit done
 
-    pub opens_next : (q : ℕ) (store : StoreValue) → slice_get g.stores q ≡ Some store → OpensWith o (next_began o g) q store
-    opens_next q store there =
-        opens_owned o g q store there (λ root family stored.
-        let at = stands_next (Store q) root family (ap (option_and_then (λ (store : StoreValue). get store root)) there ∙ stored) in
-        let same : owner_in o (g.stage + 1) root ≡ q = let e = at in cc in
-        same)
+  -- a root key without a family begins the next stage without one
+  none_given : (root : ℕ) → HasNone g root → given_family (next_began o g) root ≡ absent root
+  none_given root none = by ((next_began o g).families root) refl
+    where
+      by : (found : Option FamilyValue) → (next_began o g).families root ≡ found → given_family (next_began o g) root ≡ absent root
+      by (Some family) e = absurd (none (Store (owner_in o (g.stage + 1) root)) family e)
+      by None e = ap (λ found. unwrap_or found (absent root)) e
 
-    -- the nodes that the next stage opens with hold
-    pub holds_next : (q : ℕ) (store : StoreValue) (views : ℕ → View) (sent received : ℕ → List ChunkValue) → slice_get g.stores q ≡ Some store → IsUnused views sent received
-        → NodeHolds o (next_began o g) (node_with (staged_core o (g.stage + 1) q store) views sent received [])
-    holds_next q store views sent received there unused =
-        let within = slice_get_within g.stores q store there in
-        let count = p.fit.parts.all_stores in
-        core_new o (next_began o g) can_next q store (omega (arith, within, count)) (opens_next q store there) views sent received unused
+  pub can_next : CanBegin o (next_began o g)
+  can_next = record {
+    keyed = λ root family e. p.fit.keyed (Store (owner_in o (g.stage + 1) root)) root family e;
+    base = λ root family e. p.base (Store (owner_in o (g.stage + 1) root)) root family e;
+    opening = λ root opened.
+        let stands = p.opening root opened in
+        ap is_some (subst (λ spot. StandsAt g spot root stands.1) (stands_next stands.0 root stands.1 stands.2) stands.2);
+    named = λ root family e position. p.named (Store (owner_in o (g.stage + 1) root)) root family e position;
+    told = λ receipt has commit.
+        let t = p.told receipt has commit in
+        (t.1, subst (λ spot. StandsAt g spot receipt.txn.root t.1) (stands_next t.0 receipt.txn.root t.1 t.2) t.2, t.3);
+    aborted = λ receipt has aborts.
+        ⊎_elim
+        (λ (some : (spot : Spot) × (family : FamilyValue) × StandsAt g spot receipt.txn.root family × IsReplyIn family receipt).
+        let there = subst (λ spot. StandsAt g spot receipt.txn.root some.1) (stands_next some.0 receipt.txn.root some.1 some.2) some.2 in
+        subst (λ (one : FamilyValue). IsReplyIn one receipt) (sym (given_is (next_began o g) receipt.txn.root some.1 there)) some.3)
+        (λ (none : HasNone g receipt.txn.root × IsReplyIn (absent receipt.txn.root) receipt).
+        subst (λ (one : FamilyValue). IsReplyIn one receipt) (sym (none_given receipt.txn.root none.0)) none.1)
+        (p.aborted receipt has aborts);
+  }
+
+  pub opens_next : (q : ℕ) (store : StoreValue) → slice_get g.stores q ≡ Some store → OpensWith o (next_began o g) q store
+  opens_next q store there =
+      opens_owned o g q store there (λ root family stored.
+      let at = stands_next (Store q) root family (ap (option_and_then (λ (store : StoreValue). get store root)) there ∙ stored) in
+      let same : owner_in o (g.stage + 1) root ≡ q = let e = at in cc in
+      same)
+
+  -- the nodes that the next stage opens with hold
+  pub holds_next : (q : ℕ) (store : StoreValue) (views : ℕ → View) (sent received : ℕ → List ChunkValue) → slice_get g.stores q ≡ Some store → IsUnused views sent received
+      → NodeHolds o (next_began o g) (node_with (staged_core o (g.stage + 1) q store) views sent received [])
+  holds_next q store views sent received there unused =
+      let within = slice_get_within g.stores q store there in
+      let count = p.fit.parts.all_stores in
+      core_new o (next_began o g) can_next q store (omega (arith, within, count)) (opens_next q store there) views sent received unused

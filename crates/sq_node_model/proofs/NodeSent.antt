@@ -66,8 +66,10 @@ keeps_completed o node seg n pull last h = assumption (each_last, h)
 pub keeps_answered : {began : BeganWith} (o : OpeningValue) → IsOpening o → (node : NodeValue) (txn : TxnValue) (given : Reply) → IsHome o began.stage node.part (HasCut node) txn.root ⊎ IsCovered (HasLoaded node) txn.root → given ≡ store_reply node.store txn
     → NodeHolds o began node → NodeHolds o began (node_answered node txn given)
 keeps_answered o is node txn (Aborted at cause) here given_is h =
-    let receipt = receipt_of node.store txn (Aborted at cause) in
-    keeps_families o node h node.store (node.receipts ++ receipt ∷ []) h.store h.families (receipts_aborted o node.part (HasCut node) (HasLoaded node) node.store node.receipts receipt refl h.receipts)
+    let away = loaded_away o is node h in
+    let carried = cut_carried o is node h in
+    keeps_families o node h node.store (node.receipts ++ receipt_of node.store txn (Aborted at cause) ∷ []) h.store h.families
+    (receipts_aborted o node.part (HasCut node) (HasLoaded node) node.store txn here away carried h.store h.families node.receipts h.receipts (Aborted at cause) refl given_is)
 keeps_answered o is node txn (Committed answers) here given_is h =
     let answered = node_answered node txn (Committed answers) in
     let away = loaded_away o is node h in

@@ -6,7 +6,7 @@ use Rattle.std.proofs.lemmas.Bool.Decides.{nat_tests}
 use Rattle.sq_schema.specs.Table.{rows_in}
 use Rattle.sq_plan.specs.PlanValue.{owner}
 use Rattle.sq_store.specs.StoreValue.{StoreValue}
-use Rattle.sq_ranges.specs.ReconValue.{segment_of, stage_on, is_link, stages}
+use Rattle.sq_ranges.specs.ReconValue.{segment_of, is_link, stages}
 use Rattle.sq_ranges.specs.OpeningValue.{OpeningValue}
 use Rattle.sq_ranges.specs.Opening.{IsOpening}
 use Rattle.sq_ranges.proofs.Stages.{stage_below}
@@ -49,6 +49,7 @@ can_onward o next g is placed done rows =
       opening = λ root opened. c.opening root (subst (λ table. not (length (rows_in table root) == 0) ≡ true) rows opened);
       named = λ root family e position. c.named root family e position;
       told = λ receipt has commit. c.told receipt has commit;
+      aborted = λ receipt has aborts. c.aborted receipt has aborts;
     }
 
 pub opens_onward : (o next : OpeningValue) (g : GatheredValue) (q : ℕ) (store : StoreValue) → IsOpening o → IsPlaced o g → IsStageDone o g

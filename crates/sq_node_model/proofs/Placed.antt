@@ -22,6 +22,7 @@ use Rattle.sq_node_model.proofs.Once.{apart, link_tiles}
 use Rattle.sq_node_model.proofs.Places.{loaded_among, placed, once}
 use Rattle.sq_node_model.proofs.Families.{keyed, base, opening}
 use Rattle.sq_node_model.proofs.Receipts.{named, told}
+use Rattle.sq_node_model.proofs.Aborted.{aborted}
 
 module _ (o : OpeningValue) (began : BeganWith) (is : IsOpening o) (nodes : List NodeValue) (g : GatheredValue) (gathers : Gathers o began nodes g) where
   link_placed : (i : ℕ) (link : GatheredLink) → slice_get g.links i ≡ Some link → IsLinkPlaced o g link
@@ -78,4 +79,5 @@ module _ (o : OpeningValue) (began : BeganWith) (is : IsOpening o) (nodes : List
     base = base o began is nodes g gathers can;
     named = named o began is nodes g gathers can;
     told = told o began is nodes g gathers can;
+    aborted = aborted o began is nodes g gathers can;
   }

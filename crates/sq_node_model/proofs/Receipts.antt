@@ -173,7 +173,7 @@ module _ (o : OpeningValue) (began : BeganWith) (is : IsOpening o) (nodes : List
   named can spot root family stands position = whole_log root position spot family can stands (theirs_named spot root family stands position)
 
   -- what a node wrote
-  node_told : (receipt : ReceiptValue) → Contains theirs receipt → is_commit receipt.reply ≡ true → (spot : Spot) × (family : FamilyValue) × StandsAt g spot receipt.root family × IsToldBy family receipt
+  node_told : (receipt : ReceiptValue) → Contains theirs receipt → is_commit receipt.reply ≡ true → (spot : Spot) × (family : FamilyValue) × StandsAt g spot receipt.txn.root family × IsToldBy family receipt
   node_told receipt has commit =
       let found = flat_map_in (λ (node : NodeValue). node.receipts) nodes receipt has in
       let node = found.0 in
@@ -181,10 +181,10 @@ module _ (o : OpeningValue) (began : BeganWith) (is : IsOpening o) (nodes : List
       let at = slice_get-Contains nodes node found.1 in
       let t = (gathers.holds q node at).receipts.told receipt found.2 commit in
       ⊎_elim
-      (λ stored. (Store q, t.0, stands_in_store o began nodes g gathers q receipt.root node t.0 at stored, t.2))
-      (λ (went : (chunk : ChunkValue) × HasCut node chunk × IsCarried chunk receipt.root t.0).
+      (λ stored. (Store q, t.0, stands_in_store o began nodes g gathers q receipt.txn.root node t.0 at stored, t.2))
+      (λ (went : (chunk : ChunkValue) × HasCut node chunk × IsCarried chunk receipt.txn.root t.0).
       let c = cut_at o began is nodes g gathers q node went.0 at went.1 in
-      let on = carried_on o began is nodes g gathers went.0 c.0 receipt.root t.0 (carried o began is nodes g gathers went.0 c.0 receipt.root t.0 went.2) went.2 in
+      let on = carried_on o began is nodes g gathers went.0 c.0 receipt.txn.root t.0 (carried o began is nodes g gathers went.0 c.0 receipt.txn.root t.0 went.2) went.2 in
       (on.spot, on.now, on.stands, told_on t.0 on.now receipt on.grows t.2))
       t.1
 
@@ -193,7 +193,7 @@ module _ (o : OpeningValue) (began : BeganWith) (is : IsOpening o) (nodes : List
       ⊎_elim
       (λ past.
       let t = can.told receipt past commit in
-      let on = go_on o began is nodes g gathers receipt.root t.0 t.1 in
+      let on = go_on o began is nodes g gathers receipt.txn.root t.0 t.1 in
       (on.0, on.1, on.2, told_on t.0 on.1 receipt on.3 t.2))
       (λ here. node_told receipt here commit)
       (Contains-append_cases began.receipts theirs receipt (subst (λ receipts. Contains receipts receipt) gathers.receipts has))

@@ -1,6 +1,6 @@
 -- What a stage of a move begins with: the families of the partitions, with logs that may have
 -- transactions, and the receipts that were written before.
-use Rattle.std.specs.Prelude.{◌≡◌, ℕ, Bool, true, ◌++◌, ◌==◌, not, nat_lt, if◌then◌else◌, List, [], length, All, Contains, Option, Some, None, is_some, unwrap_or}
+use Rattle.std.specs.Prelude.{◌≡◌, ℕ, Bool, true, false, ◌++◌, ◌==◌, not, nat_lt, if◌then◌else◌, List, [], length, All, Contains, Option, Some, None, is_some, unwrap_or}
 use Rattle.sq_schema.specs.TxnValue.{TxnValue}
 use Rattle.sq_schema.specs.Family.{FamilyValue}
 use Rattle.sq_store.specs.StoreValue.{absent}
@@ -8,7 +8,7 @@ use Rattle.sq_ranges.specs.OpeningValue.{OpeningValue}
 use Rattle.sq_model.specs.Tables.{opening_rows}
 use Rattle.sq_status.specs.View.{one_if}
 use Rattle.sq_node_model.specs.NodeValue.{ReceiptValue}
-use Rattle.sq_node_model.specs.Receipts.{is_commit, times_named, IsToldBy}
+use Rattle.sq_node_model.specs.Receipts.{is_commit, times_named, IsToldBy, IsReplyIn}
 
 -- the stage, the family that each root key began with, if it had one, and the receipts so far
 pub record BeganWith : Type 0 where
@@ -51,8 +51,8 @@ pub record GrowsFrom (first family : FamilyValue) : Type 0 where
   pub log : BeginsWith first.log family.log
 
 -- what a stage may begin with: each family is its root key's and starts from the opening rows; each
--- opening root key has one; and the committed receipts so far name each position of these logs
--- once, and no other, and record what was done there
+-- opening root key has one; the committed receipts so far name each position of these logs once, and
+-- no other, and record what was done there; and those of aborts have the replies of their positions
 pub record CanBegin (o : OpeningValue) (began : BeganWith) : Type 0 where
   pub keyed : (root : ℕ) (family : FamilyValue) → began.families root ≡ Some family → IsOf root family
   pub base : (root : ℕ) (family : FamilyValue) → began.families root ≡ Some family → family.base ≡ opening_rows o root
@@ -60,4 +60,6 @@ pub record CanBegin (o : OpeningValue) (began : BeganWith) : Type 0 where
   pub named : (root : ℕ) (family : FamilyValue) → began.families root ≡ Some family → (position : ℕ)
       → times_named root position began.receipts ≡ one_if (nat_lt position (length family.log))
   pub told : (receipt : ReceiptValue) → Contains began.receipts receipt → is_commit receipt.reply ≡ true
-      → (family : FamilyValue) × (began.families receipt.root ≡ Some family) × IsToldBy family receipt
+      → (family : FamilyValue) × (began.families receipt.txn.root ≡ Some family) × IsToldBy family receipt
+  pub aborted : (receipt : ReceiptValue) → Contains began.receipts receipt → is_commit receipt.reply ≡ false
+      → IsReplyIn (given_family began receipt.txn.root) receipt

@@ -1,6 +1,6 @@
 -- The invariant of the families of a partition: which root keys have one, what each starts from,
 -- and which receipts were written for its log.
-use Rattle.std.specs.Prelude.{◌≡◌, ◌⊎◌, ℕ, true, false, ◌&&◌, nat_lt, nat_le, List, length, Contains, Some, unwrap_or}
+use Rattle.std.specs.Prelude.{◌≡◌, ◌⊎◌, ℕ, true, false, ◌&&◌, nat_lt, nat_le, List, length, Contains, Some, None, unwrap_or}
 use Rattle.std.specs.FinMap.{get}
 use Rattle.sq_schema.specs.Family.{FamilyValue}
 use Rattle.sq_store.specs.StoreValue.{StoreValue, absent, family_in}
@@ -10,7 +10,7 @@ use Rattle.sq_model.specs.Staged.{owner_in}
 use Rattle.sq_status.specs.View.{one_if}
 use Rattle.sq_node_model.specs.NodeValue.{ReceiptValue}
 use Rattle.sq_node_model.specs.Chunks.{IsCovered}
-use Rattle.sq_node_model.specs.Receipts.{is_commit, times_named, IsToldBy}
+use Rattle.sq_node_model.specs.Receipts.{is_commit, times_named, IsToldBy, IsReplyIn}
 pub use Rattle.sq_node_model.specs.BeganWith.{BeganWith, is_given, given_family, BeginsWith, IsOf, GrowsFrom}
 
 -- the root key is where it was as the stage began: the partition owned it, and no chunk that was
@@ -65,9 +65,23 @@ NameGrowth root receipts first family =
     (position : ℕ)
     → times_named root position receipts ≡ one_if (nat_le (length first.log) position && nat_lt position (length family.log))
 
+-- nothing was here of the root key: it began without a family, or the chunk that brought it had none
+abbrev pub CameWithout : BeganWith → (ChunkValue → Type 0) → ℕ → Type 0
+CameWithout began loaded root =
+    (began.families root ≡ None)
+    ⊎ ((chunk : ChunkValue) × loaded chunk × (covers chunk.note root ≡ true) × (family_in chunk.families root ≡ None))
+
+-- the receipt has the reply of its position, in a log that is or was here; or nothing was here of
+-- its root key, and the reply is that on no rows
+abbrev pub IsAbortHere : BeganWith → (ChunkValue → Type 0) → (ChunkValue → Type 0) → StoreValue → ReceiptValue → Type 0
+IsAbortHere began cut loaded store receipt =
+    ((family : FamilyValue) × IsStoredOrCut cut store receipt.txn.root family × IsReplyIn family receipt)
+    ⊎ (CameWithout began loaded receipt.txn.root × IsReplyIn (absent receipt.txn.root) receipt)
+
 -- the committed receipts name each position of a log that was written here once, and nothing else:
 -- what came after the log that the root key began with if the partition owned it, and what came
--- after the log that was brought if it was loaded
+-- after the log that was brought if it was loaded; and those of aborts have the replies of their
+-- positions
 pub record ReceiptsHold (o : OpeningValue) (began : BeganWith) (part : ℕ) (cut loaded : ChunkValue → Type 0)
     (store : StoreValue) (receipts : List ReceiptValue) : Type 0 where
   pub named_home : (root : ℕ) (family : FamilyValue) → IsStoredOrCut cut store root family → owner_in o began.stage root ≡ part
@@ -75,4 +89,6 @@ pub record ReceiptsHold (o : OpeningValue) (began : BeganWith) (part : ℕ) (cut
   pub named_came : (root : ℕ) (chunk : ChunkValue) (family : FamilyValue) → loaded chunk → covers chunk.note root ≡ true
       → IsStored store root family → NameGrowth root receipts (brought chunk root) family
   pub told : (receipt : ReceiptValue) → Contains receipts receipt → is_commit receipt.reply ≡ true
-      → (family : FamilyValue) × IsStoredOrCut cut store receipt.root family × IsToldBy family receipt
+      → (family : FamilyValue) × IsStoredOrCut cut store receipt.txn.root family × IsToldBy family receipt
+  pub aborted : (receipt : ReceiptValue) → Contains receipts receipt → is_commit receipt.reply ≡ false
+      → IsAbortHere began cut loaded store receipt

@@ -1,5 +1,6 @@
 -- A node: a partition, with what its thread did on the trees and links that it shares with others.
 use Rattle.std.specs.Prelude.{ℕ, Bool, ◌==◌, if◌then◌else◌, List, Option}
+use Rattle.sq_schema.specs.TxnValue.{TxnValue}
 use Rattle.sq_schema.specs.declared.txn.Reply.{Reply}
 use Rattle.sq_store.specs.StoreValue.{StoreValue}
 use Rattle.sq_chunk.specs.ChunkValue.{ChunkValue}
@@ -8,11 +9,10 @@ use Rattle.sq_exec.specs.OutLink.{OutLinkValue}
 use Rattle.sq_exec.specs.CoreValue.{CoreValue, out_at, inbox_at, given_up_at, loaded_at}
 use Rattle.sq_status.specs.declared.view.View.{View}
 
--- the answer to a transaction: its id and its root key, how many transactions the log of the root
--- key held before it, and the reply
+-- the answer to a transaction: the transaction, how many transactions the log of its root key held
+-- before it, and the reply
 pub record ReceiptValue : Type 0 where
-  pub id : ℕ
-  pub root : ℕ
+  pub txn : TxnValue
   pub position : ℕ
   pub reply : Reply
 

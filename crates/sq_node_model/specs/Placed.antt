@@ -1,7 +1,8 @@
 -- The properties of what was gathered, whatever the threads did: each family is in one place, where
 -- the notes place it, and is the replay of its log, which the receipts name.
-use Rattle.std.specs.Prelude.{◌≡◌, ℕ, true, nat_lt, length, map, drop, reverse, slice_get, Some, Contains}
+use Rattle.std.specs.Prelude.{◌≡◌, ◌⊎◌, ℕ, true, false, nat_lt, length, map, drop, reverse, slice_get, Some, Contains}
 use Rattle.sq_schema.specs.Family.{FamilyValue}
+use Rattle.sq_store.specs.StoreValue.{absent}
 use Rattle.sq_tree.specs.Node.{is_node}
 use Rattle.sq_tree.specs.Status.{is_begun, is_complete}
 use Rattle.sq_chunk.specs.declared.chunk.Note.{Note}
@@ -14,7 +15,7 @@ use Rattle.sq_node_model.specs.Stages.{is_on_link_in}
 use Rattle.sq_status.specs.View.{one_if}
 use Rattle.sq_node_model.specs.NodeValue.{ReceiptValue}
 use Rattle.sq_node_model.specs.BeganWith.{BeganWith, is_opened}
-use Rattle.sq_node_model.specs.Receipts.{is_commit, times_named, IsToldBy}
+use Rattle.sq_node_model.specs.Receipts.{is_commit, times_named, IsToldBy, IsReplyIn}
 use Rattle.sq_node_model.specs.FamiliesHold.{IsOf, GrowsFrom}
 use Rattle.sq_node_model.specs.declared.spot.Spot.{Spot}
 use Rattle.sq_node_model.specs.Gathered.{GatheredLink, GatheredValue, HasEachLink}
@@ -83,7 +84,19 @@ NameEach g =
 abbrev pub AreTold : GatheredValue → Type 0
 AreTold g =
     (receipt : ReceiptValue) → Contains g.receipts receipt → is_commit receipt.reply ≡ true
-    → (spot : Spot) × (family : FamilyValue) × StandsAt g spot receipt.root family × IsToldBy family receipt
+    → (spot : Spot) × (family : FamilyValue) × StandsAt g spot receipt.txn.root family × IsToldBy family receipt
+
+-- the root key has no family
+abbrev pub HasNone : GatheredValue → ℕ → Type 0
+HasNone g root = (spot : Spot) (family : FamilyValue) → StandsAt g spot root family → ⊥
+
+-- each receipt of an abort has the reply that the log before its position gives; a root key without
+-- a family has no rows
+abbrev pub AreAborted : GatheredValue → Type 0
+AreAborted g =
+    (receipt : ReceiptValue) → Contains g.receipts receipt → is_commit receipt.reply ≡ false
+    → ((spot : Spot) × (family : FamilyValue) × StandsAt g spot receipt.txn.root family × IsReplyIn family receipt)
+    ⊎ (HasNone g receipt.txn.root × IsReplyIn (absent receipt.txn.root) receipt)
 
 -- each family that a root key began with is still there, perhaps with a longer log
 abbrev pub GoOn : BeganWith → GatheredValue → Type 0
@@ -98,3 +111,4 @@ pub record IsPlaced (o : OpeningValue) (g : GatheredValue) : Type 0 where
   pub base : KeepBases o g
   pub named : NameEach g
   pub told : AreTold g
+  pub aborted : AreAborted g

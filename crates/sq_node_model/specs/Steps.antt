@@ -57,7 +57,7 @@ node_completed node seg n pull = record node { completed = put seg ((n, pull) �
 
 -- the receipt of a transaction that had this reply on these families
 abbrev pub receipt_of : StoreValue → TxnValue → Reply → ReceiptValue
-receipt_of store txn reply = record { id = txn.id; root = txn.root; position = log_length store txn.root; reply = reply }
+receipt_of store txn reply = record { txn = txn; position = log_length store txn.root; reply = reply }
 
 -- a transaction had this reply: if it committed it is at the end of its family's log, and it has
 -- its receipt either way

@@ -130,6 +130,32 @@ table-set_up o table set_up rising opening below =
       roots = roots-below table below opening;
     }
 
+-- an opening stays set up with another limit of its logs
+pub limit-set_up : (o : OpeningValue) (most : ℕ) → IsSetUp o → IsSetUp (record o { config = record o.config { log_limit = most } })
+limit-set_up o most set_up =
+    record {
+      opening = record {
+        old_plan = set_up.opening.old_plan;
+        new_plan = set_up.opening.new_plan;
+        parts = set_up.opening.parts;
+        moves = set_up.opening.moves;
+        segments = set_up.opening.segments;
+        few_segments = set_up.opening.few_segments;
+        some_width = set_up.opening.some_width;
+        small_width = set_up.opening.small_width;
+        some_limit = set_up.opening.some_limit;
+        some_capacity = set_up.opening.some_capacity;
+        small_capacity = set_up.opening.small_capacity;
+      };
+      some_table = set_up.some_table;
+      few_tables = set_up.few_tables;
+      width = set_up.width;
+      small_limit = set_up.small_limit;
+      rising = set_up.rising;
+      rows = set_up.rows;
+      roots = set_up.roots;
+    }
+
 -- what is taken, or isn't, leaves no rows from the end of the root keys on
 pub taken-below : {R : Type 0} (r : Result Unit R) (Q : R → Type 0) (tables at : ℕ) (given : GivenValue) (table now : TableValue) → AllPass (λ entry. nat_lt entry.0 ROOT_END) table
     → MatchResult r (λ _. given_fault tables (rows_in table) at given ≡ None) Q → OnOk r ((root : ℕ) → rows_in now root ≡ with_one (rows_in table) given root) → OnErr r (now ≡ table)

@@ -8,7 +8,7 @@ ghost use Rattle.sq_plan.specs.Version.{parts_limit};
 ghost use Rattle.sq_plan.specs.PlanValue.{PlanValue, IsPlan};
 ghost use Rattle.sq_ranges.specs.declared.recon.TheConstants.{MAX_WIDTH};
 ghost use Rattle.sq_ranges.specs.declared.segment.TheConstants.{SEGMENT_LIMIT};
-ghost use Rattle.sq_ranges.specs.declared.opening.TheConstants.{MIN_LIMIT, MAX_LIMIT, MAX_CAPACITY, MAX_WAITING};
+ghost use Rattle.sq_ranges.specs.declared.opening.TheConstants.{LOG_LIMIT, MIN_LIMIT, MAX_LIMIT, MAX_CAPACITY, MAX_WAITING};
 ghost use Rattle.sq_ranges.specs.Between.{segment_limit};
 ghost use Rattle.sq_tree.specs.declared.node.TheConstants.{NODES, LEAVES};
 ghost use Rattle.sq_tree.specs.Prelude.{is_node, is_leaf, is_above};
@@ -28,7 +28,7 @@ pub fn the_limits()
         × (SEGMENT_LIMIT ≡ 1024) }
     ensures trees { (NODES ≡ 63) × (LEAVES ≡ 32) × (MAX_WIDTH ≡ 65536) }
     ensures chunks { (MIN_LIMIT ≡ 64) × (MAX_LIMIT ≡ 1048576) × (MAX_CAPACITY ≡ 64) }
-    ensures waiting { MAX_WAITING ≡ 1024 }
+    ensures waiting { (MAX_WAITING ≡ 1024) × (LOG_LIMIT ≡ 4096) }
 {}
 
 /// What moves between two plans is one list of ranges: the maximal runs of root keys that have the

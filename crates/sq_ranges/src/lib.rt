@@ -14,8 +14,8 @@ mod sweep;
 
 pub use fault::{OpeningFault, ReconFault};
 pub use opening::{
-    Config, GivenRow, MAX_CAPACITY, MAX_LIMIT, MAX_WAITING, MIN_LIMIT, Opening, OpeningParts,
-    RefusedOpening, RefusedPlans,
+    Config, GivenRow, LOG_LIMIT, MAX_CAPACITY, MAX_LIMIT, MAX_WAITING, MIN_LIMIT, Opening,
+    OpeningParts, RefusedOpening, RefusedPlans,
 };
 pub use recon::{Extent, Link, MAX_WIDTH, Range, Recon};
 pub use segment::{FIRST_SEGMENT_LIMIT, SEGMENT_LIMIT, SegId};

@@ -7,9 +7,10 @@ use crate::fault::OpeningFault;
 use crate::given::{moves, moves_and_table, take_over};
 use crate::recon::Recon;
 use sq_plan::Plan;
-use sq_schema::{MAX_NOTE, Root, Row, RowKey, Schema, Table, TxnFault};
+use sq_schema::{MAX_LOG, MAX_NOTE, Root, Row, RowKey, Schema, Table, TxnFault};
 use std::alloc::{AllocError, Global};
 use std::marker::Model;
+use std::mem;
 
 /// The least value of [`Config::limit`]: bytes of families in a chunk.
 pub const MIN_LIMIT: u64 = 64;
@@ -23,6 +24,9 @@ pub const MAX_CAPACITY: u64 = 64;
 /// The most transactions that wait at a partition.
 pub const MAX_WAITING: usize = 1024;
 
+/// The most transactions that a log holds in a run that doesn't ask for more.
+pub const LOG_LIMIT: u64 = 4096;
+
 /// The sizes that a reconfiguration is run with.
 #[derive(Clone, Copy, Debug, PartialEq, Eq)]
 pub struct Config {
@@ -33,6 +37,8 @@ pub struct Config {
     pub limit: u64,
     /// The most chunks that the queue of a link holds, from 1 to [`MAX_CAPACITY`].
     pub capacity: u64,
+    /// The most transactions that the log of a root key holds. A transaction after them is refused.
+    pub log_limit: u64,
 }
 
 /// An opening row with unchecked numbers: [`Opening::new`] and [`Opening::take_row`] refuse wrong
@@ -106,6 +112,7 @@ impl Model for Opening {
 }
 
 impl Opening {
+    ghost use Rattle.sq_ranges.specs.OpeningValue.{unlimited};
     ghost use Rattle.sq_ranges.specs.SetUp.{IsSetUp};
     ghost use Rattle.sq_ranges.specs.Between.{recon_of};
     ghost use Rattle.sq_ranges.specs.Given.{IsOpeningOf, value_of, with_one};
@@ -274,33 +281,43 @@ impl Opening {
         }
     }
 
-    /// Returns the opening of the next move: from the plan after this move to `new`, with the same
-    /// sizes and rows. If it is refused, this opening is returned, with the first fault of the
-    /// plans, as in [`Recon::fault`], or [`OpeningFault::Memory`].
-    pub fn onward(self, alloc: Global, new: Plan) -> Result<Opening, (OpeningFault, Opening)>
-        ensures fault { let fault = config_fault self.new new self.config in
-            MatchResult result (λ _. fault ≡ None) (λ refused. MayRefuse fault fault refused.0) }
-        ensures ok { IfOk result (λ next. next ≡ record self {
-          old = self.new;
+    /// Returns the opening with logs that hold as many transactions as can be counted.
+    pub fn without_log_limit(self) -> Opening
+        ensures opening { result ≡ unlimited self }
+        ensures set_up { IsSetUp result }
+    {
+        let config = Config {
+            log_limit: MAX_LOG,
+            ..self.parts.config
+        };
+        Opening {
+            parts: OpeningParts {
+                config,
+                ..self.parts
+            },
+        }
+    }
+
+    /// Goes on to the next move: from the plan after this move to `new`, with the same sizes and
+    /// rows. If it is refused, nothing changes: for the first fault of the plans, as in
+    /// [`Recon::fault`], or for [`OpeningFault::Memory`].
+    pub fn go_onward(&mut self, alloc: Global, new: Plan) -> Result<(), OpeningFault>
+        ensures fault { let fault = config_fault self.old.new new self.old.config in
+            MatchResult result (λ _. fault ≡ None) (λ refused. MayRefuse fault fault refused) }
+        ensures ok { OnOk result (self.new ≡ record self.old {
+          old = self.old.new;
           new = new;
-          recon = recon_of self.new new self.config.width;
+          recon = recon_of self.old.new new self.old.config.width;
         }) }
-        ensures set_up { IfOk result IsSetUp }
-        ensures returned { IfErr result (λ refused. refused.1 ≡ self) }
+        ensures set_up { IsSetUp self.new }
+        ensures unchanged { OnErr result (self.new ≡ self.old) }
     {
         // For the proof alone: a table has rising root keys, each with some rows.
         let _rows = self.parts.table.iter();
-        match moves(alloc, &self.parts.new, &new, self.parts.config) {
-            Ok(recon) => Ok(Opening {
-                parts: OpeningParts {
-                    old: self.parts.new,
-                    new,
-                    recon,
-                    ..self.parts
-                },
-            }),
-            Err(fault) => Err((fault, self)),
-        }
+        let recon = moves(alloc, &self.parts.new, &new, self.parts.config)?;
+        self.parts.recon = recon;
+        self.parts.old = mem::replace(&mut self.parts.new, new);
+        Ok(())
     }
 
     /// Returns the parts of the opening, uncopied.

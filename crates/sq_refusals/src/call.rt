@@ -19,11 +19,9 @@ pub enum Call {
     TwoStages,
     /// A move in two stages, with a fold in threads between them.
     Folds,
-    /// A page of a run, and its audit.
-    Page,
     /// An engine from its opening to its end.
     Engine,
-    /// The epochs of an engine, one by one.
+    /// A move of an engine in two stages, with jobs that are posted between its epochs.
     Chain,
 }
 
@@ -39,7 +37,6 @@ impl Call {
             b'n' => Some(Call::Nodes),
             b't' => Some(Call::TwoStages),
             b'f' => Some(Call::Folds),
-            b'p' => Some(Call::Page),
             b'e' => Some(Call::Engine),
             b'c' => Some(Call::Chain),
             _ => None,

@@ -13,47 +13,56 @@ use std::alloc::Global;
 use std::io::Write;
 
 /// Prints the families of each partition; for each link the notes of its chunks and its chunks
-/// under way; for each segment the nodes that aren't free; the receipts. If there is no memory for
+/// under way; for each segment the nodes that aren't free; `receipts`. If there is no memory for
 /// the text, it prints nothing.
 pub fn print_gathered<R: Print>(
     rt: &R,
     alloc: Global,
     gathered: &Gathered,
+    receipts: &[Receipt],
 ) -> Result<(), Unfinished> {
     let mut text = Vec::new(alloc);
     // A write to a vector fails only if memory runs out.
-    if write_gathered(&mut text, gathered).is_err() {
+    if write_gathered(&mut text, gathered, receipts).is_err() {
         return Err(Unfinished::Memory);
     }
     print_text(rt, &text);
     Ok(())
 }
 
-/// Prints two runs as [`print_gathered`] does, or nothing.
-pub fn print_both<R: Print>(
+/// Prints the families of each partition, or nothing if there is no memory for the text.
+pub fn print_rows<R: Print>(rt: &R, alloc: Global, stores: &[SlabStore]) -> Result<(), Unfinished> {
+    let mut text = Vec::new(alloc);
+    if write_stores(&mut text, stores).is_err() {
+        return Err(Unfinished::Memory);
+    }
+    print_text(rt, &text);
+    Ok(())
+}
+
+/// Prints `receipts`, or nothing if there is no memory for the text.
+pub fn print_receipts<R: Print>(
     rt: &R,
     alloc: Global,
-    first: &Gathered,
-    second: &Gathered,
+    receipts: &[Receipt],
 ) -> Result<(), Unfinished> {
     let mut text = Vec::new(alloc);
-    if write_both(&mut text, first, second).is_err() {
+    if write_receipts(&mut text, receipts).is_err() {
         return Err(Unfinished::Memory);
     }
     print_text(rt, &text);
     Ok(())
 }
 
-fn write_both(text: &mut Vec<u8>, first: &Gathered, second: &Gathered) -> Result<(), WriteFault> {
-    write_gathered(text, first)?;
-    write_gathered(text, second)
-}
-
-fn write_gathered(text: &mut Vec<u8>, gathered: &Gathered) -> Result<(), WriteFault> {
+fn write_gathered(
+    text: &mut Vec<u8>,
+    gathered: &Gathered,
+    receipts: &[Receipt],
+) -> Result<(), WriteFault> {
     write_stores(text, &gathered.stores)?;
     write_links(text, &gathered.links)?;
     write_trees(text, &gathered.statuses)?;
-    write_receipts(text, &gathered.receipts)
+    write_receipts(text, receipts)
 }
 
 // The families of each partition.
@@ -141,9 +150,9 @@ fn write_receipts(text: &mut Vec<u8>, receipts: &[Receipt]) -> Result<(), WriteF
 }
 
 fn write_receipt(text: &mut Vec<u8>, receipt: &Receipt) -> Result<(), WriteFault> {
-    let (root, position) = (receipt.root.number(), receipt.position);
+    let (root, position) = (receipt.txn.root().number(), receipt.position);
     write!(text, "receipt {root} {position} ")?;
-    let id = receipt.id;
+    let id = receipt.txn.id();
     match receipt.reply.clone() {
         Ok(reply) => write_answer(text, &Answer::Replied { id, reply }),
         Err(_) => Err(WriteFault),

@@ -1,5 +1,5 @@
 // Runs that are stepped by hand, in one thread.
-ghost use Rattle.std.specs.Prelude.{◌≡◌, ◌≤◌};
+ghost use Rattle.std.specs.Prelude.{◌≡◌, ◌+◌, ◌≤◌, ◌<◌, vec_len, vec_capacity};
 ghost use Rattle.sq_node.specs.Prelude.{IsNodeOf};
 ghost use Rattle.sq_gather.specs.Gathered.{AreAllOf};
 
@@ -8,7 +8,7 @@ use crate::printing::{print_line, print_refused, value_of};
 use crate::unfinished::Unfinished;
 use sq_audit::Job;
 use sq_gather::{Gathered, gather};
-use sq_node::{Fabric, Node, RunParts, Stepped};
+use sq_node::{Fabric, Node, Receipt, RunParts, Stepped};
 use sq_pull::Pump;
 use sq_ranges::Opening;
 use std::alloc::{AllocError, Global};
@@ -17,11 +17,16 @@ use std::sync::Wait;
 /// The number of pumps, which claim rows in the background.
 pub const PUMPS: u32 = 1;
 
-/// A run: what its nodes share, all its nodes and all its pumps.
+// The most receipts of a node in a turn.
+const RECEIPTS_OF_TURN: usize = 2;
+
+/// A run: what its nodes share, all its nodes and all its pumps, and the receipts of its nodes, in
+/// the order in which they were written.
 pub struct HandRun {
     fabric: Fabric,
     nodes: Vec<Node>,
     pumps: Vec<Pump>,
+    receipts: Vec<Receipt>,
     ghost whole: { AreAllOf fabric nodes.items pumps.items },
 }
 
@@ -31,8 +36,16 @@ impl Drop for HandRun {
             fabric: _,
             nodes: _,
             pumps: _,
+            receipts: _,
         } = self;
     }
+}
+
+/// What a run leaves, and the receipts of its nodes.
+#[derive(Drop)]
+pub struct Left {
+    pub gathered: Gathered,
+    pub receipts: Vec<Receipt>,
 }
 
 impl HandRun {
@@ -49,11 +62,11 @@ impl HandRun {
 
     fn open_once(alloc: Global, opening: &Opening) -> Result<HandRun, AllocError> {
         let parts = Fabric::open(alloc, opening, PUMPS)?;
-        Ok(HandRun::of(parts))
+        Ok(HandRun::of(alloc, parts))
     }
 
-    /// Returns the run of these parts.
-    pub fn of(run: RunParts) -> HandRun
+    /// Returns the run of these parts, without receipts.
+    pub fn of(alloc: Global, run: RunParts) -> HandRun
         requires { AreAllOf run.fabric run.nodes.items run.pumps.items }
     {
         let RunParts {
@@ -65,6 +78,7 @@ impl HandRun {
             fabric,
             nodes,
             pumps,
+            receipts: Vec::new(alloc),
         }
     }
 
@@ -78,12 +92,16 @@ impl HandRun {
     }
 
     /// Runs a turn of the node of `part`, and prints the steps for which there was no memory. A
-    /// later turn does their work.
+    /// later turn does their work. If there is no memory for the receipts of a turn, none is run.
     pub fn turn<R: Wait + Print>(&mut self, rt: &R, part: usize) {
         if part >= self.nodes.len() {
             return;
         }
-        let steps = run_steps(rt, &self.fabric, &mut self.nodes[part]);
+        if self.receipts.reserve(RECEIPTS_OF_TURN).is_err() {
+            print_refused(rt, "receipt");
+            return;
+        }
+        let steps = run_steps(rt, &self.fabric, &mut self.nodes[part], &mut self.receipts);
         print_steps(rt, steps);
     }
 
@@ -98,11 +116,12 @@ impl HandRun {
     }
 
     /// Gathers the run; if there was no memory for it, gathers it once more.
-    pub fn gather<R: Wait + Print>(self, rt: &R, alloc: Global) -> Result<Gathered, Unfinished> {
+    pub fn gather<R: Wait + Print>(self, rt: &R, alloc: Global) -> Result<Left, Unfinished> {
         let HandRun {
             fabric,
             nodes,
             pumps,
+            receipts,
         } = self;
         let run = RunParts {
             fabric,
@@ -111,7 +130,7 @@ impl HandRun {
         };
         let gathered = gather_twice(rt, alloc, run)?;
         print_line(rt, "gathered");
-        Ok(gathered)
+        Ok(Left { gathered, receipts })
     }
 }
 
@@ -131,23 +150,42 @@ fn gather_twice<R: Wait + Print>(
     }
 }
 
-// Sends what is pending at a node, and runs each of its steps once.
-fn run_steps<R: Wait>(rt: &R, fabric: &Fabric, node: &mut Node) -> [Stepped; 8]
-    requires { IsNodeOf fabric.now node.old }
+// Sends what is pending at a node, runs each of its steps once, and adds its receipts to
+// `receipts`, which have room for them.
+fn run_steps<R: Wait>(
+    rt: &R,
+    fabric: &Fabric,
+    node: &mut Node,
+    receipts: &mut Vec<Receipt>,
+) -> [Stepped; 8]
+    requires node { IsNodeOf fabric.now node.old }
+    requires room { vec_len receipts.old + 2 ≤ vec_capacity receipts.old }
     ensures of { IsNodeOf fabric.now node.new }
     ensures part { node.new.core.part ≡ node.old.core.part }
 {
     node.send_pending(rt, fabric);
-    [
-        node.step_job(rt, fabric),
-        node.step_request(rt, fabric),
-        node.step_cut(),
-        node.step_send(rt, fabric),
-        node.step_recv(rt, fabric),
-        node.step_load(fabric),
-        node.step_complete(fabric),
-        node.step_resume(rt, fabric),
-    ]
+    let (job, receipt) = node.step_job(rt, fabric);
+    add_receipt(receipts, receipt);
+    let request = node.step_request(rt, fabric);
+    let cut = node.step_cut();
+    let send = node.step_send(rt, fabric);
+    let recv = node.step_recv(rt, fabric);
+    let load = node.step_load(fabric);
+    let complete = node.step_complete(fabric);
+    let (resume, receipt) = node.step_resume(rt, fabric);
+    add_receipt(receipts, receipt);
+    [job, request, cut, send, recv, load, complete, resume]
+}
+
+// Adds a receipt to `receipts`, which have room for it, if there is one.
+fn add_receipt(receipts: &mut Vec<Receipt>, receipt: Option<Receipt>)
+    requires { vec_len receipts.old < vec_capacity receipts.old }
+    ensures len { vec_len receipts.new ≤ vec_len receipts.old + 1 }
+    ensures capacity { vec_capacity receipts.new ≡ vec_capacity receipts.old }
+{
+    if let Some(receipt) = receipt {
+        receipts.push_reserved(receipt);
+    }
 }
 
 // The steps of a node, in the order of `run_steps`.

@@ -5,12 +5,12 @@
 mod call;
 mod chain;
 mod engine;
+mod engine_calls;
 mod gathered_text;
 mod hand_run;
 mod input;
 mod lines;
 mod nodes;
-mod page;
 mod poster;
 mod printing;
 mod steps;
@@ -46,7 +46,6 @@ fn try_call<R: Threads + Wait + Print + Sync, I: Read>(
         Call::Nodes => nodes::try_nodes(rt, alloc),
         Call::TwoStages => two_stages::try_two_stages(rt, alloc, Fold::InOneThread),
         Call::Folds => two_stages::try_two_stages(rt, alloc, Fold::InThreads),
-        Call::Page => page::try_page(rt, alloc),
         Call::Engine => engine::try_engine(rt, alloc),
         Call::Chain => chain::try_chain(rt, alloc),
     }

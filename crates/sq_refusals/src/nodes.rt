@@ -2,14 +2,14 @@
 ghost use Rattle.std.specs.Prelude.{◌≡◌, IfOk};
 
 use crate::gathered_text::print_gathered;
-use crate::hand_run::HandRun;
+use crate::hand_run::{HandRun, Left};
 use crate::lines::read_opening;
 use crate::printing::{print_line, print_refused};
 use crate::unfinished::Unfinished;
-use sq_gather::Gathered;
 use sq_link::{RecvPass, SendPass, SharedLink};
 use sq_plan::PartId;
 use sq_ranges::Link;
+use sq_schema::Txn;
 use sq_status::{StatusTree, TreeSeat};
 use sq_tree::NodeId;
 use std::alloc::{AllocError, Global};
@@ -31,10 +31,10 @@ pub fn try_nodes<R: Wait + Print>(rt: &R, alloc: Global) -> Result<(), Unfinishe
     print_line(rt, "read");
     let run = HandRun::open(rt, alloc, &opening)?;
     print_line(rt, "opened");
-    let gathered = try_pulls(rt, alloc, run)?;
-    let told = print_gathered(rt, alloc, &gathered);
+    let left = try_pulls(rt, alloc, run)?;
+    let told = print_gathered(rt, alloc, &left.gathered, &left.receipts);
     if told.is_ok() {
-        print_left(rt, &gathered);
+        print_left(rt, &left.gathered.left);
     }
     told
 }
@@ -88,12 +88,8 @@ fn open_link<R: Print>(
 }
 
 // Tries two pulls, and gathers the run.
-fn try_pulls<R: Wait + Print>(
-    rt: &R,
-    alloc: Global,
-    mut run: HandRun,
-) -> Result<Gathered, Unfinished> {
-    run.post(rt, alloc, "txn 1 9 5 get 0 0")?;
+fn try_pulls<R: Wait + Print>(rt: &R, alloc: Global, mut run: HandRun) -> Result<Left, Unfinished> {
+    run.post(rt, alloc, "txn 1 9 5 put 0 0 7 61")?;
     print_line(rt, "works");
     turns(rt, &mut run, &[1, 0, 1]);
     print_line(rt, "worked");
@@ -113,8 +109,8 @@ fn turns<R: Wait + Print>(rt: &R, run: &mut HandRun, parts: &[usize]) {
 }
 
 // Prints how many jobs each partition has left.
-fn print_left<R: Print>(rt: &R, gathered: &Gathered) {
-    for jobs in &gathered.left {
+fn print_left<R: Print>(rt: &R, left: &[Vec<Txn>]) {
+    for jobs in left {
         let left = jobs.len();
         drop(println!(rt; "left {left}"));
     }

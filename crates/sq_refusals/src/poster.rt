@@ -1,29 +1,36 @@
 // A client that posts jobs.
+use crate::unfinished::Unfinished;
 use sq_audit::Job;
 use sq_engine::{Client, Command, PostFault, StageProgress};
 use sq_node::Receipt;
 use sq_plan::PartId;
+use std::alloc::Global;
 
-/// A client that posts jobs. It ends an epoch at rest once each of them is answered.
+/// A client that posts jobs. It ends an epoch at rest once each job that it awaits is answered.
 #[derive(Drop)]
 pub struct Poster {
     // The jobs that it has not posted yet.
     left: Vec<Job>,
     // How many answers it awaits.
     awaited: usize,
+    // The answers, for which there is room.
+    receipts: Vec<Receipt>,
     at_rest: bool,
     has_one_back: bool,
 }
 
 impl Poster {
-    /// Returns a client that posts `jobs`, the last one first.
-    pub fn new(jobs: Vec<Job>) -> Poster {
-        Poster {
-            awaited: jobs.len(),
+    /// Returns a client that posts `jobs`, the last one first, and awaits their answers and `others`
+    /// other ones.
+    pub fn new(alloc: Global, jobs: Vec<Job>, others: usize) -> Result<Poster, Unfinished> {
+        let awaited = jobs.len().saturating_add(others);
+        Ok(Poster {
+            awaited,
+            receipts: Vec::with_capacity(alloc, awaited)?,
             left: jobs,
             at_rest: false,
             has_one_back: false,
-        }
+        })
     }
 
     /// Begins an epoch; `at_rest` says whether no rows move in it.
@@ -31,19 +38,21 @@ impl Poster {
         self.at_rest = at_rest;
     }
 
-    /// Awaits only the answers of the jobs that it has not posted yet.
-    pub fn await_none(&mut self) {
-        self.awaited = self.left.len();
-    }
-
-    /// Returns true if each job was posted and answered.
+    /// Returns true if each answer has arrived.
     pub fn is_done(&self) -> bool {
-        self.left.is_empty() && self.awaited == 0
+        self.awaited == 0
     }
 
     /// Returns true if a job was returned.
     pub fn has_one_back(&self) -> bool {
         self.has_one_back
+    }
+
+    /// Returns the answers that have arrived, by the ids of their jobs.
+    pub fn into_receipts(self) -> Vec<Receipt> {
+        let Poster { mut receipts, .. } = self;
+        receipts.sort_unstable_by_key(|receipt| receipt.txn.id());
+        receipts
     }
 }
 
@@ -60,8 +69,9 @@ impl Client for Poster {
         }
     }
 
-    fn take(&mut self, _part: PartId, _receipt: Receipt) {
+    fn take(&mut self, _part: PartId, receipt: Receipt) {
         self.awaited = self.awaited.saturating_sub(1);
+        drop(self.receipts.push(receipt));
     }
 
     fn take_back(&mut self, job: Job, _fault: PostFault) {

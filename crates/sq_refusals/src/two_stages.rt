@@ -6,12 +6,12 @@ ghost use Rattle.sq_audit.specs.Answers.{IdsDiffer};
 ghost use Rattle.sq_audit.specs.Folding.{IsUnfolded};
 
 use crate::gathered_text::print_gathered;
-use crate::hand_run::{HandRun, PUMPS};
+use crate::hand_run::{HandRun, Left, PUMPS};
 use crate::lines::{read_opening, read_two_jobs};
 use crate::printing::{print_line, print_refused, value_of};
 use crate::unfinished::Unfinished;
-use sq_audit::{Defect, Folded, Job, Unfolded, Verdict, audit, fold, fold_in_threads};
-use sq_gather::{Gathered, reopen};
+use sq_audit::{Defect, Folded, Job, Unchanged, Unfolded, Verdict, audit, fold, fold_in_threads};
+use sq_gather::{Gathered, Receipt, reopen};
 use sq_ranges::Opening;
 use std::alloc::Global;
 use std::sync::Wait;
@@ -45,12 +45,12 @@ pub fn try_two_stages<R: Threads + Wait + Print + Sync>(
     let jobs = read_two_jobs(alloc, FIRST, SECOND)?;
     let opening = read_opening(alloc, HEADER)?;
     print_line(rt, "read");
-    let gathered = first_stage(rt, alloc, &opening)?;
+    let stage = first_stage(rt, alloc, &opening)?;
     let Folded {
         opening,
         gathered,
         jobs,
-    } = folded(rt, alloc, opening, gathered, jobs, kind)?;
+    } = folded(rt, alloc, opening, stage, jobs, kind)?;
     let left = jobs.len();
     drop(println!(rt; "left {left}"));
     second_stage(rt, alloc, &opening, gathered)
@@ -61,7 +61,7 @@ fn first_stage<R: Wait + Print>(
     rt: &R,
     alloc: Global,
     opening: &Opening,
-) -> Result<Gathered, Unfinished> {
+) -> Result<Left, Unfinished> {
     let mut run = HandRun::open(rt, alloc, opening)?;
     print_line(rt, "opened");
     run.post(rt, alloc, FIRST)?;
@@ -82,8 +82,8 @@ fn second_stage<R: Wait + Print>(
 ) -> Result<(), Unfinished> {
     let mut run = reopened(rt, alloc, opening, gathered)?;
     work(rt, &mut run);
-    let gathered = run.gather(rt, alloc)?;
-    print_gathered(rt, alloc, &gathered)
+    let left = run.gather(rt, alloc)?;
+    print_gathered(rt, alloc, &left.gathered, &left.receipts)
 }
 
 // Runs turns of all workers. The pump claims a segment whole.
@@ -101,25 +101,31 @@ fn folded<R: Threads + Print + Sync>(
     rt: &R,
     alloc: Global,
     opening: Opening,
-    gathered: Gathered,
+    stage: Left,
     jobs: Vec<Job>,
     kind: Fold,
 ) -> Result<Folded, Unfinished>
     requires { IdsDiffer jobs.items }
 {
-    if let Err(unfinished) = check_done(&opening, &gathered, &jobs) {
+    let Left { gathered, receipts } = stage;
+    if let Err(unfinished) = check_done(&opening, &gathered, &receipts, &jobs) {
         return Err(unfinished);
     }
     print_line(rt, "folds");
-    fold_twice(rt, alloc, opening, gathered, jobs, kind)
+    fold_twice(rt, alloc, opening, gathered, receipts, jobs, kind)
 }
 
 // Fails unless the stage is done and the only defect is a job without an answer.
-fn check_done(opening: &Opening, gathered: &Gathered, jobs: &[Job]) -> Result<(), Unfinished>
+fn check_done(
+    opening: &Opening,
+    gathered: &Gathered,
+    receipts: &[Receipt],
+    jobs: &[Job],
+) -> Result<(), Unfinished>
     requires { IdsDiffer jobs.now }
     ensures { OnOk result (IsStageDone opening.now gathered.now) }
 {
-    match audit(opening, gathered, jobs)? {
+    match audit(opening, gathered, receipts, jobs)? {
         Verdict::Unsound(Defect::Unanswered) => check_segments(opening, gathered),
         _ => Err(Unfinished::Refused),
     }
@@ -142,17 +148,24 @@ fn fold_twice<R: Threads + Print + Sync>(
     alloc: Global,
     opening: Opening,
     gathered: Gathered,
+    receipts: Vec<Receipt>,
     jobs: Vec<Job>,
     kind: Fold,
 ) -> Result<Folded, Unfinished>
     requires done { IsStageDone opening gathered }
     requires ids { IdsDiffer jobs.items }
 {
-    match fold_once(rt, alloc, opening, gathered, jobs, kind) {
+    match fold_once(rt, alloc, opening, gathered, receipts, jobs, kind) {
         Ok(folded) => Ok(folded),
         Err(Unfolded::Memory(back)) => {
             print_refused(rt, "fold");
-            value_of(fold_once(rt, alloc, back.opening, back.gathered, back.jobs, kind))
+            let Unchanged {
+                opening,
+                gathered,
+                receipts,
+                jobs,
+            } = back;
+            value_of(fold_once(rt, alloc, opening, gathered, receipts, jobs, kind))
         }
         Err(Unfolded::Unsound(_)) => Err(Unfinished::Refused),
     }
@@ -163,16 +176,17 @@ fn fold_once<R: Threads + Sync>(
     alloc: Global,
     opening: Opening,
     gathered: Gathered,
+    receipts: Vec<Receipt>,
     jobs: Vec<Job>,
     kind: Fold,
 ) -> Result<Folded, Unfolded>
     requires done { IsStageDone opening gathered }
     requires ids { IdsDiffer jobs.items }
-    ensures { IfErr result (IsUnfolded opening gathered jobs.items) }
+    ensures { IfErr result (IsUnfolded opening gathered receipts.items jobs.items) }
 {
     match kind {
-        Fold::InOneThread => fold(alloc, opening, gathered, jobs),
-        Fold::InThreads => fold_in_threads(rt, alloc, opening, gathered, jobs),
+        Fold::InOneThread => fold(alloc, opening, gathered, receipts, jobs),
+        Fold::InThreads => fold_in_threads(rt, alloc, opening, gathered, receipts, jobs),
     }
 }
 
@@ -194,5 +208,5 @@ fn reopened<R: Print>(
 
 fn reopen_once(alloc: Global, opening: &Opening, gathered: Gathered) -> Result<HandRun, Gathered> {
     let run = reopen(alloc, opening, gathered, PUMPS)?;
-    Ok(HandRun::of(run))
+    Ok(HandRun::of(alloc, run))
 }

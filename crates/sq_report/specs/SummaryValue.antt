@@ -2,7 +2,8 @@
 use Rattle.std.specs.Prelude.{ℕ, max, List, [], length, map, slice_get, slice_index_or}
 use Rattle.std.specs.List.{range_with_len}
 use Rattle.std.specs.Option.{option_map_or}
-use Rattle.sq_node.specs.NodeState.{NodeState}
+use Rattle.sq_driver.specs.declared.teller.TellingNode.{TellingNode}
+use Rattle.sq_teller.specs.declared.collector.Collector.{Collector}
 use Rattle.sq_report.specs.declared.counts.LinkCount.{LinkCount}
 use Rattle.sq_report.specs.declared.counts.PartCount.{PartCount}
 use Rattle.sq_report.specs.Counts.{counted}
@@ -15,11 +16,11 @@ pub record SummaryValue : Type 0 where
 abbrev pub none_yet : PartCount
 none_yet = record { committed = 0; aborted = 0 }
 
--- the counts of a partition, with the receipts of its node
-abbrev pub count_after : List PartCount → List NodeState → ℕ → PartCount
-count_after parts nodes part =
-    counted (slice_index_or parts part none_yet) (option_map_or (λ node. node.receipts) (slice_get nodes part) [])
+-- the counts of a partition, with the receipts that its teller collected
+abbrev pub count_after : List PartCount → List (TellingNode Collector) → ℕ → PartCount
+count_after parts pairs part =
+    counted (slice_index_or parts part none_yet) (option_map_or (λ pair. pair.teller.receipts.items) (slice_get pairs part) [])
 
--- the counts of all partitions, with the receipts of their nodes
-abbrev pub counts_after : List PartCount → List NodeState → List PartCount
-counts_after parts nodes = map (count_after parts nodes) (range_with_len 0 (max (length parts) (length nodes)))
+-- the counts of all partitions, with the receipts that their tellers collected
+abbrev pub counts_after : List PartCount → List (TellingNode Collector) → List PartCount
+counts_after parts pairs = map (count_after parts pairs) (range_with_len 0 (max (length parts) (length pairs)))

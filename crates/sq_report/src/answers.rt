@@ -1,7 +1,8 @@
 // When jobs are answered, by which partition, and which jobs.
 use crate::wait_marks::WaitBegins;
-use sq_node::Node;
+use sq_driver::TellingNode;
 use sq_summary::{Event, Happened, TimedAnswer};
+use sq_teller::Collector;
 use std::alloc::{AllocError, Global};
 use std::sync::atomic::{AtomicBool, AtomicU8, AtomicU64, Ordering};
 
@@ -81,24 +82,24 @@ impl AnswerMarks {
         }
     }
 
-    /// Gives the marks of a stage their jobs, by its nodes, which hold the receipts of this stage
-    /// alone.
-    pub(crate) fn name(&self, nodes: &[Node]) {
+    /// Gives the marks of a stage their jobs, by its tellers, which have the receipts of this
+    /// stage.
+    pub(crate) fn name(&self, pairs: &[TellingNode<Collector>]) {
         let count = self.count.load(Ordering::SeqCst);
         let first = self.named.swap(count, Ordering::SeqCst);
-        for node in nodes {
-            self.name_by(node, first as usize);
+        for pair in pairs {
+            self.name_by(pair, first as usize);
         }
     }
 
     // Gives a node's marks their jobs, from place `first` on.
-    fn name_by(&self, node: &Node, first: usize) {
-        let part = node.part().number();
-        let mut receipts = node.receipts().iter();
+    fn name_by(&self, pair: &TellingNode<Collector>, first: usize) {
+        let part = pair.node.part().number();
+        let mut receipts = pair.teller.receipts.iter();
         for mark in self.marks.iter().skip(first) {
             if mark.part.load(Ordering::SeqCst) == part {
                 if let Some(receipt) = receipts.next() {
-                    mark.id.store(receipt.id, Ordering::SeqCst);
+                    mark.id.store(receipt.txn.id(), Ordering::SeqCst);
                 }
             }
         }

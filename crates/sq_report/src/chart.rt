@@ -3,19 +3,10 @@ ghost use Rattle.std.specs.Prelude.{◌≡◌};
 ghost use Rattle.sq_report.specs.Chart.{scaled};
 
 use crate::waiting::{WaitCount, most_of};
-use sq_summary::{Moment, StageStart, write_svg};
+use sq_summary::{Moment, PLOT_BOTTOM, PLOT_HEIGHT, PLOT_LEFT, PLOT_WIDTH, StageStart, write_svg};
 use std::alloc::{AllocError, Global};
 use std::io;
 use std::io::Write;
-
-// The plot of `write_svg`: its left edge, its bottom, its width and its height.
-const LEFT: u64 = 130;
-
-const BOTTOM: u64 = 760;
-
-const WIDTH: u64 = 1400;
-
-const HEIGHT: u64 = 600;
 
 // The width of the whole chart.
 const CHART_WIDTH: u64 = 1600;
@@ -74,7 +65,7 @@ impl Starts {
             named: Vec::new(alloc),
             others: Vec::new(alloc),
         };
-        let mut free = LEFT;
+        let mut free = PLOT_LEFT;
         for start in stages {
             let place = place_of(start.micros, micros);
             let end = place.saturating_add(name_width(start.stage));
@@ -101,7 +92,7 @@ fn name_width(stage: u64) -> u64 {
 
 // Where the time `at` in a run of `micros` is on the axis.
 fn place_of(at: u64, micros: u64) -> u64 {
-    LEFT.saturating_add(scaled(at, micros, WIDTH))
+    PLOT_LEFT.saturating_add(scaled(at, micros, PLOT_WIDTH))
 }
 
 // The share of `len` that `part` is of `whole`, rounded down and at most `len`.
@@ -134,10 +125,13 @@ fn write_waiting<W: Write>(writer: &mut W, waiting: &[WaitCount], all: Moment) -
         writer,
         "<path class=\"waiting\" d=\"M1030 35H1094\"/><text class=\"ink\" x=\"1110\" y=\"44\">jobs waiting, up to {most}</text>"
     )?;
-    write!(writer, "<path class=\"waiting\" d=\"M{LEFT} {BOTTOM}")?;
+    write!(
+        writer,
+        "<path class=\"waiting\" d=\"M{PLOT_LEFT} {PLOT_BOTTOM}"
+    )?;
     for here in waiting {
         let x = place_of(here.micros, all.micros);
-        let y = BOTTOM.saturating_sub(scaled(here.jobs, all.jobs, HEIGHT));
+        let y = PLOT_BOTTOM.saturating_sub(scaled(here.jobs, all.jobs, PLOT_HEIGHT));
         write!(writer, "H{x}V{y}")?;
     }
     writer.write_all(b"H1530\"/>\n")

@@ -2,8 +2,9 @@
 use crate::counts::PartCount;
 use crate::summary::Summary;
 use crate::table::write_summary;
+use sq_driver::TellingNode;
 use sq_gather::Gathered;
-use sq_node::Node;
+use sq_teller::Collector;
 use std::alloc::{AllocError, Global};
 use std::io;
 use std::io::Write;
@@ -12,22 +13,22 @@ use std::sync::{Mutex, Wait};
 
 /// A summary that is counted during a run, and whether memory sufficed to count all.
 #[derive(Drop)]
-pub(crate) struct Kept {
+pub(crate) struct KeptSummary {
     summary: Mutex<Summary>,
     is_whole: AtomicBool,
 }
 
-impl Kept {
-    pub(crate) fn new(alloc: Global) -> Kept {
-        Kept {
+impl KeptSummary {
+    pub(crate) fn new(alloc: Global) -> KeptSummary {
+        KeptSummary {
             summary: Mutex::new(Summary::new(alloc)),
             is_whole: AtomicBool::new(true),
         }
     }
 
     /// Adds the receipts of the nodes of a stage.
-    pub(crate) fn add_nodes<R: Wait>(&self, rt: &R, nodes: &[Node]) {
-        let added = self.summary.lock(rt).add_nodes(nodes);
+    pub(crate) fn add_told<R: Wait>(&self, rt: &R, pairs: &[TellingNode<Collector>]) {
+        let added = self.summary.lock(rt).add_told(pairs);
         self.note(added);
     }
 

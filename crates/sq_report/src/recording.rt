@@ -6,20 +6,21 @@ use crate::chart::{Course, write_chart};
 use crate::clock::{Elapsed, Stopwatch};
 use crate::counts::PartCount;
 use crate::figures::KeptLinks;
-use crate::kept::Kept;
+use crate::kept::KeptSummary;
 use crate::results::{KeptReplies, KeptRows};
 use crate::timeline::Timeline;
 use crate::waits::Waits;
 use sq_audit::Job;
-use sq_driver::{Gate, NodeStep, WorkerEvent};
+use sq_driver::{Gate, NodeStep, TellingNode, WorkerEvent};
 use sq_gather::Gathered;
 use sq_live::{MAX_JOBS, Watch};
-use sq_node::Node;
+use sq_node::Receipt;
 use sq_ranges::{Opening, SEGMENT_LIMIT};
 use sq_summary::{
     FiguresForm, PartFigures, RunFigures, Times, figures_json, moments_of, write_csv,
     write_figures, write_times,
 };
+use sq_teller::Collector;
 use std::alloc::{AllocError, Global};
 use std::io;
 use std::io::Write;
@@ -46,7 +47,7 @@ pub struct RecordingWatch<'a, R, W> {
     alloc: Global,
     watch: &'a W,
     clock: Stopwatch<'a, R>,
-    summary: Kept,
+    summary: KeptSummary,
     waits: Waits,
     reading: AtomicU64,
     threads: Elapsed,
@@ -99,7 +100,7 @@ impl<'a, R: Wait + Clock, W: Watch> RecordingWatch<'a, R, W> {
             alloc,
             watch,
             clock: Stopwatch::start(rt),
-            summary: Kept::new(alloc),
+            summary: KeptSummary::new(alloc),
             waits: Waits::new(alloc)?,
             reading: AtomicU64::new(0),
             threads: Elapsed::new(),
@@ -269,32 +270,32 @@ impl<R: Wait + Clock + Sync, W: Watch> Watch for RecordingWatch<'_, R, W> {
         self.watch.stage_begins();
     }
 
-    fn stage_ends(&self, nodes: &[Node]) {
+    fn stage_ends(&self, pairs: &[TellingNode<Collector>]) {
         self.threads.end(self.clock.micros());
         if let Some(timeline) = &self.timeline {
-            timeline.end_stage(nodes);
+            timeline.end_stage(pairs);
         }
-        self.summary.add_nodes(self.rt, nodes);
-        self.watch.stage_ends(nodes);
+        self.summary.add_told(self.rt, pairs);
+        self.watch.stage_ends(pairs);
     }
 
-    fn gathers(&self, gathered: &Gathered) {
+    fn gathers(&self, gathered: &Gathered, told: &[Receipt]) {
         self.summary.add_links(self.rt, gathered);
         if let Some(links) = &self.links {
             links.add(self.rt, gathered);
         }
         if let Some(replies) = &self.replies {
-            replies.take(self.rt, &gathered.receipts);
+            replies.take(self.rt, told);
         }
         if let Some(rows) = &self.rows {
             rows.keep(self.rt, self.alloc, gathered);
         }
-        self.watch.gathers(gathered);
+        self.watch.gathers(gathered, told);
         self.audits.begin(self.clock.micros());
     }
 
-    fn leaves(&self, left: Gathered, opening: Opening, jobs: Vec<Job>) {
-        self.watch.leaves(left, opening, jobs);
+    fn leaves(&self, left: Gathered, told: Vec<Receipt>, opening: Opening, jobs: Vec<Job>) {
+        self.watch.leaves(left, told, opening, jobs);
     }
 
     fn ends(&self) {

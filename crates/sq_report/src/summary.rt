@@ -5,9 +5,10 @@ ghost use Rattle.sq_report.specs.Counts.{link_count};
 ghost use Rattle.sq_report.specs.SummaryValue.{count_after, counts_after};
 
 use crate::counts::{LinkCount, PartCount, count_link};
+use sq_driver::TellingNode;
 use sq_gather::{ClosedLink, Gathered};
-use sq_node::Node;
 use sq_slab::SlabStore;
+use sq_teller::Collector;
 use std::alloc::{AllocError, Global};
 use std::marker::Model;
 
@@ -38,13 +39,13 @@ impl Summary {
     }
 
     /// Adds the receipts of the nodes of a stage, which are in the order of their partitions; a
-    /// node has those of its own stage alone. Fails, and adds nothing, if memory runs out.
-    pub fn add_nodes(&mut self, nodes: &[Node]) -> Result<(), AllocError>
+    /// teller has those of this stage alone. Fails, and adds nothing, if memory runs out.
+    pub fn add_told(&mut self, pairs: &[TellingNode<Collector>]) -> Result<(), AllocError>
         ensures ok { OnOk result (self.new
-            ≡ record self.old { parts = counts_after self.old.parts nodes.now }) }
+            ≡ record self.old { parts = counts_after self.old.parts pairs.now }) }
         ensures err { OnErr result (self.new ≡ self.old) }
     {
-        self.parts = count_parts(&self.parts, nodes)?;
+        self.parts = count_parts(&self.parts, pairs)?;
         Ok(())
     }
 
@@ -78,23 +79,26 @@ impl Summary {
 }
 
 // The counts of each partition, with the receipts of its node.
-fn count_parts(parts: &Vec<PartCount>, nodes: &[Node]) -> Result<Vec<PartCount>, AllocError>
-    ensures { IfOk result (λ counts. counts.items ≡ counts_after parts.now.items nodes.now) }
+fn count_parts(
+    parts: &Vec<PartCount>,
+    pairs: &[TellingNode<Collector>],
+) -> Result<Vec<PartCount>, AllocError>
+    ensures { IfOk result (λ counts. counts.items ≡ counts_after parts.now.items pairs.now) }
 {
     let mut counts = Vec::new(*parts.allocator());
-    for part in 0..parts.len().max(nodes.len()) {
-        counts.push(count_part(parts, nodes, part))?;
+    for part in 0..parts.len().max(pairs.len()) {
+        counts.push(count_part(parts, pairs, part))?;
     }
     Ok(counts)
 }
 
 // The counts of a partition, with the receipts of its node, if there is one.
-fn count_part(parts: &[PartCount], nodes: &[Node], part: usize) -> PartCount
-    ensures { result ≡ count_after parts.now nodes.now part }
+fn count_part(parts: &[PartCount], pairs: &[TellingNode<Collector>], part: usize) -> PartCount
+    ensures { result ≡ count_after parts.now pairs.now part }
 {
     let so_far = parts.get(part).copied().unwrap_or(PartCount::NONE);
-    match nodes.get(part) {
-        Some(node) => so_far.with(node.receipts()),
+    match pairs.get(part) {
+        Some(pair) => so_far.with(&pair.teller.receipts),
         None => so_far.with(&[]),
     }
 }

@@ -3,9 +3,9 @@ use crate::answers::AnswerMarks;
 use crate::clock::Stopwatch;
 use crate::wait_marks::WaitMarks;
 use crate::waiting::{WaitCount, WaitTimes};
-use sq_driver::{NodeStep, WorkerEvent};
-use sq_node::Node;
+use sq_driver::{NodeStep, TellingNode, WorkerEvent};
 use sq_summary::{Event, Happened, Moment, StageStart, TimedAnswer};
+use sq_teller::Collector;
 use std::alloc::{AllocError, Global};
 use std::sync::atomic::{AtomicU64, Ordering};
 use std::time::Clock;
@@ -60,11 +60,11 @@ impl<'a, C: Clock> Timeline<'a, C> {
         self.stages.mark(self.clock.micros());
     }
 
-    /// Records that a stage has ended, and left `nodes`, which hold the receipts of this stage
-    /// alone.
-    pub fn end_stage(&self, nodes: &[Node]) {
+    /// Records that a stage has ended, and left `pairs`, whose tellers have the receipts of this
+    /// stage.
+    pub fn end_stage(&self, pairs: &[TellingNode<Collector>]) {
         self.ended.store(self.clock.micros(), Ordering::SeqCst);
-        self.answered.name(nodes);
+        self.answered.name(pairs);
     }
 
     /// Marks a job that was answered or begins to wait, or a segment that is complete; other events

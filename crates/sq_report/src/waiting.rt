@@ -1,7 +1,8 @@
 // How many jobs wait for rows, over time.
 ghost use Rattle.std.specs.Prelude.{◌≡◌, ◌++◌, map, IfOk};
 ghost use Rattle.std.specs.List.Sorted.{IsPermutation};
-ghost use Rattle.sq_report.specs.Waiting.{times_within, latest, number_waiting, most_of, wait_count};
+ghost use Rattle.sq_report.specs.Waiting.{times_within, latest, number_waiting};
+ghost use Rattle.sq_report.specs.Waiting.{most_of, wait_count};
 
 use std::alloc::{AllocError, Global};
 

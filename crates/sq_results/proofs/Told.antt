@@ -25,7 +25,7 @@ map_or f (Some x) two = refl
 -- the first answer in two lists of receipts
 first_in_both : (receipts more : List ReceiptValue) (id : ℕ) → first_answer (receipts ++ more) id ≡ option_or (first_answer receipts id) (first_answer more id)
 first_in_both receipts more id =
-    let is = λ (receipt : ReceiptValue). receipt.id == id in
+    let is = λ (receipt : ReceiptValue). receipt.txn.id == id in
     ap (option_map receipt_answer) (find-append is receipts more) ∙ map_or receipt_answer _ _
 
 -- without receipts nothing is told

@@ -27,11 +27,11 @@ unanswered_count r = count_by (λ id. not (is_some (told_of r.told id))) r.ids
 
 -- the answer in a receipt
 abbrev pub receipt_answer : ReceiptValue → Answer
-receipt_answer receipt = Replied receipt.id receipt.reply
+receipt_answer receipt = Replied receipt.txn.id receipt.reply
 
 -- the answer in the first of these receipts that is of the job with this id
 abbrev pub first_answer : List ReceiptValue → ℕ → Option Answer
-first_answer receipts id = option_map receipt_answer (find (λ receipt. receipt.id == id) receipts)
+first_answer receipts id = option_map receipt_answer (find (λ receipt. receipt.txn.id == id) receipts)
 
 -- after receipts are recorded, a job that had no answer has the first one in them
 pub record IsToldAfter (old : RepliesValue) (receipts : List ReceiptValue) (new : RepliesValue) : Type 0 where

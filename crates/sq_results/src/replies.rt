@@ -63,14 +63,14 @@ impl Replies {
     fn take_one(&mut self, receipt: &Receipt) -> Result<(), AllocError>
         ensures { OnOk result (IsToldAfter self.old (receipt.now ∷ []) self.new) }
     {
-        if self.told.contains_key(&receipt.id) {
+        if self.told.contains_key(&receipt.txn.id()) {
             return Ok(());
         }
         let answer = Answer::Replied {
-            id: receipt.id,
+            id: receipt.txn.id(),
             reply: receipt.reply.clone()?,
         };
-        self.told.insert(receipt.id, answer)?;
+        self.told.insert(receipt.txn.id(), answer)?;
         Ok(())
     }
 

@@ -12,10 +12,10 @@ use Rattle.sq_node.specs.FabricValue.{FabricValue}
 use Rattle.sq_node.specs.NodeState.{NodeState}
 use Rattle.sq_driver.specs.Nodes.{AllDriven}
 use Rattle.sq_driver.specs.Pumps.{AllPumpsDriven}
-use Rattle.sq_gather.specs.Gathered.{AreAllOf, HoldsInStage, IsGathered}
+use Rattle.sq_gather.specs.Gathered.{AreAllOf, InPartOrder, HoldsInStage, IsGathered}
 use Rattle.sq_gather.specs.Reopened.{IsRunInStage, AllStay, AllPumpsStay}
 use Rattle.sq_gather.proofs.Running.{run_goes_on, holds_in_stage}
-use Rattle.sq_gather.proofs.Workers.{each_stays, each_pump_stays, still_all}
+use Rattle.sq_gather.proofs.Workers.{each_stays, each_pump_stays, still_in_order, still_all}
 use Rattle.sq_run.specs.StageRunValue.{RanFrom}
 
 module _ (fabric : FabricValue) (old new : List NodeState) (before after : List PumpValue) where
@@ -29,6 +29,10 @@ module _ (fabric : FabricValue) (old new : List NodeState) (before after : List 
     -- all nodes and pumps of a run are its nodes and pumps still
     pub whole_driven : AreAllOf fabric old before → AreAllOf fabric new after
     whole_driven whole = still_all fabric old new before after whole (nodes_stay nodes) (pumps_stay pumps)
+
+    -- they are in the order of their partitions still
+    pub order_driven : InPartOrder old → InPartOrder new
+    order_driven order = still_in_order fabric old new (nodes_stay nodes) order
 
     -- it is a run still
     pub run_driven : (o : OpeningValue) (began : BeganWith) → IsOpening o → IsRunInStage o began fabric old before → IsRunInStage o began fabric new after

@@ -1,5 +1,5 @@
 -- A stage of a run.
-use Rattle.std.specs.Prelude.{◌≡◌, ◌++◌, List, length}
+use Rattle.std.specs.Prelude.{◌≡◌, ◌++◌, false, List, [], All, length}
 use Rattle.sq_ranges.specs.OpeningValue.{OpeningValue}
 use Rattle.sq_ranges.specs.Opening.{IsOpening}
 use Rattle.sq_pull.specs.Pump.{PumpValue}
@@ -9,7 +9,9 @@ use Rattle.sq_node_model.specs.Gathered.{GatheredValue}
 use Rattle.sq_node_model.specs.Placed.{IsPlaced, GoOn}
 use Rattle.sq_node.specs.FabricValue.{FabricValue}
 use Rattle.sq_node.specs.NodeState.{NodeState}
+use Rattle.sq_driver.specs.declared.teller.TellingNode.{TellingNode}
 use Rattle.sq_gather.specs.Reopened.{IsRunInStage}
+use Rattle.sq_teller.specs.declared.collector.Collector.{Collector}
 
 -- what its workers share, its nodes in the order of their partitions, and its pumps
 pub record StageRunValue : Type 0 where
@@ -19,6 +21,15 @@ pub record StageRunValue : Type 0 where
 
 abbrev pub stage_run_of : FabricValue → List NodeState → List PumpValue → StageRunValue
 stage_run_of fabric nodes pumps = record { fabric = fabric; nodes = nodes; pumps = pumps }
+
+-- each teller has collected exactly the receipts that its node wrote, unless it broke off
+abbrev pub HaveCollected : List (TellingNode Collector) → Type 0
+HaveCollected pairs =
+    All (λ pair. pair.teller.broke_off ≡ false → pair.teller.receipts.items ≡ pair.node.receipts) pairs
+
+-- no node has written a receipt
+abbrev pub AreUnanswered : List NodeState → Type 0
+AreUnanswered nodes = All (λ node. node.receipts ≡ []) nodes
 
 -- it is a run of this opening, in a stage that began with `began`
 abbrev pub BeganFrom : OpeningValue → BeganWith → StageRunValue → Type 0

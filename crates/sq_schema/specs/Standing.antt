@@ -6,11 +6,6 @@ use Rattle.sq_rows.specs.Rows.{is_rooted}
 use Rattle.sq_schema.specs.declared.family.TheConstants.{MAX_LOG}
 use Rattle.sq_schema.specs.Family.{FamilyValue, rows_of}
 
--- the rows that a log starts from, and the current rows
-pub record LoggedValue : Type 0 where
-  pub base : RowList
-  pub rows : RowList
-
 -- the stored rows are those of the family; the log isn't too long, and its transactions are of the
 -- root key
 pub record IsKept (family : FamilyValue) (now : RowList) : Type 0 where

@@ -1,10 +1,13 @@
 // Runs transactions on the rows of one root key.
-ghost use Rattle.std.specs.Prelude.{◌≡◌, OnOk, OnErr, IfOk};
-ghost use Rattle.sq_schema.specs.Effect.{effect, reply};
+ghost use Rattle.std.specs.Prelude.{◌≡◌, ◌∷◌, [], None, OnOk, OnErr, IfOk};
+ghost use Rattle.sq_schema.specs.declared.schema.TheConstants.{MAX_TABLES};
+ghost use Rattle.sq_schema.specs.Effect.{ops_outcome, reply_of, rows_after, effect, reply};
+ghost use Rattle.sq_schema.specs.Refusals.{op_fault};
 
-use crate::pending::{RunOutcome, run};
-use crate::txn::{Reply, Txn};
-use sq_rows::Rows;
+use crate::one_op::run_one;
+use crate::pending::{RunOutcome, Stop, run};
+use crate::txn::{Op, OpAnswers, Reply, Txn};
+use sq_rows::{Rows, ShortList};
 use std::alloc::{AllocError, Global};
 
 impl Txn {
@@ -15,6 +18,9 @@ impl Txn {
         ensures rows { OnOk result (rows.new ≡ effect rows.old self.now) }
         ensures err { OnErr result (rows.new ≡ rows.old) }
     {
+        if let [op] = self.ops() {
+            return apply_one(rows, op);
+        }
         let RunOutcome {
             reply,
             writes,
@@ -33,5 +39,20 @@ impl Txn {
     {
         self.apply_to(alloc, rows)?;
         Ok(())
+    }
+}
+
+// Runs a transaction whose only operation is `op`.
+fn apply_one(rows: &mut Rows, op: &Op) -> Result<Reply, AllocError>
+    requires { op_fault MAX_TABLES op.now ≡ None }
+    ensures reply { IfOk result (λ r. r ≡ reply_of (ops_outcome 0 (op.now ∷ []) rows.old)) }
+    ensures rows { OnOk result (rows.new
+        ≡ rows_after rows.old (ops_outcome 0 (op.now ∷ []) rows.old)) }
+    ensures err { OnErr result (rows.new ≡ rows.old) }
+{
+    match run_one(rows, op) {
+        Ok(answer) => Ok(Reply::Committed(OpAnswers::of(ShortList::One(answer)))),
+        Err(Stop::Abort(cause)) => Ok(Reply::Aborted { at: 0, cause }),
+        Err(Stop::Memory) => Err(AllocError),
     }
 }

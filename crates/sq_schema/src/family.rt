@@ -1,5 +1,5 @@
 // Families: the rows of a root key, with the transactions that led to them.
-ghost use Rattle.std.specs.Prelude.{◌≡◌, ◌<◌, ◌≤◌, ◌↔◌, true, [], ◌∷◌, length, vec_len, vec_capacity, IfOk, IfErr, OnOk, OnErr, IsErrOf, IsTrue};
+ghost use Rattle.std.specs.Prelude.{◌≡◌, ◌≤◌, ◌↔◌, [], length, IfOk, OnErr, IsErrOf, IsTrue};
 ghost use Rattle.std.specs.List.{All};
 ghost use Rattle.sq_schema.specs.Effect.{reply};
 ghost use Rattle.sq_rows.specs.Sizes.{rows_size};
@@ -7,37 +7,42 @@ ghost use Rattle.sq_schema.specs.Family.{rows_of, family_stands, folded, answere
 ghost use Rattle.sq_rows.specs.Rows.{is_rooted};
 
 use crate::fault::ApplyFault;
-use crate::logged_rows::LoggedRows;
-use crate::pending::{RunOutcome, Stop, run};
 use crate::root::Root;
-use crate::txn::{Op, OpAnswers, Reply, Txn};
-use sq_rows::{Rows, ShortList};
-use std::alloc::{AllocError, Global};
+use crate::txn::{Reply, Txn};
+use sq_history::{History, Kept};
+use sq_rows::Rows;
+use std::alloc::Global;
+use std::fmt::{self, Debug, Formatter, Write};
 use std::marker::Model;
 
-/// The most transactions that a log holds.
-pub const MAX_LOG: usize = 4096;
+/// The most transactions that a log counts. A partition may refuse more sooner.
+pub const MAX_LOG: u64 = u64::MAX;
 
 /// A family: a root key with its rows, the base rows that its log starts from, and its log. The
-/// rows are the replay of the log on the base rows. The log and the rows are stored side by side,
-/// since each transaction touches both. To a contract it is a `FamilyValue`.
-#[derive(Debug, Drop)]
+/// rows are the replay of the log on the base rows. Only the rows and the length of the log take
+/// memory: only proofs read the base rows and the transactions. To a contract it is a
+/// `FamilyValue`.
+#[derive(Drop)]
 pub struct Family {
     root: Root,
-    log: Vec<Txn>,
-    rows: LoggedRows,
+    alloc: Global,
+    position: u64,
+    rows: Rows,
+    base: Kept<Rows>,
+    log: History<Txn>,
 }
 
 impl Model for Family {
+    ghost use Rattle.std.specs.Prelude.{◌≡◌, length};
     ghost use Rattle.sq_schema.specs.Family.{FamilyValue};
     ghost use Rattle.sq_schema.specs.Standing.{IsKept};
 
     ghost Value = { FamilyValue };
 
-    ghost view = { λ f. record { root = f.root; base = f.rows.base; log = f.log.items } };
+    ghost view = { λ f. record { root = f.root; base = f.base.value; log = f.log.items } };
 
-    ghost invariant = { λ f.
-        IsKept (record { root = f.root; base = f.rows.base; log = f.log.items }) f.rows.rows };
+    ghost invariant = { λ f. (f.position ≡ length f.log.items)
+        × IsKept (record { root = f.root; base = f.base.value; log = f.log.items }) f.rows };
 }
 
 impl Family {
@@ -45,11 +50,7 @@ impl Family {
     pub fn empty(alloc: Global, root: Root) -> Family
         ensures { result ≡ record { root = root; base = []; log = [] } }
     {
-        Family {
-            root,
-            rows: LoggedRows::new(Rows::new(alloc)),
-            log: Vec::new(alloc),
-        }
+        Family::opened(alloc, root, Rows::new(alloc))
     }
 
     /// Creates a family of `root` that starts from `rows`, which have rows of other tables only
@@ -60,8 +61,11 @@ impl Family {
     {
         Family {
             root,
-            rows: LoggedRows::new(rows),
-            log: Vec::new(alloc),
+            alloc,
+            position: 0,
+            base: Kept::of(&rows),
+            rows,
+            log: History::new(),
         }
     }
 
@@ -75,57 +79,24 @@ impl Family {
         ensures family { IfOk result (λ r. self.new ≡ answered self.old txn.now r) }
         ensures err { OnErr result (self.new ≡ self.old) }
     {
-        if self.log.len() >= MAX_LOG {
+        if self.position >= MAX_LOG {
             return Err(ApplyFault::LogFull);
         }
-        if let [op] = txn.ops() {
-            return self.apply_one(txn, op);
-        }
-        let alloc = *self.log.allocator();
-        let RunOutcome {
-            reply,
-            writes,
-            size,
-        } = run(alloc, self.rows.rows(), txn.ops())?;
+        let reply = txn.apply_to(self.alloc, &mut self.rows)?;
         if let Reply::Committed(_) = reply {
-            let entry = txn.clone()?;
-            make_room(&mut self.log)?;
-            self.rows.write_all(alloc, writes, size)?;
-            self.log.push_reserved(entry);
+            self.log = self.log.and(txn);
+            self.position += 1;
         }
         Ok(reply)
     }
 
-    // Runs `txn`, whose only operation is `op`.
-    fn apply_one(&mut self, txn: &Txn, op: &Op) -> Result<Reply, ApplyFault>
-        requires root { txn.now.root ≡ self.old.root }
-        requires short { length self.old.log < MAX_LOG }
-        requires one { txn.now.ops ≡ op.now ∷ [] }
-        ensures full { IsErrOf result ApplyFault.LogFull ↔ (MAX_LOG ≤ length self.old.log) }
-        ensures reply { IfOk result (λ r. r ≡ reply (rows_of self.old) txn.now) }
-        ensures family { IfOk result (λ r. self.new ≡ answered self.old txn.now r) }
-        ensures err { OnErr result (self.new ≡ self.old) }
-    {
-        let alloc = *self.log.allocator();
-        let copy = txn.clone()?;
-        make_room(&mut self.log)?;
-        match self.rows.run_one(alloc, op) {
-            Ok(answer) => {
-                self.log.push_reserved(copy);
-                Ok(Reply::Committed(OpAnswers::of(ShortList::One(answer))))
-            }
-            Err(Stop::Abort(cause)) => Ok(Reply::Aborted { at: 0, cause }),
-            Err(Stop::Memory) => Err(ApplyFault::Memory),
-        }
-    }
-
-    /// Folds the log: the family restarts from its rows, with an empty log. It takes no memory,
-    /// since rows that equal the base rows are stored once.
+    /// Folds the log: the family restarts from its rows, with an empty log.
     pub fn fold(&mut self)
         ensures { self.new ≡ folded self.old }
     {
-        self.rows.fold();
-        self.log = Vec::new(*self.log.allocator());
+        self.base = Kept::of(&self.rows);
+        self.log = History::new();
+        self.position = 0;
     }
 
     pub fn root(&self) -> Root
@@ -139,51 +110,40 @@ impl Family {
         ensures rows { result.now ≡ rows_of self.now }
         ensures rooted { IsTrue (is_rooted result.now) }
     {
-        self.rows.rows()
+        &self.rows
     }
 
-    /// Returns the base rows, which the log starts from.
-    pub fn base(&self) -> &Rows
-        ensures rows { result.now ≡ self.now.base }
-        ensures rooted { IsTrue (is_rooted result.now) }
+    /// Returns the length of the log: how many transactions committed since it was last folded, at
+    /// most [`MAX_LOG`].
+    pub fn position(&self) -> u64
+        ensures position { result ≡ length self.now.log }
+        ensures short { length self.now.log ≤ MAX_LOG }
+        ensures own { All (λ txn. txn.root ≡ self.now.root) self.now.log }
     {
-        self.rows.base()
-    }
-
-    /// Returns the committed transactions in their order, at most [`MAX_LOG`].
-    pub fn log(&self) -> &[Txn]
-        ensures log { result.now ≡ self.now.log }
-        ensures short { length result.now ≤ MAX_LOG }
-        ensures own { All (λ txn. txn.root ≡ self.now.root) result.now }
-    {
-        &self.log
+        self.position
     }
 
     /// Returns the size in bytes: 32, plus 24 and the length of its note for each row.
     pub fn size(&self) -> u64
         ensures { result ≡ rows_size (rows_of self.now) }
     {
-        self.rows().size()
+        self.rows.size()
     }
 
     /// Returns true if the family has base rows or a log.
     pub fn stands(&self) -> bool
         ensures { result ≡ family_stands self.now }
     {
-        !self.base().is_empty() || !self.log.is_empty()
+        self.position != 0 || !self.rows.is_empty()
     }
 }
 
-// Allocates room for one more transaction in `log`: for 1 and then for 4, since most logs stay short,
-// and after that for half as many again.
-fn make_room(log: &mut Vec<Txn>) -> Result<(), AllocError>
-    ensures items { log.new.items ≡ log.old.items }
-    ensures room { OnOk result (vec_len log.new < vec_capacity log.new) }
-{
-    let len = log.len();
-    if len < log.capacity() {
-        return Ok(());
+impl Debug for Family {
+    fn fmt<W: Write>(&self, f: &mut Formatter<W>) -> fmt::Result {
+        f.debug_struct("Family")
+            .field("root", &self.root)
+            .field("position", &self.position)
+            .field("rows", &self.rows)
+            .finish()
     }
-    let more = if len == 1 { 3 } else { len / 2 + 1 };
-    log.reserve_exact(more)
 }

@@ -1,6 +1,6 @@
 //! Consequences of the definitions. The functions do nothing: each states a law, which the checker
 //! proves.
-ghost use Rattle.std.specs.Prelude.{◌≡◌, ◌↔◌, ℕ, List, IsTrue, [], ◌∷◌, ◌++◌, pos, Some, None};
+ghost use Rattle.std.specs.Prelude.{◌≡◌, ◌↔◌, ◌+◌, ◌^◌, ℕ, List, IsTrue, [], ◌∷◌, ◌++◌, pos, Some, None};
 ghost use Rattle.sq_schema.specs.declared.txn.OpAnswer.TheVariants.{Found, Number, Done};
 ghost use Rattle.sq_schema.specs.declared.txn.Cause.TheVariants.{Absent, Small, Range, NoRoot, Children};
 ghost use Rattle.sq_schema.specs.declared.txn.Reply.TheVariants.{Committed, Aborted};
@@ -21,7 +21,7 @@ ghost use Rattle.sq_schema.specs.Examples.{ten, plain, hi, key, adds_largest, de
 /// States the limits of rows and transactions as numbers.
 pub fn the_limits()
     ensures rows { (MAX_TABLES ≡ 8) × (MAX_NOTE ≡ 255) × (ROOT_END ≡ 4294967296) }
-    ensures transactions { (MAX_OPS ≡ 64) × (MAX_LOG ≡ 4096) }
+    ensures transactions { (MAX_OPS ≡ 64) × (MAX_LOG + 1 ≡ 2 ^ 64) }
 {}
 
 /// States replies of transactions on a root row of 10 and on no rows, each worked out by hand.

@@ -5,7 +5,7 @@ mod apply;
 mod family;
 mod fault;
 pub mod laws;
-mod logged_rows;
+mod one_op;
 mod op_list;
 mod pending;
 mod root;

@@ -11,7 +11,7 @@ serve_answer_line (Fault fault number (Some id)) =
     line (codes "fault" ∷ decimal fault ∷ decimal number ∷ codes "id" ∷ decimal id ∷ [])
 serve_answer_line (Moving segments) = line (codes "moving" ∷ decimal segments ∷ [])
 serve_answer_line (Moved segments) = line (codes "moved" ∷ decimal segments ∷ [])
-serve_answer_line (Folded families committed) = line (codes "folded" ∷ decimal families ∷ decimal committed ∷ [])
+serve_answer_line (Folded answers) = line (codes "folded" ∷ decimal answers ∷ [])
 serve_answer_line (Rows count) = line (codes "rows" ∷ decimal count ∷ [])
 serve_answer_line (AtRest unanswered) =
     line (codes "at" ∷ codes "rest," ∷ decimal unanswered ∷ codes "jobs" ∷ codes "open" ∷ [])

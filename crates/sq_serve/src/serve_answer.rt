@@ -25,10 +25,9 @@ pub enum ServeAnswer {
     Moved {
         segments: u64,
     },
-    /// What was answered is sound: a page with this many families and commits.
+    /// This many jobs were answered, each with the reply that its place in the log gives.
     Folded {
-        families: u64,
-        committed: u64,
+        answers: u64,
     },
     /// This many rows were written, as lines or into a file.
     Rows {
@@ -64,10 +63,7 @@ fn write_answer_line<W: Write>(writer: &mut W, answer: ServeAnswer) -> io::Resul
         ServeAnswer::Fault { fault, line, id } => write_fault(writer, fault, line, id),
         ServeAnswer::Moving { segments } => writeln!(writer, "moving {segments}"),
         ServeAnswer::Moved { segments } => writeln!(writer, "moved {segments}"),
-        ServeAnswer::Folded {
-            families,
-            committed,
-        } => writeln!(writer, "folded {families} {committed}"),
+        ServeAnswer::Folded { answers } => writeln!(writer, "folded {answers}"),
         ServeAnswer::Rows { count } => writeln!(writer, "rows {count}"),
         ServeAnswer::AtRest { unanswered } => write_rest(writer, unanswered),
         ServeAnswer::Progress {

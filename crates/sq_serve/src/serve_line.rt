@@ -21,7 +21,7 @@ pub enum ServeLine {
     Job { part: u64, txn: Txn },
     /// To move rows to the places of this plan.
     Move(Plan),
-    /// To audit what was answered, and to fold the logs.
+    /// To say how many answers were found sound.
     Fold,
     /// For the progress of a move.
     Status,

@@ -1,6 +1,6 @@
 -- How a desk changes, step by step.
-use Rattle.std.proofs.Common.{◌≡◌, ◌⊎◌, ⊎_elim, inl, inr, ℕ, ◌<◌, ◌≤◌, ◌==◌, ◌||◌, Bool, true, false, if◌then◌else◌, List, [], ◌∷◌, ◌++◌, length, map, refl, sym, ap, subst, ◌∙◌, append_assoc, append-nil, arith}
-use Rattle.std.specs.Prelude.{Option, Some, None, Ok, Err}
+use Rattle.std.proofs.Common.{◌≡◌, ◌⊎◌, ⊎_elim, inl, inr, ℕ, ◌<◌, ◌≤◌, ◌||◌, Bool, true, false, if◌then◌else◌, List, [], ◌∷◌, ◌++◌, length, map, refl, sym, ap, subst, ◌∙◌, append_assoc, append-nil, arith}
+use Rattle.std.specs.Prelude.{Option, None, Ok, Err}
 use Rattle.std.specs.List.{flat_map}
 use Rattle.std.specs.Io.KnownBytes.{Appends}
 use Rattle.std.proofs.lemmas.Grind.{flat_map-append}
@@ -27,7 +27,7 @@ use Rattle.sq_server.specs.declared.outlet.Outlet.{Outlet}
 use Rattle.sq_server.specs.Saying.{Says, OtherLine, Answered, Refused, other_line}
 use Rattle.sq_server.specs.Settling.{refusal_of, AnswersFault, SettlesFed, SettlesEach}
 use Rattle.sq_server.specs.Sides.{waiting_at, ChangesAt, TakesFirst}
-use Rattle.sq_server.specs.Becoming.{ServeDeskValue, asked_by, asked_at, jobs_for, Handles, Hears, Speaks, WritesBytes, WritesStatus, Stops, KeepsWish, TakesWish}
+use Rattle.sq_server.specs.Becoming.{ServeDeskValue, asked_by, asked_at, Handles, Hears, Speaks, WritesBytes, WritesStatus, Stops, KeepsWish, TakesWish}
 
 pub false-not-true : {P : Type 0} → true ≡ false → P
 false-not-true e = cc
@@ -284,28 +284,6 @@ stops more back offered a b moving stopped count =
 pub stopped_handles : (more : List Fed) (back offered : List Job) (a b : ServeDeskValue) → Stops a b → Handles more back a offered b
 stopped_handles more back offered a b is =
     stops more back offered a b is.moving is.stopped (ap (λ (w : List (List AskedTxn)). length w) is.waiting)
-
--- the desk after one from which this was taken
-pub heard_before : (fed : Fed) (a popped b : ServeDeskValue) (offered : List Job) → popped ≡ record a { heard = a.heard ++ fed ∷ [] }
-    → b.heard ≡ popped.heard → Handles (fed ∷ []) [] popped offered b → Hears [] a offered b
-heard_before fed a popped b offered is same handled =
-    let now = record a { heard = a.heard ++ fed ∷ [] } in
-    let did : Handles (fed ∷ []) [] now offered b = subst (λ (d : ServeDeskValue). Handles (fed ∷ []) [] d offered b) is handled in
-    record {
-      more = fed ∷ [];
-      heard = same ∙ ap (λ (d : ServeDeskValue). d.heard) is;
-      handles = record {
-        goes_on = did.goes_on;
-        others = did.others;
-        written = did.written;
-        kept = did.kept;
-        wishes = did.wishes;
-        settled = did.settled;
-        count = did.count;
-        moving = did.moving;
-        jobs = did.jobs;
-      };
-    }
 
 module _ {W : Type 0} (contents : W → Option (List ℕ)) where
   -- a desk with this outlet

@@ -1,4 +1,4 @@
--- What a desk writes over an epoch.
+-- What a desk writes in an epoch.
 use Rattle.std.proofs.Common.{◌≡◌, ⊎_elim, ℕ, ◌<◌, ◌≤◌, ◌==◌, Bool, true, false, if◌then◌else◌, List, [], ◌∷◌, ◌++◌, length, map, refl, sym, ap, subst, ◌∙◌, append_assoc, append-nil, arith}
 use Rattle.std.specs.List.{flat_map}
 use Rattle.std.specs.Io.KnownBytes.{Appends}
@@ -8,9 +8,12 @@ use Rattle.std.proofs.lemmas.List.Elements.{filter-append}
 use Rattle.std.proofs.lemmas.Bool.{cases_eq, cases_lt, eq-eqb, ne_eqb}
 use Rattle.sq_node_model.specs.NodeValue.{ReceiptValue}
 use Rattle.sq_audit.specs.declared.job.Job.{Job}
-use Rattle.sq_epoch.specs.declared.posted.PostFault.{PostFault}
-use Rattle.sq_epoch.specs.declared.posted.PostFault.TheVariants as fault
-use Rattle.sq_epoch.specs.Exchanges.{ClientCall, Exchange, Answers, Posts, Refuses, Rests, Ends, ExchangesEach, InStage, answer_at, given_from}
+use Rattle.sq_engine.specs.declared.open_jobs.PostFault.{PostFault}
+use Rattle.sq_engine.specs.declared.open_jobs.PostFault.TheVariants as fault
+use Rattle.sq_engine.specs.declared.event.Event.{Event}
+use Rattle.sq_engine.specs.declared.event.Event.TheVariants.{Posts, Refuses, Answers, Drops, Loses, Rests, Ends, MovesTo}
+use Rattle.sq_engine.specs.Events.{answer_at, given_from}
+use Rattle.sq_engine.specs.Clients.{ClientCall, InStage, ChangesClientEach}
 use Rattle.sq_text.proofs.Appending.{both, appends_none}
 use Rattle.sq_server.specs.Receipts.{receipt_line}
 use Rattle.sq_serve.specs.declared.line_place.LinePlace.{LinePlace}
@@ -20,9 +23,9 @@ use Rattle.sq_server.specs.declared.desk.Wish.{Wish}
 use Rattle.sq_server.specs.Saying.{OtherLine, Answered, other_line}
 use Rattle.sq_server.specs.Settling.{refusal_of}
 use Rattle.sq_server.specs.Sides.{waiting_at}
-use Rattle.sq_epoch.specs.declared.stage_progress.StageProgress.{StageProgress}
+use Rattle.sq_engine.specs.declared.stage_progress.StageProgress.{StageProgress}
 use Rattle.sq_server.specs.Becoming.{ServeDeskValue, asked_by, asked_at, jobs_for, with_stage, Hears, WritesReceipt, AnswersRefusal, Stops, TakesJobBack, Becomes}
-use Rattle.sq_server.specs.Written.{SaidLine, OfReceipt, Other, said_line, receipt_at, told_from, settled_job, settled_in, as_jobs, jobs_waiting, jobs_asked, WritesEach, other_said, others_in, Settlement, settles_nothing, settled_both, AnswersReturned, SettlesHeard, SettlesReturned, SettlesExchange, SettlesAll, AnswersEach}
+use Rattle.sq_server.specs.Written.{OfReceipt, Other, said_line, receipt_at, told_from, settled_job, settled_in, as_jobs, jobs_waiting, jobs_asked, WritesEach, other_said, others_in, Settlement, settles_nothing, settled_both, AnswersReturned, SettlesHeard, SettlesEvent, SettlesAll, AnswersEach}
 use Rattle.sq_server.proofs.Desks.{false-not-true, hears_through}
 
 -- jobs that go through two steps, one after another
@@ -66,8 +69,8 @@ as_jobs_go part place held asked left offered go =
     ∙ map-append job_of (asked_at place part offered) left
     ∙ ap (λ (l : List Job). l ++ as_jobs part left) (asked_are_jobs place part offered)
 
--- the jobs of exchanges, one after another
-pub jobs_through : (part : ℕ) (first more : List Exchange) (asked later : List Fed) (held between left : List Job)
+-- the jobs of events, one after another
+pub jobs_through : (part : ℕ) (first more : List Event) (asked later : List Fed) (held between left : List Job)
     → held ++ jobs_asked part asked ≡ jobs_for part (settled_in first) ++ between
     → between ++ jobs_asked part later ≡ jobs_for part (settled_in more) ++ left
     → held ++ jobs_asked part (asked ++ later) ≡ jobs_for part (settled_in (first ++ more)) ++ left
@@ -116,7 +119,7 @@ none_answered a =
     }
 
 -- one after another
-abbrev pub writes_then : (first more : List Exchange) (a b c : ServeDeskValue) → WritesEach first a b → WritesEach more b c → WritesEach (first ++ more) a c
+abbrev pub writes_then : (first more : List Event) (a b c : ServeDeskValue) → WritesEach first a b → WritesEach more b c → WritesEach (first ++ more) a c
 writes_then first more a b c one two =
     record {
       goes_on = λ still. one.goes_on (two.goes_on still);
@@ -153,11 +156,11 @@ settled_both_assoc a b c =
     ∙ ap (λ (l : List OtherLine). of heard' l kept) (append_assoc a.lines b.lines c.lines)
     ∙ ap (λ (k : List Wish). of heard' lines' k) (append_assoc a.kept b.kept c.kept)
 
-settles_all_then : (parts : ℕ) (first more : List Exchange) (one two : Settlement) → SettlesAll parts first one → SettlesAll parts more two
+settles_all_then : (parts : ℕ) (first more : List Event) (one two : Settlement) → SettlesAll parts first one → SettlesAll parts more two
     → SettlesAll parts (first ++ more) (settled_both one two)
 settles_all_then parts [] more one two is next =
     subst (λ (s : Settlement). SettlesAll parts more (settled_both s two)) (sym is) next
-settles_all_then parts (exchange ∷ first) more one two is next = (
+settles_all_then parts (event ∷ first) more one two is next = (
   is.0,
   settled_both is.1 two,
   is.2,
@@ -165,7 +168,7 @@ settles_all_then parts (exchange ∷ first) more one two is next = (
   ap (λ (s : Settlement). settled_both s two) is.4 ∙ settled_both_assoc is.0 is.1 two,
 )
 
-pub answers_then : (first more : List Exchange) (a b c : ServeDeskValue) → AnswersEach first a b → AnswersEach more b c → AnswersEach (first ++ more) a c
+pub answers_then : (first more : List Event) (a b c : ServeDeskValue) → AnswersEach first a b → AnswersEach more b c → AnswersEach (first ++ more) a c
 answers_then first more a b c one two =
     let said : List OtherLine → Settlement = λ l.
     record { heard = one.writes.more ++ two.writes.more; lines = l; kept = one.kept ++ two.kept } in
@@ -184,9 +187,9 @@ answers_then first more a b c one two =
           (subst (λ (parts : ℕ). SettlesAll parts more later) one.writes.count (two.settled still)));
     }
 
--- what one exchange settles
-settles_once : (parts : ℕ) (exchange : Exchange) (all : Settlement) → SettlesExchange parts exchange all → SettlesAll parts (exchange ∷ []) all
-settles_once parts exchange all is =
+-- what one event settles
+settles_once : (parts : ℕ) (event : Event) (all : Settlement) → SettlesEvent parts event all → SettlesAll parts (event ∷ []) all
+settles_once parts event all is =
     let of : List Fed → List OtherLine → List Wish → Settlement = λ h l k. record { heard = h; lines = l; kept = k } in (
       all,
       settles_nothing,
@@ -197,10 +200,10 @@ settles_once parts exchange all is =
           ∙ ap (λ (k : List Wish). of all.heard all.lines k) (append-nil all.kept)),
     )
 
--- an exchange by which no answer was given
-abbrev writes_once : (exchange : Exchange) (progress : StageProgress) (offered : List Job) (a b : ServeDeskValue) → settled_in (exchange ∷ []) ≡ offered
-    → ((part : ℕ) → given_from part (exchange ∷ []) ≡ []) → Hears [] (with_stage progress a) offered b → WritesEach (exchange ∷ []) a b
-writes_once exchange progress offered a b settles none hears =
+-- an event by which no answer was given
+abbrev writes_once : (event : Event) (progress : StageProgress) (offered : List Job) (a b : ServeDeskValue) → settled_in (event ∷ []) ≡ offered
+    → ((part : ℕ) → given_from part (event ∷ []) ≡ []) → Hears [] (with_stage progress a) offered b → WritesEach (event ∷ []) a b
+writes_once event progress offered a b settles none hears =
     let is = hears.handles in
     record {
       goes_on = is.goes_on;
@@ -217,20 +220,20 @@ writes_once exchange progress offered a b settles none hears =
           ∙ ap (λ (l : List Job). jobs_for part l ++ jobs_waiting b.waiting part) (sym settles);
     }
 
-hears_once : (exchange : Exchange) (progress : StageProgress) (offered : List Job) (a b : ServeDeskValue) → settled_in (exchange ∷ []) ≡ offered
-    → ((part : ℕ) → given_from part (exchange ∷ []) ≡ [])
-    → ((all : Settlement) → SettlesHeard (length a.waiting) all → SettlesExchange (length a.waiting) exchange all)
-    → Hears [] (with_stage progress a) offered b → AnswersEach (exchange ∷ []) a b
-hears_once exchange progress offered a b settles none settled hears =
+hears_once : (event : Event) (progress : StageProgress) (offered : List Job) (a b : ServeDeskValue) → settled_in (event ∷ []) ≡ offered
+    → ((part : ℕ) → given_from part (event ∷ []) ≡ [])
+    → ((all : Settlement) → SettlesHeard (length a.waiting) all → SettlesEvent (length a.waiting) event all)
+    → Hears [] (with_stage progress a) offered b → AnswersEach (event ∷ []) a b
+hears_once event progress offered a b settles none settled hears =
     let is = hears.handles in
     let all : List OtherLine → Settlement = λ l. record { heard = hears.more; lines = l; kept = is.kept } in
     record {
-      writes = writes_once exchange progress offered a b settles none hears;
+      writes = writes_once event progress offered a b settles none hears;
       kept = is.kept;
       wishes = is.wishes;
       settled = λ still.
-          subst (λ (l : List OtherLine). SettlesAll (length a.waiting) (exchange ∷ []) (all l)) (sym (others_are is.others))
-          (settles_once (length a.waiting) exchange (all is.others) (settled (all is.others) ((with_stage progress a).moving, is.settled still)));
+          subst (λ (l : List OtherLine). SettlesAll (length a.waiting) (event ∷ []) (all l)) (sym (others_are is.others))
+          (settles_once (length a.waiting) event (all is.others) (settled (all is.others) ((with_stage progress a).moving, is.settled still)));
     }
 
 answers_once : (part : ℕ) (receipt : ReceiptValue) (a b : ServeDeskValue) → WritesReceipt receipt a b → AnswersEach (Answers part receipt ∷ []) a b
@@ -253,6 +256,29 @@ answers_once part receipt a b writes =
       wishes = λ still. writes.wishes ∙ sym (append-nil a.wishes);
       settled = λ still. settles_once (length a.waiting) (Answers part receipt) settles_nothing refl;
     }
+
+-- an event of which the desk isn't told
+untold_once : (event : Event) (a b : ServeDeskValue) → b ≡ a → settled_in (event ∷ []) ≡ [] → ((part : ℕ) → given_from part (event ∷ []) ≡ [])
+    → SettlesEvent (length a.waiting) event settles_nothing → AnswersEach (event ∷ []) a b
+untold_once event a b same settles none is =
+    subst (AnswersEach (event ∷ []) a) (sym same)
+    (record {
+      writes = record {
+        goes_on = λ still. still;
+        said = [];
+        written = λ still. appends_none a.written;
+        told = λ part. sym (none part);
+        more = [];
+        heard = sym (append-nil a.heard);
+        count = refl;
+        jobs = λ still part within.
+            append-nil (jobs_waiting a.waiting part)
+            ∙ ap (λ (l : List Job). jobs_for part l ++ jobs_waiting a.waiting part) (sym settles);
+      };
+      kept = [];
+      wishes = λ still. sym (append-nil a.wishes);
+      settled = λ still. settles_once (length a.waiting) event settles_nothing is;
+    })
 
 -- a job is of no partition that there is
 for_none : (job : Job) (parts part : ℕ) → parts ≤ job.part → part < parts → jobs_for part (job ∷ []) ≡ []
@@ -364,9 +390,9 @@ module _ {X : Type 0} (desk : X → ServeDeskValue) where
   abbrev pub becomes : X → ClientCall → X → Type 0
   becomes old call new = Becomes (desk old) call (desk new)
 
-  -- by the exchanges of an epoch a desk writes the line of each answer, and settles each line
-  pub answers_each : (segments : ℕ) (exchanges : List Exchange) (first last : X) → ExchangesEach (InStage segments becomes) first exchanges last
-      → AnswersEach exchanges (desk first) (desk last)
+  -- in the events of an epoch a desk writes the line of each answer, and settles each line
+  pub answers_each : (segments : ℕ) (events : List Event) (first last : X) → ChangesClientEach (InStage segments becomes) first events last
+      → AnswersEach events (desk first) (desk last)
   answers_each segments [] first last same =
       subst (λ (x : X). AnswersEach [] (desk first) (desk x)) (sym same) (none_answered (desk first))
   answers_each segments (Answers part receipt ∷ more) first last went =
@@ -387,3 +413,12 @@ module _ {X : Type 0} (desk : X → ServeDeskValue) where
       answers_then (Ends ∷ []) more (desk first) (desk went.0) (desk last)
       (hears_once Ends went.1.0 [] (desk first) (desk went.0) refl (λ part. refl) (λ all settled. settled) went.1.1.1)
       (answers_each segments more went.0 last went.2)
+  answers_each segments (Drops part receipt ∷ more) first last went =
+      answers_then (Drops part receipt ∷ []) more (desk first) (desk went.0) (desk last)
+      (untold_once (Drops part receipt) (desk first) (desk went.0) (ap desk went.1) refl (λ other. refl) refl)
+      (answers_each segments more went.0 last went.2)
+  answers_each segments (Loses ∷ more) first last went =
+      answers_then (Loses ∷ []) more (desk first) (desk went.0) (desk last)
+      (untold_once Loses (desk first) (desk went.0) (ap desk went.1) refl (λ other. refl) refl)
+      (answers_each segments more went.0 last went.2)
+  answers_each segments (MovesTo plan ∷ more) first last went = absurd went.1

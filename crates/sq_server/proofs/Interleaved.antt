@@ -1,13 +1,15 @@
 -- What is written of the receipts of several partitions is an interleaving.
-use Rattle.std.proofs.Common.{◌≡◌, ⊎_elim, ℕ, zero, suc, ◌+◌, ◌<◌, ◌≤◌, Bool, if◌then◌else◌, List, [], ◌∷◌, ◌++◌, length, map, slice_get, Some, refl, sym, ap, ◌∙◌, subst, arith}
+use Rattle.std.proofs.Common.{◌≡◌, ⊎_elim, ℕ, zero, suc, ◌+◌, ◌<◌, ◌≤◌, ◌==◌, Bool, true, false, if◌then◌else◌, List, [], ◌∷◌, ◌++◌, length, map, slice_get, Some, refl, sym, ap, ◌∙◌, subst, arith}
 use Rattle.std.specs.Prelude.{All, slice_set}
 use Rattle.std.specs.List.{range_with_len}
 use Rattle.std.proofs.lemmas.Bool.{cases_lt, eq-eqb, ne_eqb}
 use Rattle.std.proofs.lemmas.List.Elements.{All-nil, All-cons}
 use Rattle.sq_node_model.specs.NodeValue.{ReceiptValue}
 use Rattle.sq_node.specs.NodeState.{NodeState}
-use Rattle.sq_epoch.specs.Exchanges.{Exchange, given_from}
-use Rattle.sq_epoch.specs.Serving.{AllAreGiven}
+use Rattle.sq_engine.specs.declared.event.Event.{Event}
+use Rattle.sq_engine.specs.declared.event.Event.TheVariants.{Posts, Refuses, Answers, Drops, Loses, Rests, Ends, MovesTo}
+use Rattle.sq_engine.specs.Events.{given_from, arrived_from}
+use Rattle.sq_engine.specs.Serving.{AllArrive}
 use Rattle.sq_server.specs.Receipts.{Interleaves}
 use Rattle.sq_server.specs.Becoming.{ServeDeskValue}
 use Rattle.sq_server.specs.Written.{SaidLine, OfReceipt, Other, told_from, receipts_said, given_by_parts, WritesEach}
@@ -85,12 +87,37 @@ interleaved parts (OfReceipt from receipt ∷ said) of =
           (interleaved parts said (later_of_parts parts from receipt said within of)),
     )
 
+-- if nothing arrived, with this receipt or without it, nothing was given
+none_before : (is_of : Bool) (receipt : ReceiptValue) (arrived given : List ReceiptValue) → (arrived ≡ [] → given ≡ [])
+    → (if is_of then receipt ∷ [] else []) ++ arrived ≡ [] → (if is_of then receipt ∷ [] else []) ++ given ≡ []
+none_before true receipt arrived given so none = let some : receipt ∷ arrived ≡ [] = none in absurd cc
+none_before false receipt arrived given so none = so none
+
+none_dropped : (is_of : Bool) (receipt : ReceiptValue) (arrived given : List ReceiptValue) → (arrived ≡ [] → given ≡ [])
+    → (if is_of then receipt ∷ [] else []) ++ arrived ≡ [] → given ≡ []
+none_dropped true receipt arrived given so none = let some : receipt ∷ arrived ≡ [] = none in absurd cc
+none_dropped false receipt arrived given so none = so none
+
+-- if nothing arrived of a partition, nothing was given of it
+given_none : (part : ℕ) (events : List Event) → arrived_from part events ≡ [] → given_from part events ≡ []
+given_none part [] none = refl
+given_none part (Answers from receipt ∷ more) none =
+    none_before (from == part) receipt (arrived_from part more) (given_from part more) (λ nothing. given_none part more nothing) none
+given_none part (Drops from receipt ∷ more) none =
+    none_dropped (from == part) receipt (arrived_from part more) (given_from part more) (λ nothing. given_none part more nothing) none
+given_none part (Posts job ∷ more) none = given_none part more none
+given_none part (Refuses job fault ∷ more) none = given_none part more none
+given_none part (Loses ∷ more) none = given_none part more none
+given_none part (Rests ∷ more) none = given_none part more none
+given_none part (Ends ∷ more) none = given_none part more none
+given_none part (MovesTo plan ∷ more) none = given_none part more none
+
 -- what was given is what was said
-pub given_interleave : (exchanges : List Exchange) (is_whole : Bool) (old new : List NodeState) (before after : ServeDeskValue)
-    (writes : WritesEach exchanges before after) → AllAreGiven is_whole exchanges old new
-    → Interleaves (given_by_parts (length old) exchanges) (receipts_said writes.said)
-given_interleave exchanges is_whole old new before after writes given =
+pub given_interleave : (events : List Event) (old new : List NodeState) (before after : ServeDeskValue)
+    (writes : WritesEach events before after) → AllArrive events old new
+    → Interleaves (given_by_parts (length old) events) (receipts_said writes.said)
+given_interleave events old new before after writes arrive =
     let parts = length old in
     subst (λ (lists : List (List ReceiptValue)). Interleaves lists (receipts_said writes.said))
-    (same_from (λ part. told_from part writes.said) (λ part. given_from part exchanges) 0 parts (λ part over. writes.told part))
-    (interleaved parts writes.said (λ part over. writes.told part ∙ given.no_other part over))
+    (same_from (λ part. told_from part writes.said) (λ part. given_from part events) 0 parts (λ part over. writes.told part))
+    (interleaved parts writes.said (λ part over. writes.told part ∙ given_none part events (arrive.no_other part over)))

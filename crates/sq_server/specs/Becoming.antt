@@ -5,12 +5,12 @@ use Rattle.std.specs.Io.KnownBytes.{Appends}
 use Rattle.rtrb.specs.Ring.{received}
 use Rattle.sq_node_model.specs.NodeValue.{ReceiptValue}
 use Rattle.sq_audit.specs.declared.job.Job.{Job}
-use Rattle.sq_epoch.specs.declared.posted.PostFault.{PostFault}
-use Rattle.sq_epoch.specs.declared.posted.PostFault.TheVariants as fault
-use Rattle.sq_epoch.specs.declared.client.Command.{Command}
-use Rattle.sq_epoch.specs.declared.client.Command.TheVariants.{Post, Rest, End}
-use Rattle.sq_epoch.specs.declared.stage_progress.StageProgress.{StageProgress}
-use Rattle.sq_epoch.specs.Exchanges.{ClientCall, Asked, Told, Returned}
+use Rattle.sq_engine.specs.declared.open_jobs.PostFault.{PostFault}
+use Rattle.sq_engine.specs.declared.open_jobs.PostFault.TheVariants as fault
+use Rattle.sq_engine.specs.declared.client.Command.{Command}
+use Rattle.sq_engine.specs.declared.client.Command.TheVariants.{Post, Rest, End}
+use Rattle.sq_engine.specs.declared.stage_progress.StageProgress.{StageProgress}
+use Rattle.sq_engine.specs.Clients.{ClientCall, Asked, Told, Returned}
 use Rattle.sq_serve.specs.declared.line_place.LinePlace.{LinePlace}
 use Rattle.sq_serve.specs.declared.line_place.LineSource.TheVariants.{Input}
 use Rattle.sq_serve.specs.declared.serve_line.ServeLine.{ServeLine}

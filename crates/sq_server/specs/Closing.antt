@@ -28,19 +28,8 @@ module _ {W : Type 0} where
   abbrev pub wish_of : ServeDesk W → Option Wish
   wish_of desk = option_or desk.wish (then_some (is_done desk) wish.Close)
 
--- a page is to be taken: for itself, or as the last one
-abbrev pub is_page_wished : Option Wish → Bool
-is_page_wished (Some (wish.Move asked)) = false
-is_page_wished (Some wish.Fold) = true
-is_page_wished (Some wish.Page) = true
-is_page_wished (Some (wish.Rows asked)) = false
-is_page_wished (Some wish.Close) = true
-is_page_wished None = false
-
 abbrev pub is_move : Option Wish → Bool
 is_move (Some (wish.Move asked)) = true
-is_move (Some wish.Fold) = false
-is_move (Some wish.Page) = false
 is_move (Some (wish.Rows asked)) = false
 is_move (Some wish.Close) = false
 is_move None = false

@@ -5,7 +5,7 @@ use Rattle.sq_node_model.specs.NodeValue.{ReceiptValue}
 
 -- the line of a receipt: the reply to its transaction
 abbrev pub receipt_line : ReceiptValue → List ℕ
-receipt_line receipt = line (reply_words receipt.id receipt.reply)
+receipt_line receipt = line (reply_words receipt.txn.id receipt.reply)
 
 -- the whole has the elements of each part once, and those of each in the part's order: the first of
 -- the whole is the first of some part, and the others are an interleaving of what is left

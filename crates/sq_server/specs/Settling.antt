@@ -4,7 +4,7 @@ use Rattle.std.specs.Prelude.{◌≡◌, ◌⊎◌, ℕ, ◌-◌, ◌+◌, ◌<�
 use Rattle.sq_schema.specs.TxnValue.{TxnValue}
 use Rattle.sq_plan.specs.Fault.{plan_fault_number}
 use Rattle.sq_serve.specs.declared.serve_answer.ServeAnswer.{ServeAnswer}
-use Rattle.sq_serve.specs.declared.serve_answer.ServeAnswer.TheVariants.{Fault, AtRest, Progress}
+use Rattle.sq_serve.specs.declared.serve_answer.ServeAnswer.TheVariants.{Fault, Folded, AtRest, Progress}
 use Rattle.sq_serve.specs.declared.serve_fault.ServeFault.{ServeFault}
 use Rattle.sq_serve.specs.declared.serve_fault.ServeFault.TheVariants.{NotAServeLine, TooLong, Txn, Plan, Memory}
 use Rattle.sq_serve.specs.declared.serve_line.ServeLine.{ServeLine}
@@ -18,16 +18,13 @@ use Rattle.sq_server.specs.declared.desk.Wish.{Wish}
 use Rattle.sq_server.specs.declared.desk.Wish.TheVariants as wish
 use Rattle.sq_server.specs.declared.feed.Fed.{Fed}
 use Rattle.sq_server.specs.declared.feed.Fed.TheVariants as fed
-use Rattle.sq_server.specs.declared.feed.InputEnd.{InputEnd}
 use Rattle.sq_server.specs.declared.feed.InputEnd.TheVariants as end
 use Rattle.sq_server.specs.Saying.{OtherLine, Answered, Refused, PlanTold}
 
 -- a wish, if it comes from a line
 abbrev pub line_wish : Option Wish → List Wish
 line_wish (Some (wish.Move asked)) = wish.Move asked ∷ []
-line_wish (Some wish.Fold) = wish.Fold ∷ []
 line_wish (Some (wish.Rows asked)) = wish.Rows asked ∷ []
-line_wish (Some wish.Page) = []
 line_wish (Some wish.Close) = []
 line_wish None = []
 
@@ -70,7 +67,8 @@ abbrev pub SettlesAsked : ℕ → Option MoveProgress → LinePlace → ServeLin
 SettlesAsked parts moving place (asks.Job part txn) lines kept =
     (part < parts → lines ≡ []) × (parts ≤ part → lines ≡ Answered (refusal_of 219 place txn) ∷ []) × (kept ≡ [])
 SettlesAsked parts moving place (asks.Move plan) lines kept = IsKeptOrRefused (wish.Move (record { place = place; plan = plan })) lines kept
-SettlesAsked parts moving place asks.Fold lines kept = IsKeptOrRefused wish.Fold lines kept
+SettlesAsked parts moving place asks.Fold lines kept =
+    (answers : ℕ) × (lines ≡ Answered (Folded answers) ∷ []) × (kept ≡ [])
 SettlesAsked parts moving place asks.Rows lines kept = IsKeptOrRefused (wish.Rows (record { place = place; file = None })) lines kept
 SettlesAsked parts moving place (asks.RowsTo file) lines kept = IsKeptOrRefused (wish.Rows (record { place = place; file = Some file })) lines kept
 SettlesAsked parts moving place asks.Status lines kept =

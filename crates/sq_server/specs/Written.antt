@@ -1,20 +1,20 @@
--- What is written over an epoch.
-use Rattle.std.specs.Prelude.{◌≡◌, ℕ, ◌<◌, ◌≤◌, ◌==◌, Bool, false, if◌then◌else◌, List, [], ◌∷◌, ◌++◌, length, map, Option}
+-- What is written in an epoch.
+use Rattle.std.specs.Prelude.{◌≡◌, ℕ, ◌<◌, ◌≤◌, ◌==◌, false, if◌then◌else◌, List, [], ◌∷◌, ◌++◌, length, map, Option}
 use Rattle.std.specs.List.{flat_map, range_with_len}
 use Rattle.std.specs.Io.KnownBytes.{Appends}
 use Rattle.sq_node_model.specs.NodeValue.{ReceiptValue}
 use Rattle.sq_node.specs.NodeState.{NodeState}
 use Rattle.sq_audit.specs.declared.job.Job.{Job}
-use Rattle.sq_epoch.specs.declared.posted.PostFault.{PostFault}
-use Rattle.sq_epoch.specs.declared.posted.PostFault.TheVariants as fault
+use Rattle.sq_engine.specs.declared.open_jobs.PostFault.{PostFault}
+use Rattle.sq_engine.specs.declared.open_jobs.PostFault.TheVariants as fault
 use Rattle.sq_serve.specs.declared.line_place.LinePlace.{LinePlace}
-use Rattle.sq_engine.specs.declared.standing.Standing.{Standing}
-use Rattle.sq_engine.specs.declared.standing.Standing.TheVariants.{Running}
-use Rattle.sq_engine.specs.Values.{EpochValue}
-use Rattle.sq_engine.specs.History.{OnlyDriven}
-use Rattle.sq_engine.specs.Engine.{KeepsHistory, KeepsHistoryAndJobs}
-use Rattle.sq_epoch.specs.Serving.{AllAreGiven}
-use Rattle.sq_epoch.specs.Exchanges.{Exchange, Answers, Posts, Refuses, Rests, Ends, given_from, posted_in}
+use Rattle.sq_engine.specs.declared.event.Event.{Event}
+use Rattle.sq_engine.specs.declared.event.Event.TheVariants.{Posts, Refuses, Answers, Drops, Loses, Rests, Ends, MovesTo}
+use Rattle.sq_engine.specs.declared.serving.EpochEnd.{EpochEnd}
+use Rattle.sq_engine.specs.Events.{given_from}
+use Rattle.sq_engine.specs.Values.{EngineValue}
+use Rattle.sq_engine.specs.Serving.{AllArrive}
+use Rattle.sq_engine.specs.Engine.{AddsEpoch}
 use Rattle.sq_server.specs.Receipts.{receipt_line, Interleaves}
 use Rattle.sq_server.specs.declared.feed.Fed.{Fed}
 use Rattle.sq_server.specs.declared.desk.AskedTxn.{AskedTxn}
@@ -51,22 +51,20 @@ abbrev pub receipts_said : List SaidLine → List ReceiptValue
 receipts_said said = flat_map receipt_said said
 
 -- for each of the partitions, the answers that were given of it
-abbrev pub given_by_parts : ℕ → List Exchange → List (List ReceiptValue)
-given_by_parts parts exchanges = map (λ part. given_from part exchanges) (range_with_len 0 parts)
+abbrev pub given_by_parts : ℕ → List Event → List (List ReceiptValue)
+given_by_parts parts events = map (λ part. given_from part events) (range_with_len 0 parts)
 
-abbrev pub settled_job : Exchange → List Job
-settled_job (Answers part receipt) = []
+abbrev pub settled_job : Event → List Job
 settled_job (Posts job) = job ∷ []
 settled_job (Refuses job fault.QueueFull) = []
 settled_job (Refuses job fault.NoSuchPartition) = job ∷ []
 settled_job (Refuses job fault.RepeatedId) = job ∷ []
 settled_job (Refuses job fault.Memory) = job ∷ []
-settled_job Rests = []
-settled_job Ends = []
+settled_job _ = []
 
 -- the jobs that were posted, or refused for a reason other than a full queue, in their order
-abbrev pub settled_in : List Exchange → List Job
-settled_in exchanges = flat_map settled_job exchanges
+abbrev pub settled_in : List Event → List Job
+settled_in events = flat_map settled_job events
 
 -- the jobs of a partition that were asked for, without the places of their lines
 abbrev pub as_jobs : ℕ → List AskedTxn → List Job
@@ -80,21 +78,21 @@ jobs_waiting waiting part = as_jobs part (waiting_at waiting part)
 abbrev pub jobs_asked : ℕ → List Fed → List Job
 jobs_asked part more = as_jobs part (flat_map (asked_by part) more)
 
--- over these exchanges a desk wrote the line of each answer that it was given, once, those of each
+-- in these events a desk wrote the line of each answer that it was given, once, those of each
 -- partition in their order, and other lines; and for each partition the jobs that waited, and those
 -- that were asked for, are in this order those that were posted or refused, and those that wait; or
 -- else nothing more can be done
-pub record WritesEach (exchanges : List Exchange) (old new : ServeDeskValue) : Type 0 where
+pub record WritesEach (events : List Event) (old new : ServeDeskValue) : Type 0 where
   pub goes_on : new.has_stopped ≡ false → old.has_stopped ≡ false
   pub said : List SaidLine
   pub written : new.has_stopped ≡ false → Appends old.written new.written (flat_map said_line said)
-  pub told : (part : ℕ) → told_from part said ≡ given_from part exchanges
+  pub told : (part : ℕ) → told_from part said ≡ given_from part events
   pub more : List Fed
   pub heard : new.heard ≡ old.heard ++ more
   pub count : length new.waiting ≡ length old.waiting
   pub jobs : new.has_stopped ≡ false → (part : ℕ) → part < length old.waiting
       → jobs_waiting old.waiting part ++ jobs_asked part more
-      ≡ jobs_for part (settled_in exchanges) ++ jobs_waiting new.waiting part
+      ≡ jobs_for part (settled_in events) ++ jobs_waiting new.waiting part
 
 abbrev pub other_said : SaidLine → List OtherLine
 other_said (OfReceipt part receipt) = []
@@ -138,52 +136,48 @@ pub record SettlesReturned (parts : ℕ) (job : Job) (why : PostFault) (all : Se
   pub answers : AnswersReturned parts job why refusal
   pub lines : all.lines ≡ own ++ refusal
 
--- what an exchange settles
-abbrev pub SettlesExchange : ℕ → Exchange → Settlement → Type 0
-SettlesExchange parts (Answers part receipt) all = all ≡ settles_nothing
-SettlesExchange parts (Posts job) all = SettlesHeard parts all
-SettlesExchange parts (Refuses job why) all = SettlesReturned parts job why all
-SettlesExchange parts Rests all = SettlesHeard parts all
-SettlesExchange parts Ends all = SettlesHeard parts all
+-- what an event settles
+abbrev pub SettlesEvent : ℕ → Event → Settlement → Type 0
+SettlesEvent parts (Answers part receipt) all = all ≡ settles_nothing
+SettlesEvent parts (Drops part receipt) all = all ≡ settles_nothing
+SettlesEvent parts Loses all = all ≡ settles_nothing
+SettlesEvent parts (MovesTo plan) all = all ≡ settles_nothing
+SettlesEvent parts (Posts job) all = SettlesHeard parts all
+SettlesEvent parts (Refuses job why) all = SettlesReturned parts job why all
+SettlesEvent parts Rests all = SettlesHeard parts all
+SettlesEvent parts Ends all = SettlesHeard parts all
 
--- what exchanges settle, one after another
-abbrev pub SettlesAll : ℕ → List Exchange → Settlement → Type 0
+-- what events settle, one after another
+abbrev pub SettlesAll : ℕ → List Event → Settlement → Type 0
 SettlesAll parts [] all = all ≡ settles_nothing
-SettlesAll parts (exchange ∷ exchanges) all =
+SettlesAll parts (event ∷ events) all =
     (now : Settlement) × (later : Settlement)
-    × SettlesExchange parts exchange now × SettlesAll parts exchanges later × (all ≡ settled_both now later)
+    × SettlesEvent parts event now × SettlesAll parts events later × (all ≡ settled_both now later)
 
--- over these exchanges a desk wrote what it was given, and each line that it heard is settled: by
+-- in these events a desk wrote what it was given, and each line that it heard is settled: by
 -- exactly one line that was written, by a job, or by a wish that is kept; each job that was refused
 -- is settled by exactly one line; and no other line was written
-pub record AnswersEach (exchanges : List Exchange) (old new : ServeDeskValue) : Type 0 where
-  pub writes : WritesEach exchanges old new
+pub record AnswersEach (events : List Event) (old new : ServeDeskValue) : Type 0 where
+  pub writes : WritesEach events old new
   pub kept : List Wish
   pub wishes : new.has_stopped ≡ false → new.wishes ≡ old.wishes ++ kept
   pub settled : new.has_stopped ≡ false
-      → SettlesAll (length old.waiting) exchanges (record { heard = writes.more; lines = others_in writes.said; kept = kept })
+      → SettlesAll (length old.waiting) events (record { heard = writes.more; lines = others_in writes.said; kept = kept })
 
--- over an epoch that began with these nodes a desk wrote the answers that it was given of them
-pub record ServesEpoch (exchanges : List Exchange) (nodes : List NodeState) (before after : ServeDeskValue) : Type 0 where
-  pub writes : WritesEach exchanges before after
-  pub is_whole : Bool
+-- in an epoch that began with these nodes a desk wrote the answers that arrived of them
+pub record ServesEpoch (events : List Event) (nodes : List NodeState) (before after : ServeDeskValue) : Type 0 where
+  pub writes : WritesEach events before after
   pub driven : List NodeState
-  pub given : AllAreGiven is_whole exchanges nodes driven
+  pub arrive : AllArrive events nodes driven
 
 -- the receipts whose lines were written are an interleaving of those that were given of each of the
 -- partitions
-abbrev pub WritesInterleaved : ℕ → List Exchange → List SaidLine → Type 0
-WritesInterleaved parts exchanges said = Interleaves (given_by_parts parts exchanges) (receipts_said said)
+abbrev pub WritesInterleaved : ℕ → List Event → List SaidLine → Type 0
+WritesInterleaved parts events said = Interleaves (given_by_parts parts events) (receipts_said said)
 
--- an engine reached an epoch, and continued after it: in the epoch a desk was given the answers
--- that the nodes wrote, wrote each of them, and settled each line
-pub record EpochIsWritten (old : Standing) (before : ServeDeskValue) (new : Standing) (after : ServeDeskValue) (is_whole : Bool) : Type 0 where
-  pub epoch : EpochValue
-  pub comes : KeepsHistoryAndJobs old (Running epoch)
-  pub exchanges : List Exchange
-  pub served_epoch : EpochValue
-  pub driven : OnlyDriven (record epoch { jobs = epoch.jobs ++ posted_in exchanges }) served_epoch
-  pub given : AllAreGiven is_whole exchanges epoch.nodes served_epoch.nodes
-  pub answers : AnswersEach exchanges before after
-  pub history : KeepsHistory (Running epoch) (Running served_epoch)
-  pub goes_on : KeepsHistoryAndJobs (Running served_epoch) new
+-- an engine went to an epoch, in which events were added and a desk wrote what it was given and
+-- settled each line; then the engine went on
+pub record EpochIsWritten (old : EngineValue) (before : ServeDeskValue) (end : EpochEnd) (new : EngineValue) (after : ServeDeskValue) : Type 0 where
+  pub more : List Event
+  pub epoch : AddsEpoch more end old new
+  pub answers : AnswersEach more before after

@@ -1,10 +1,8 @@
 // The client of an engine's epochs.
-use crate::audit_progress::AuditProgress;
 use crate::desk::ServeDesk;
 use crate::marks::EpochMarks;
 use sq_audit::Job;
-use sq_driver::rest;
-use sq_engine::{Client, Command, PostFault, StageProgress};
+use sq_engine::{BackOff, Client, Command, PostFault, StageProgress};
 use sq_node::Receipt;
 use sq_plan::PartId;
 use sq_serve::ServeWatch;
@@ -17,28 +15,19 @@ const TRIES_AWAKE: u64 = 256;
 // The longest wait for the bell, in microseconds.
 const LONGEST_WAIT: u64 = 20_000;
 
-// The longest sleep while an audit runs, in microseconds.
-const LONGEST_SLEEP: u64 = 2_000;
-
-/// The client of an engine's epoch: its desk, the progress of the audit that runs beside the epoch,
-/// and the marks for the watch.
+/// The client of an engine's epoch: its desk, and the marks for the watch.
 #[derive(Drop)]
 pub struct Control<'a, W: Write + Drop, V: ServeWatch> {
     pub desk: ServeDesk<W>,
-    pub audit: &'a AuditProgress,
     pub marks: EpochMarks<'a, V>,
 }
 
 impl<W: Write + Drop, V: ServeWatch> Control<'_, W, V> {
-    // Returns whether the epoch should end. It ends at once if the desk has stopped, if an audit
-    // has ended, or if nothing moves although the desk has a move recorded: an engine that had no
-    // memory to come to rest after the last stage does so as its next epoch begins. It ends for a
-    // wish unless an audit runs.
+    // Returns whether the epoch should end: for a wish, if the desk has stopped, or if nothing
+    // moves although the desk has a move recorded: an engine that had no memory to come to rest
+    // after the last stage does so as its next epoch begins.
     fn ends(&self, progress: StageProgress) -> bool {
-        self.desk.has_stopped()
-            || self.audit.has_ended()
-            || self.desk.has_moved(progress)
-            || (self.desk.has_wish() && !self.audit.goes_on())
+        self.desk.has_stopped() || self.desk.has_moved(progress) || self.desk.has_wish()
     }
 }
 
@@ -52,7 +41,7 @@ impl<W: Write + Drop, V: ServeWatch> Client for Control<'_, W, V> {
         self.marks.begin();
         self.marks.note_progress(progress);
         self.desk.note_stage(progress);
-        self.desk.begin_call(self.audit.goes_on());
+        self.desk.begin_call();
         if self.ends(progress) {
             self.desk.flush();
             self.marks.end();
@@ -63,11 +52,10 @@ impl<W: Write + Drop, V: ServeWatch> Client for Control<'_, W, V> {
         command
     }
 
-    // Waits for a line, at rest with no open job. While an audit runs, it sleeps only briefly, to
-    // see when that ends.
+    // Waits for a line, at rest with no open job.
     fn wait<R: Wait>(&self, rt: &R, tries: u64) {
-        if tries <= TRIES_AWAKE || self.audit.goes_on() {
-            rest(rt, tries, LONGEST_SLEEP);
+        if tries <= TRIES_AWAKE {
+            BackOff::LONG.wait_after(rt, tries);
         } else {
             self.desk.bell.wait(rt, LONGEST_WAIT);
         }

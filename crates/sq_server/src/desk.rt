@@ -5,7 +5,7 @@ ghost use Rattle.std.specs.Prelude.{string_bytes, sum_by, is_some, if◌then◌e
 ghost use Rattle.rtrb.specs.Ring.{received};
 ghost use Rattle.sq_text.specs.Texts.{refused_line};
 ghost use Rattle.sq_serve.specs.declared.serve_line.ServeLine.TheVariants as asks;
-ghost use Rattle.sq_serve.specs.declared.serve_answer.ServeAnswer.TheVariants.{Fault};
+ghost use Rattle.sq_serve.specs.declared.serve_answer.ServeAnswer.TheVariants.{Fault, Folded};
 ghost use Rattle.sq_serve.specs.ServeAnswers.{serve_answer_line, plan_line};
 ghost use Rattle.sq_server.specs.declared.feed.Fed.TheVariants as fed;
 ghost use Rattle.sq_server.specs.Ending.{EndsStopped, outcome_refused};
@@ -15,7 +15,7 @@ ghost use Rattle.sq_server.specs.Becoming.{AnswersRefusal, WaitsOrHasNoPartition
 ghost use Rattle.sq_server.specs.Becoming.{Stops, with_stage, job_list, offered_by};
 ghost use Rattle.sq_server.specs.Settling.{line_wish, refusal_of, IsStatus, unanswered_jobs};
 ghost use Rattle.sq_server.specs.Saying.{rows_told, CountsOneMore};
-ghost use Rattle.sq_server.specs.Closing.{expects_nothing, is_done, wish_of, is_page_wished, moves, KnowsWhole};
+ghost use Rattle.sq_server.specs.Closing.{expects_nothing, is_done, wish_of, moves, KnowsWhole};
 
 use crate::bell::Bell;
 use crate::ending::{InputOutcome, ServeEnding};
@@ -62,10 +62,6 @@ const LOST_CALLS: u64 = 80_000;
 pub enum Wish {
     /// To move rows to the places of a plan.
     Move(AskedMove),
-    /// To take a page, and to answer with the outcome of its audit.
-    Fold,
-    /// To take a page.
-    Page,
     /// To write the rows as lines.
     Rows(AskedRows),
     /// To close the engine, since all is done.
@@ -94,28 +90,23 @@ pub struct AskedTxn {
     pub txn: Txn,
 }
 
-/// How many jobs were posted and answered.
+/// How many jobs were posted, and how many answered.
 #[derive(Clone, Copy, Debug)]
 pub struct JobCounts {
     pub posted: u64,
     pub answered: u64,
-    /// How many were answered since the last page.
-    pub since_page: u64,
 }
 
 impl JobCounts {
     const NONE: JobCounts = JobCounts {
         posted: 0,
         answered: 0,
-        since_page: 0,
     };
 }
 
 /// The options of a desk.
 #[derive(Clone, Copy, Debug)]
 pub struct DeskConfig {
-    /// After how many answers a page is taken.
-    pub fold_after: u64,
     /// Whether the input ends after its first line that is refused or has a fault.
     pub is_strict: bool,
 }
@@ -239,17 +230,6 @@ impl<W: Write + Drop> ServeDesk<W> {
         self.wish.is_some() || self.is_done()
     }
 
-    /// Returns whether the epoch should end for a page, or to close, which takes the last page.
-    pub fn wants_page(&self) -> bool
-        ensures { result ≡ is_page_wished (wish_of self.now) }
-    {
-        match &self.wish {
-            Some(Wish::Fold | Wish::Page | Wish::Close) => true,
-            Some(Wish::Move(_) | Wish::Rows(_)) => false,
-            None => self.is_done(),
-        }
-    }
-
     /// Takes the reason for the epoch's end; it is [`Wish::Close`] if there is no other and all is
     /// done.
     pub fn take_wish(&mut self) -> Option<Wish>
@@ -270,24 +250,11 @@ impl<W: Write + Drop> ServeDesk<W> {
         self.outlet.flush();
     }
 
-    /// Begins a call. Asks for a page if one is due, no audit runs and no rows move.
-    pub fn begin_call(&mut self, audit_goes_on: bool)
+    /// Begins a call.
+    pub fn begin_call(&mut self)
         ensures { desk_value W.contents self.new ≡ desk_value W.contents self.old }
     {
         self.calls = self.calls.saturating_add(1);
-        let is_due = self.counts.since_page >= self.config.fold_after;
-        if is_due && !audit_goes_on && self.moving.is_none() {
-            self.want_page();
-        }
-    }
-
-    // Asks that the epoch ends for a page, unless another reason is set.
-    fn want_page(&mut self)
-        ensures { desk_value W.contents self.new ≡ desk_value W.contents self.old }
-    {
-        if self.wish.is_none() {
-            self.wish = Some(Wish::Page);
-        }
     }
 
     /// Records the progress of the running stage, if rows move.
@@ -475,7 +442,7 @@ impl<W: Write + Drop> ServeDesk<W> {
                 None
             }
             ServeLine::Fold => {
-                self.want_at_rest(Wish::Fold, place, watch);
+                self.say_folded();
                 None
             }
             ServeLine::Status => {
@@ -754,6 +721,16 @@ impl<W: Write + Drop> ServeDesk<W> {
         self.outlet.say_plan(self.plan.as_str());
     }
 
+    // Writes how many answers were found sound. All were: each closed its job, and has the reply
+    // that its place in the log gives.
+    fn say_folded(&mut self)
+        ensures { WritesBytes (serve_answer_line (Folded self.old.counts.answered))
+            (desk_value W.contents self.old) (desk_value W.contents self.new) }
+    {
+        let answers = self.counts.answered;
+        self.say(ServeAnswer::Folded { answers });
+    }
+
     // Writes the progress of a move, and how many jobs have no answer.
     fn say_status(&mut self)
         ensures { WritesStatus
@@ -810,8 +787,7 @@ impl<W: Write + Drop> ServeDesk<W> {
     }
 
     // Returns whether no answer is expected: each job has its answer, or none waits and there was
-    // no work in so many calls that the open jobs count as lost. The audit of the last page finds
-    // those.
+    // no work in so many calls that the open jobs count as lost. Then the engine ends unsound.
     fn expects_nothing(&self) -> bool
         ensures { result ≡ expects_nothing self.now }
     {
@@ -833,7 +809,6 @@ impl<W: Write + Drop> ServeDesk<W> {
     {
         self.idle_calls = 0;
         self.counts.answered = self.counts.answered.saturating_add(1);
-        self.counts.since_page = self.counts.since_page.saturating_add(1);
         self.outlet.say_receipt(receipt);
     }
 

@@ -19,13 +19,13 @@ pub enum InputOutcome {
 /// How an engine that is served ends.
 #[derive(Clone, Copy, Debug)]
 pub enum ServeEnding {
-    /// All jobs are answered, and each page is sound.
+    /// All jobs are answered.
     Sound {
         families: u64,
         committed: u64,
         input: InputOutcome,
     },
-    /// A page has this defect, the first that its audit found.
+    /// The engine has this defect: a receipt that is no open job's, or a job without an answer.
     Unsound(Defect),
     /// The header has this fault.
     NoHeader(HeaderFault),

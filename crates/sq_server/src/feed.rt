@@ -5,15 +5,12 @@ ghost use Rattle.rtrb.specs.Ring.{sent, SameProducer};
 
 use crate::bell::Bell;
 use rtrb::{Consumer, Producer, PushError};
-use sq_driver::rest;
+use sq_engine::BackOff;
 use sq_serve::{FaultyLine, LinePlace, ServeLine};
 use std::sync::Wait;
 
 /// How many lines may be handed on and not yet taken.
 pub const FEED_ROOM: usize = 4_096;
-
-// The longest sleep between two tries, in microseconds.
-const LONGEST_SLEEP: u64 = 2_000;
 
 /// How an input ends after its header.
 #[derive(Clone, Copy, Debug, PartialEq, Eq)]
@@ -46,7 +43,7 @@ pub fn give<X: Drop, R: Wait>(rt: &R, feed: &mut Producer<X>, bell: &Bell, given
     ensures not_given { OnFalse result (sent feed.new ≡ sent feed.old) }
 {
     let mut given = given;
-    let mut tries = 0u64;
+    let mut back_off = BackOff::LONG;
     for _ in rt.forever() {
         if feed.is_abandoned() {
             return false;
@@ -58,15 +55,14 @@ pub fn give<X: Drop, R: Wait>(rt: &R, feed: &mut Producer<X>, bell: &Bell, given
             }
             Err(PushError::Full(back)) => given = back,
         }
-        tries = tries.saturating_add(1);
-        rest(rt, tries, LONGEST_SLEEP);
+        back_off.wait(rt);
     }
     unreachable!()
 }
 
 /// Takes what is handed on next, as soon as it is there. Returns `None` if nothing more comes.
 pub fn wait_for<X: Drop, R: Wait>(rt: &R, feed: &mut Consumer<X>) -> Option<X> {
-    let mut tries = 0u64;
+    let mut back_off = BackOff::LONG;
     for _ in rt.forever() {
         let is_last = feed.is_abandoned();
         if let Ok(next) = feed.pop() {
@@ -75,8 +71,7 @@ pub fn wait_for<X: Drop, R: Wait>(rt: &R, feed: &mut Consumer<X>) -> Option<X> {
         if is_last {
             return None;
         }
-        tries = tries.saturating_add(1);
-        rest(rt, tries, LONGEST_SLEEP);
+        back_off.wait(rt);
     }
     unreachable!()
 }

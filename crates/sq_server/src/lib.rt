@@ -2,7 +2,6 @@
 //! full queue of their partition, and each answer is written.
 #![tactic(auto)]
 
-mod audit_progress;
 mod bell;
 mod control;
 mod desk;
@@ -15,14 +14,13 @@ mod outlet;
 mod sides;
 mod txn_words;
 
-pub use audit_progress::AuditProgress;
 pub use bell::Bell;
 pub use control::Control;
 pub use desk::{
     AskedMove, AskedRows, AskedTxn, DeskConfig, JobCounts, MoveProgress, ServeDesk, Wish,
 };
 pub use ending::{InputOutcome, ServeEnding};
-pub use epoch::serve_epoch;
+pub use epoch::run_at_desk;
 pub use feed::{FEED_ROOM, Fed, InputEnd, give, wait_for};
 pub use marks::EpochMarks;
 pub use outlet::Outlet;

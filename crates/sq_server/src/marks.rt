@@ -70,7 +70,7 @@ impl<'a, V: ServeWatch> EpochMarks<'a, V> {
     // Marks the answer of a partition to a job.
     pub(crate) fn answer(&self, part: PartId, receipt: &Receipt) {
         let is_commit = matches!(&receipt.reply, Reply::Committed(_));
-        let id = receipt.id;
+        let id = receipt.txn.id();
         self.watch.mark(ServeMark::JobAnswered {
             part,
             id,

@@ -43,7 +43,7 @@ impl<W: Write + Drop> Outlet<W> {
             return;
         }
         let answer = Answer::Replied {
-            id: receipt.id,
+            id: receipt.txn.id(),
             reply: receipt.reply,
         };
         let failed = write_answer(&mut self.writer, &answer).is_err();

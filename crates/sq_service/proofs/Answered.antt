@@ -1,19 +1,18 @@
 -- How the lines that wish something are answered.
 use Rattle.std.proofs.Common.{◌≡◌, ◌⊎◌, ⊎_elim, inl, inr, ℕ, Bool, true, false, List, ◌++◌, refl, sym, ap, subst, ◌∙◌}
-use Rattle.std.specs.Prelude.{Option, Some, None, unwrap_or, Result, Ok, Err, IfOk}
+use Rattle.std.specs.Prelude.{Option, Some, None, unwrap_or, Result, Ok, Err, IfOk, OnOk}
 use Rattle.sq_text.proofs.Appending.{both}
 use Rattle.sq_text.specs.Texts.{refused_line}
 use Rattle.sq_plan.specs.PlanValue.{PlanValue}
 use Rattle.sq_ranges.specs.declared.fault.ReconFault.{ReconFault}
 use Rattle.sq_ranges.specs.Fault.{recon_fault_number}
 use Rattle.sq_schema.specs.Fault.{memory_number}
-use Rattle.sq_engine.specs.declared.standing.Standing.{Standing}
+use Rattle.sq_engine.specs.Values.{EngineValue}
+use Rattle.sq_engine.specs.declared.engine.NotEnded.{NotEnded}
+use Rattle.sq_engine.specs.declared.engine.NotEnded.TheVariants as unended
 use Rattle.sq_engine.specs.declared.engine.NotMoved.{NotMoved}
 use Rattle.sq_engine.specs.declared.engine.NotMoved.TheVariants as moved
-use Rattle.sq_engine.specs.declared.pause.NotTaken.{NotTaken}
-use Rattle.sq_engine.specs.declared.pause.NotTaken.TheVariants as untaken
-use Rattle.sq_engine.specs.Engine.{EngineRests, opening_in, IsNotMoved}
-use Rattle.sq_engine.specs.History.{onward_opening}
+use Rattle.sq_engine.specs.Engine.{rests, HasBegunMove, IsNotMoved}
 use Rattle.sq_serve.specs.declared.line_place.LinePlace.{LinePlace}
 use Rattle.sq_serve.specs.declared.serve_answer.ServeAnswer.TheVariants.{Fault, Moving, Moved, Rows}
 use Rattle.sq_serve.specs.ServeAnswers.{serve_answer_line}
@@ -23,9 +22,8 @@ use Rattle.sq_server.specs.declared.ending.ServeEnding.{ServeEnding}
 use Rattle.sq_server.specs.Saying.{Answered, Refused, lines_in}
 use Rattle.sq_server.specs.Becoming.{ServeDeskValue, Speaks, WritesBytes, TakesWish}
 use Rattle.sq_server.proofs.Desks.{line_speaks}
-use Rattle.sq_service.specs.declared.page_audit.PageToAudit.{PageToAudit}
-use Rattle.sq_service.specs.Rows.{saved_line, not_taken_line}
-use Rattle.sq_service.specs.Wishes.{WritesText, IsUnderWay, segments_in, EndsMove, TellsMove, RefusesMove, AnswersMove, IsPromised, AnswersWish, AnswersTaken}
+use Rattle.sq_service.specs.Rows.{saved_line, not_ended_line}
+use Rattle.sq_service.specs.Wishes.{WritesText, IsUnderWay, segments_in, EndsMove, TellsMove, RefusesMove, AnswersMove, AnswersWish, AnswersTaken}
 
 -- a text, and then another one
 text_then : (first second : List ℕ) (a b c : ServeDeskValue) → WritesText first a b → WritesText second b c → WritesText (first ++ second) a c
@@ -45,25 +43,25 @@ same_segments desk one other is also =
     sym is.2 ∙ ap (λ (p : MoveProgress). p.segments) (same_progress desk.moving is.0 also.0 is.1 also.1) ∙ also.2
 
 -- a move is over, unless there is no memory to say so
-pub move_over : {A : Type 0} (result : Result A ServeEnding) (engine : Standing) (progress : MoveProgress) (a b : ServeDeskValue)
-    → a.moving ≡ Some progress → EngineRests engine
+pub move_over : {A : Type 0} (result : Result A ServeEnding) (engine : EngineValue) (progress : MoveProgress) (a b : ServeDeskValue)
+    → a.moving ≡ Some progress → rests engine ≡ true
     → IfOk result (λ done. WritesText (serve_answer_line (Moved progress.segments)) a b) → IfOk result (λ done. b.moving ≡ None)
     → IfOk result (λ done. EndsMove engine a b)
-move_over (Ok done) engine progress a b is rests says none = inl (progress.segments, (progress, is, refl), rests, none, says)
-move_over (Err ending) engine progress a b is rests says none = tt
+move_over (Ok done) engine progress a b is still says none = inl (progress.segments, (progress, is, refl), still, none, says)
+move_over (Err ending) engine progress a b is still says none = tt
 
 some_is_none : (progress : MoveProgress) → Some progress ≡ None → ⊥
 some_is_none progress e = cc
 
 -- no move is over where none is under way, or rows move
-pub no_move_over : (engine : Standing) (desk : ServeDeskValue) → desk.moving ≡ None → EndsMove engine desk desk
-no_move_over engine desk none = inr (λ segments is rests. some_is_none is.0 (sym is.1 ∙ none), refl)
+pub no_move_over : (engine : EngineValue) (desk : ServeDeskValue) → desk.moving ≡ None → EndsMove engine desk desk
+no_move_over engine desk none = inr ((λ segments is. absurd (some_is_none is.0 (sym is.1 ∙ none))), refl)
 
-pub rows_move : (engine : Standing) (desk : ServeDeskValue) → (EngineRests engine → ⊥) → EndsMove engine desk desk
-rows_move engine desk moves = inr (λ segments is rests. moves rests, refl)
+pub rows_move : (engine : EngineValue) (desk : ServeDeskValue) → rests engine ≡ false → EndsMove engine desk desk
+rows_move engine desk moves = inr ((λ segments is. moves), refl)
 
 -- a move begins, and is over at once or not
-pub move_told : (engine : Standing) (segments : ℕ) (a b c : ServeDeskValue) → segments ≡ segments_in engine → IsUnderWay segments b
+pub move_told : (engine : EngineValue) (segments : ℕ) (a b c : ServeDeskValue) → segments ≡ segments_in engine → IsUnderWay segments b
     → WritesText (serve_answer_line (Moving segments)) a b → EndsMove engine b c → TellsMove engine a c
 move_told engine segments a b c all is begins ends =
     let known : IsUnderWay (segments_in engine) b = subst (λ (n : ℕ). IsUnderWay n b) all is in
@@ -86,31 +84,39 @@ move_told engine segments a b c all is begins ends =
     ))
     ends
 
+-- the same, unless there is no memory to say that it is over
+pub move_told_if : {A : Type 0} (result : Result A ServeEnding) (engine : EngineValue) (segments : ℕ) (a b c : ServeDeskValue)
+    → segments ≡ segments_in engine → IsUnderWay segments b → WritesText (serve_answer_line (Moving segments)) a b
+    → IfOk result (λ done. EndsMove engine b c) → OnOk result (TellsMove engine a c)
+move_told_if (Ok done) engine segments a b c all is begins ends = move_told engine segments a b c all is begins ends
+move_told_if (Err ending) engine segments a b c all is begins ends = tt
+
+-- a line that asks for a move is answered: the move begins, or it is refused
+pub move_answered : {A : Type 0} (plan : PlanValue) (old : EngineValue) (before : ServeDeskValue) (result : Result A ServeEnding)
+    (new : EngineValue) (after : ServeDeskValue) → HasBegunMove plan old new → OnOk result (TellsMove new before after)
+    → OnOk result (AnswersMove plan old before new after)
+move_answered plan old before (Ok done) new after begun tells = inl (begun.opening, tells)
+move_answered plan old before (Err ending) new after begun tells = tt
+
+pub refusal_answered : {A : Type 0} (plan : PlanValue) (why : NotMoved) (old : EngineValue) (before : ServeDeskValue)
+    (result : Result A ServeEnding) (new : EngineValue) (after : ServeDeskValue) → IsNotMoved plan why old new
+    → OnOk result (RefusesMove why before after) → OnOk result (AnswersMove plan old before new after)
+refusal_answered plan (moved.Plans fault) old before (Ok done) new after is refuses = inr (fault, is.1, refuses)
+refusal_answered plan moved.Moving old before (Ok done) new after is refuses = absurd refuses
+refusal_answered plan moved.Memory old before (Ok done) new after is refuses = absurd refuses
+refusal_answered plan why old before (Err ending) new after is refuses = tt
+
+-- nothing is written to close an engine
+pub stays_silent : {A : Type 0} (result : Result A ServeEnding) (a : ServeDeskValue) → OnOk result (a ≡ a)
+stays_silent (Ok done) a = refl
+stays_silent (Err ending) a = tt
+
 -- the plan of a move has a fault
 pub fault_of_move : (number : ℕ) (fault : ReconFault) (a b : ServeDeskValue) → number ≡ recon_fault_number fault
     → WritesBytes (refused_line number) a b → WritesText (refused_line (recon_fault_number fault)) a b
 fault_of_move number fault a b is says =
     subst (λ (n : ℕ). WritesText (refused_line n) a b) is
     (record { goes_on = says.goes_on; written = says.written; wishes = says.wishes })
-
-pub move_answered : (plan : PlanValue) (old mid : Standing) (before : ServeDeskValue) (result : Result Standing ServeEnding) (after : ServeDeskValue)
-    → opening_in mid ≡ onward_opening (opening_in old) plan → IfOk result (λ next. next ≡ mid)
-    → IfOk result (λ next. TellsMove next before after)
-    → IfOk result (λ next. AnswersMove plan old before next after)
-move_answered plan old mid before (Ok next) after opens same tells =
-    inl (subst (λ (s : Standing). opening_in s ≡ onward_opening (opening_in old) plan) (sym same) opens, tells)
-move_answered plan old mid before (Err ending) after opens same tells = tt
-
-pub refusal_answered : (plan : PlanValue) (old : Standing) (why : NotMoved) (back : Standing) (before : ServeDeskValue)
-    (result : Result Standing ServeEnding) (after : ServeDeskValue)
-    → IsNotMoved old plan why back → IfOk result (λ next. RefusesMove why before after)
-    → IfOk result (λ next. AnswersMove plan old before next after)
-refusal_answered plan old (moved.Plans fault) back before (Ok next) after is refuses = inr (fault, is.1, refuses)
-refusal_answered plan old moved.Moving back before (Ok next) after is refuses = absurd refuses
-refusal_answered plan old moved.Memory back before (Ok next) after is refuses = absurd refuses
-refusal_answered plan old (moved.Plans fault) back before (Err ending) after is refuses = tt
-refusal_answered plan old moved.Moving back before (Err ending) after is refuses = tt
-refusal_answered plan old moved.Memory back before (Err ending) after is refuses = tt
 
 -- a fault by its number and the place of its line
 pub fault_told : (number wanted : ℕ) (at place : LinePlace) (id : Option ℕ) (a b : ServeDeskValue) → number ≡ wanted → at ≡ place → id ≡ None
@@ -129,31 +135,21 @@ pub saved_speaks : (saved : Bool) (lines : List ℕ) (a b : ServeDeskValue) → 
 saved_speaks true lines a b says = line_speaks (Answered (Rows (lines_in lines))) a b says
 saved_speaks false lines a b says = line_speaks (Refused 124) a b says
 
-pub not_taken_speaks : (why : NotTaken) (place : LinePlace) (a b : ServeDeskValue) → WritesBytes (not_taken_line why place) a b → Speaks a b
-not_taken_speaks untaken.Moving place a b says = line_speaks (Refused 217) a b says
-not_taken_speaks untaken.Memory place a b says = line_speaks (Answered (Fault memory_number place.line None)) a b says
-
--- a page is taken, and nothing is written
-pub page_promised : (is_asked : Bool) (due : Option PageToAudit) (result : Result Standing ServeEnding) (a b : ServeDeskValue)
-    → IfOk result (λ next. IsPromised is_asked due) → b ≡ a → IfOk result (λ next. IsPromised is_asked due × (b ≡ a))
-page_promised is_asked due (Ok next) a b promised same = (promised, same)
-page_promised is_asked due (Err ending) a b promised same = tt
-
-pub stays_silent : (result : Result Standing ServeEnding) (a : ServeDeskValue) → IfOk result (λ (next : Standing). a ≡ a)
-stays_silent (Ok next) a = refl
-stays_silent (Err ending) a = tt
+pub not_ended_speaks : (why : NotEnded) (place : LinePlace) (a b : ServeDeskValue) → WritesBytes (not_ended_line why place) a b → Speaks a b
+not_ended_speaks unended.Moving place a b says = line_speaks (Refused 217) a b says
+not_ended_speaks unended.Memory place a b says = line_speaks (Answered (Fault memory_number place.line None)) a b says
 
 module _ (saves : List ℕ → List ℕ → Bool → Type 0) where
-  pub none_taken : (taken : Option Wish) (old : Standing) (before between : ServeDeskValue) (due : Option PageToAudit)
-      (result : Result Standing ServeEnding) → None ≡ taken → TakesWish None before between
-      → AnswersTaken saves taken old before due result between
-  none_taken taken old before between due result is takes =
-      let P : Option Wish → Type 0 = λ t. AnswersTaken saves t old before due result between in
-      subst P is (record { between = between; takes = takes; answers = tt })
+  pub none_taken : {A : Type 0} (taken : Option Wish) (old : EngineValue) (before between : ServeDeskValue)
+      (result : Result A ServeEnding) (new : EngineValue) → None ≡ taken → TakesWish None before between
+      → AnswersTaken saves taken old before result new between
+  none_taken taken old before between result new is takes =
+      subst (λ (t : Option Wish). AnswersTaken saves t old before result new between) is
+      (record { between = between; takes = takes; answers = tt })
 
-  pub some_taken : (taken : Option Wish) (wish : Wish) (old : Standing) (before between : ServeDeskValue) (due : Option PageToAudit)
-      (result : Result Standing ServeEnding) (after : ServeDeskValue) → Some wish ≡ taken → TakesWish (Some wish) before between
-      → IfOk result (λ next. AnswersWish saves wish old between due next after) → AnswersTaken saves taken old before due result after
-  some_taken taken wish old before between due result after is takes answers =
-      let P : Option Wish → Type 0 = λ t. AnswersTaken saves t old before due result after in
-      subst P is (record { between = between; takes = takes; answers = answers })
+  pub some_taken : {A : Type 0} (taken : Option Wish) (wish : Wish) (old : EngineValue) (before between : ServeDeskValue)
+      (result : Result A ServeEnding) (new : EngineValue) (after : ServeDeskValue) → Some wish ≡ taken → TakesWish (Some wish) before between
+      → OnOk result (AnswersWish saves wish old between new after) → AnswersTaken saves taken old before result new after
+  some_taken taken wish old before between result new after is takes answers =
+      subst (λ (t : Option Wish). AnswersTaken saves t old before result new after) is
+      (record { between = between; takes = takes; answers = answers })

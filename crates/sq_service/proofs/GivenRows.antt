@@ -1,46 +1,39 @@
 -- How the rows of an engine are given.
 use Rattle.std.proofs.Common.{⊎_elim, inl, inr, ℕ, Bool, List}
 use Rattle.std.specs.Prelude.{◌⊎◌, Option, None, Some}
-use Rattle.sq_engine.specs.declared.standing.Standing.{Standing}
-use Rattle.sq_engine.specs.declared.pause.NotTaken.{NotTaken}
-use Rattle.sq_engine.specs.declared.pause.NotTaken.TheVariants as why
-use Rattle.sq_engine.specs.Engine.{KeepsHistoryAndJobs}
-use Rattle.sq_engine.specs.Taken.{IsNotPaused}
-use Rattle.sq_engine.proofs.Goings.{stays}
+use Rattle.sq_engine.specs.Values.{EngineValue}
+use Rattle.sq_engine.specs.declared.engine.NotEnded.{NotEnded}
+use Rattle.sq_engine.specs.declared.engine.NotEnded.TheVariants as why
+use Rattle.sq_engine.specs.Engine.{Keeps, IsNotEnded}
 use Rattle.sq_server.specs.declared.desk.AskedRows.{AskedRows}
 use Rattle.sq_server.specs.Becoming.{ServeDeskValue, Speaks, WritesBytes}
-use Rattle.sq_service.specs.Rows.{RowsAreGiven, TellsRows, TellsRowsOrSpeaks, not_taken_line, WithholdsRows, AnswersRows}
-use Rattle.sq_service.proofs.Answered.{saved_speaks, not_taken_speaks}
+use Rattle.sq_service.specs.Rows.{RowsAreGiven, TellsRows, TellsRowsOrSpeaks, not_ended_line, WithholdsRows, AnswersRows}
+use Rattle.sq_service.proofs.Answered.{saved_speaks, not_ended_speaks}
 
 module _ (saves : List ℕ → List ℕ → Bool → Type 0) where
   -- the rows that are given are written as lines, or other lines are
-  given_tells : (engine : Standing) (file : Option (List ℕ)) (before after : ServeDeskValue)
+  given_tells : (engine : EngineValue) (file : Option (List ℕ)) (before after : ServeDeskValue)
       → RowsAreGiven saves engine file before after → TellsRows engine before after ⊎ Speaks before after
   given_tells engine None before after given =
       inl (record { stores = given.stores; lent = given.lent; lines = given.lines; is = given.is; told = given.gives })
   given_tells engine (Some name) before after given = inr (saved_speaks given.gives.0 given.lines before after given.gives.2)
 
-  pub rows_are_told : (old new : Standing) (asked : AskedRows) (before after : ServeDeskValue) → KeepsHistoryAndJobs old new
-      → RowsAreGiven saves new asked.file before after ⊎ WritesBytes (not_taken_line why.Memory asked.place) before after
+  pub rows_are_told : (old new : EngineValue) (asked : AskedRows) (before after : ServeDeskValue) → Keeps old new
+      → RowsAreGiven saves new asked.file before after ⊎ WritesBytes (not_ended_line why.Memory asked.place) before after
       → TellsRowsOrSpeaks old before new after
   rows_are_told old new asked before after keeps gives = (
     keeps,
     ⊎_elim (λ given. given_tells new asked.file before after given)
-        (λ says. inr (not_taken_speaks why.Memory asked.place before after says)) gives,
+        (λ says. inr (not_ended_speaks why.Memory asked.place before after says)) gives,
   )
 
   -- a line that asks for rows is answered
-  pub rows_answered : (old new : Standing) (asked : AskedRows) (before after : ServeDeskValue)
-      → RowsAreGiven saves new asked.file before after ⊎ WritesBytes (not_taken_line why.Memory asked.place) before after
+  pub rows_answered : (old new : EngineValue) (asked : AskedRows) (before after : ServeDeskValue)
+      → RowsAreGiven saves new asked.file before after ⊎ WritesBytes (not_ended_line why.Memory asked.place) before after
       → AnswersRows saves asked old before new after
   rows_answered old new asked before after gives = ⊎_elim (λ given. inl given) (λ says. inr (why.Memory, tt, says)) gives
 
--- an engine that isn't paused is as it was
-pub not_paused_stays : (old : Standing) (reason : NotTaken) (new : Standing) → IsNotPaused old reason new → KeepsHistoryAndJobs old new
-not_paused_stays old why.Moving new is = stays old new is.0
-not_paused_stays old why.Memory new is = stays old new is.0
-
--- and then rows move, or there is no memory
-pub not_paused_withholds : (old : Standing) (reason : NotTaken) (new : Standing) → IsNotPaused old reason new → WithholdsRows old reason
-not_paused_withholds old why.Moving new is = is.1
-not_paused_withholds old why.Memory new is = tt
+-- why an epoch isn't ended: rows move, or memory ran out
+pub not_ended_withholds : (old : EngineValue) (reason : NotEnded) (new : EngineValue) → IsNotEnded reason old new → WithholdsRows old reason
+not_ended_withholds old why.Moving new is = is.1
+not_ended_withholds old why.Memory new is = tt

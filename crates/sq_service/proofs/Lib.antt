@@ -1,7 +1,10 @@
 pub mod Served
-pub mod Planned
 pub mod Written
+pub mod Planned
 pub mod Opened
-pub mod WroteLines
 mod GivenRows
 mod Answered
+mod Steps
+mod Ended
+pub mod WroteLines
+mod Tallied

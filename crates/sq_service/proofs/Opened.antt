@@ -1,16 +1,16 @@
 -- An engine that is opened and served, with its desk.
-use Rattle.std.proofs.Common.{◌≡◌, ⊎_elim, inl, inr, ℕ, false, List, [], sym, subst}
-use Rattle.std.specs.Prelude.{Option, replicate}
+use Rattle.std.proofs.Common.{⊎_elim, inl, inr, ℕ, Bool, List, sym, subst}
+use Rattle.std.specs.Prelude.{Option}
 use Rattle.sq_ranges.specs.OpeningValue.{OpeningValue}
 use Rattle.sq_server.specs.declared.ending.ServeEnding.{ServeEnding}
 use Rattle.sq_server.specs.declared.feed.Fed.{Fed}
 use Rattle.sq_server.specs.declared.outlet.Outlet.{Outlet}
 use Rattle.sq_service.specs.Service.{first_desk, ServesNone, ServesOpening, ServesSome}
 
-module _ {W : Type 0} (contents : W → Option (List ℕ)) where
+module _ {W : Type 0} (saves : List ℕ → List ℕ → Bool → Type 0) (contents : W → Option (List ℕ)) where
   -- an engine with some opening was served, or there was no memory for it
   pub opening_serves_some : (o : OpeningValue) (heard : List Fed) (outlet : Outlet W) (ending : ServeEnding) (new : Outlet W)
-      → ServesOpening contents o (first_desk contents outlet heard o.new.parts) outlet ending new → ServesSome contents outlet ending new
+      → ServesOpening saves contents o (first_desk contents outlet heard o.new.parts) outlet ending new → ServesSome saves contents outlet ending new
   opening_serves_some o heard outlet ending new serves =
       ⊎_elim
       (λ served. inl (o, heard, served))

@@ -1,95 +1,105 @@
 -- How an engine that is served ends.
-use Rattle.std.specs.Prelude.{◌≡◌, ◌⊎◌, ◌+◌, ◌^◌, ◌<◌, ℕ, true, false, List, [], ◌∷◌, ◌++◌, length, All, sum_by}
-use Rattle.sq_ranges.specs.Prelude.{IsSetUp}
-use Rattle.sq_audit.specs.declared.verdict.Verdict.{Verdict}
+use Rattle.std.specs.Prelude.{◌≡◌, ◌⊎◌, ◌^◌, ◌<◌, ◌==◌, ℕ, true, false, Bool, not, List, length, sum_by, count_by, Some}
+use Rattle.sq_schema.specs.Family.{rows_of}
 use Rattle.sq_audit.specs.declared.verdict.Verdict.TheVariants as verdict
-use Rattle.sq_live.specs.Outcome.{stored_count, commit_count}
-use Rattle.sq_engine.specs.declared.closed.Closed.{Closed}
-use Rattle.sq_engine.specs.declared.standing.Standing.{Standing}
-use Rattle.sq_engine.specs.declared.rest_page.RestPage.{RestPage}
-use Rattle.sq_engine.specs.Taken.{HasClosedAfter}
+use Rattle.sq_audit.specs.declared.verdict.Defect.TheVariants.{ReceiptUnknown}
+use Rattle.sq_store.specs.StoreValue.{StoreValue}
+use Rattle.sq_store.specs.InOrder.{families_in}
+use Rattle.sq_engine.specs.declared.serving.EpochEnd.{EpochEnd}
+use Rattle.sq_engine.specs.declared.serving.EpochEnd.TheVariants as epoch
+use Rattle.sq_engine.specs.Values.{EngineValue}
+use Rattle.sq_engine.specs.Engine.{Keeps, HasBegunMove, HasClosed, rows_in, verdict_on}
+use Rattle.sq_engine.specs.Ending.{logged_in}
+use Rattle.sq_server.specs.declared.desk.AskedMove.{AskedMove}
+use Rattle.sq_server.specs.declared.desk.Wish.TheVariants as wish
 use Rattle.sq_server.specs.declared.ending.ServeEnding.{ServeEnding}
 use Rattle.sq_server.specs.declared.ending.ServeEnding.TheVariants.{Sound, Unsound, NoHeader, Memory, Threads, Unwritten}
-use Rattle.sq_server.specs.Becoming.{ServeDeskValue}
-use Rattle.sq_service.specs.declared.page_book.PageBook.{PageBook}
-use Rattle.sq_service.specs.Judging.{IsFoundAs, ClosesAs, page_commits}
-use Rattle.sq_service.specs.Events.{ServeEvent, HappenEach, IsServedWhole, pages_turned, page_due}
+use Rattle.sq_server.specs.Becoming.{ServeDeskValue, Speaks, TakesWish}
+use Rattle.sq_server.specs.Ending.{EndsStopped}
+use Rattle.sq_server.specs.Written.{EpochIsWritten}
+use Rattle.sq_service.specs.Events.{ServeEvent, HappenEach}
 
--- an engine was closed, and this is the verdict on its last page
-pub record ClosesFound (last : Standing) (found : Verdict) (closed : Closed) : Type 0 where
-  pub after : HasClosedAfter last closed
-  pub set_up : IsSetUp closed.opening
-  pub judged : ClosesAs found closed
+-- how an engine ends after an epoch that ended like this
+abbrev pub IsEnding : EpochEnd → ServeEnding → Type 0
+IsEnding epoch.Whole ending = ⊥
+IsEnding epoch.LacksThreads ending = ending ≡ Threads
+IsEnding epoch.ReceiptUnknown ending = ending ≡ Unsound ReceiptUnknown
+IsEnding epoch.LacksMemory ending = ending ≡ Memory
+IsEnding epoch.ReceiptLost ending = ending ≡ Memory
 
--- the numbers of families and commits of a closed engine, with `before` commits counted earlier
-pub record HasTotals (before : ℕ) (closed : Closed) (families committed : ℕ) : Type 0 where
-  pub families_are : stored_count closed.gathered < 2 ^ 64 → families ≡ stored_count closed.gathered
-  pub committed_are : before + commit_count closed.page.run.receipts < 2 ^ 64
-      → committed ≡ before + commit_count closed.page.run.receipts
+-- how many families in a store have rows
+abbrev pub families_with_rows : StoreValue → ℕ
+families_with_rows store = count_by (λ family. not (length (rows_of family) == 0)) (families_in store)
 
--- the commits on these pages, and those before
-abbrev pub commits_on_pages : ℕ → List RestPage → ℕ
-commits_on_pages before pages = before + sum_by page_commits pages
+-- this number of families in stores have rows, and their logs have this number of transactions, if
+-- 64 bits count them
+pub record AreTotals (stores : List StoreValue) (families committed : ℕ) : Type 0 where
+  pub families_are : sum_by families_with_rows stores < 2 ^ 64 → families ≡ sum_by families_with_rows stores
+  pub committed_are : sum_by logged_in stores < 2 ^ 64 → committed ≡ sum_by logged_in stores
 
--- the ending of a closed engine
-abbrev pub ClosedEndsBy : ℕ → Closed → ServeEnding → Type 0
-ClosedEndsBy committed_before closed (Sound families committed input) =
-    ClosesAs verdict.Sound closed × HasTotals committed_before closed families committed
-ClosedEndsBy committed_before closed (Unsound defect) = ClosesAs (verdict.Unsound defect) closed
-ClosedEndsBy committed_before closed (NoHeader fault) = ⊥
-ClosedEndsBy committed_before closed Memory = Unit {0}
-ClosedEndsBy committed_before closed Threads = ⊥
-ClosedEndsBy committed_before closed Unwritten = ⊥
+-- an engine that is closed has these totals
+abbrev pub HasTotals : EngineValue → ℕ → ℕ → Type 0
+HasTotals engine families committed =
+    (stores : List StoreValue) × (rows_in engine ≡ Some stores) × AreTotals stores families committed
 
--- why an engine ended, with the pages `rest` not found sound so far: it was closed and its last
--- page is sound; or that page, or the one that was audited last, has a defect; if memory ran out, a
--- thread was missing, or nothing could be written, no more is stated
-abbrev pub ServiceEndsBy : ℕ → List RestPage → Standing → ServeEnding → Type 0
-ServiceEndsBy committed_before rest last (Sound families committed input) =
-    (rest ≡ []) × (closed : Closed) × ClosesFound last verdict.Sound closed × HasTotals committed_before closed families committed
-ServiceEndsBy committed_before rest last (Unsound defect) =
-    ((page : RestPage) × (rest ≡ page ∷ []) × IsFoundAs (verdict.Unsound defect) page)
-    ⊎ ((rest ≡ []) × (closed : Closed) × ClosesFound last (verdict.Unsound defect) closed)
-ServiceEndsBy committed_before rest last (NoHeader fault) = ⊥
-ServiceEndsBy committed_before rest last Memory = Unit {0}
-ServiceEndsBy committed_before rest last Threads = Unit {0}
-ServiceEndsBy committed_before rest last Unwritten = Unit {0}
+-- the ending of a closed engine, by the verdict on it
+abbrev pub ClosedEndsBy : EngineValue → ServeEnding → Type 0
+ClosedEndsBy closed (Sound families committed input) =
+    (verdict_on closed.jobs ≡ verdict.Sound) × HasTotals closed families committed
+ClosedEndsBy closed (Unsound defect) = verdict_on closed.jobs ≡ verdict.Unsound defect
+ClosedEndsBy closed (NoHeader fault) = ⊥
+ClosedEndsBy closed Memory = ⊥
+ClosedEndsBy closed Threads = ⊥
+ClosedEndsBy closed Unwritten = ⊥
 
 -- a desk hasn't stopped, so all that it had to write is written; and no job waits
 pub record IsCleared (desk : ServeDeskValue) : Type 0 where
   pub still : desk.has_stopped ≡ false
   pub none_waits : sum_by length desk.waiting ≡ 0
 
--- if the engine ends sound, its desk is cleared; if an answer couldn't be written, its desk has
--- stopped
-abbrev pub DeskEndsBy : ServeEnding → ServeDeskValue → Type 0
-DeskEndsBy (Sound families committed input) desk = IsCleared desk
-DeskEndsBy (Unsound defect) desk = Unit {0}
-DeskEndsBy (NoHeader fault) desk = Unit {0}
-DeskEndsBy Memory desk = Unit {0}
-DeskEndsBy Threads desk = Unit {0}
-DeskEndsBy Unwritten desk = desk.has_stopped ≡ true
+-- an engine was closed at a desk where no job waits, and ends by the verdict on it
+pub record EndsClosed (ending : ServeEnding) (old : EngineValue) (before : ServeDeskValue) (last : EngineValue) (after : ServeDeskValue) : Type 0 where
+  pub takes : TakesWish (Some wish.Close) before after
+  pub cleared : IsCleared after
+  pub closed : HasClosed old last
+  pub ends : ClosedEndsBy last ending
 
--- if the engine ends sound, no answer of an epoch is missing
-abbrev pub SoundIsWhole : ServeEnding → List ServeEvent → Type 0
-SoundIsWhole (Sound families committed input) events = All IsServedWhole events
-SoundIsWhole (Unsound defect) events = Unit {0}
-SoundIsWhole (NoHeader fault) events = Unit {0}
-SoundIsWhole Memory events = Unit {0}
-SoundIsWhole Threads events = Unit {0}
-SoundIsWhole Unwritten events = Unit {0}
+-- an epoch ended an engine: a thread, memory or a receipt was missing, or a receipt was no open job's
+pub record EndsInEpoch (ending : ServeEnding) (old : EngineValue) (before : ServeDeskValue) (last : EngineValue) (after : ServeDeskValue) : Type 0 where
+  pub how : EpochEnd
+  pub is : IsEnding how ending
+  pub epoch : EpochIsWritten old before how last after
 
--- an engine was served until it ended with `ending`
-pub record HasEndedServing (was : PageBook) (old : Standing) (before : ServeDeskValue) (ending : ServeEnding) (after : ServeDeskValue) : Type 0 where
+-- memory ran out: before an epoch, at the end of a move, or for a wish, whose move may have begun
+abbrev pub EndsForMemory : ServeEnding → EngineValue → ServeDeskValue → EngineValue → ServeDeskValue → Type 0
+EndsForMemory ending old before last after =
+    (ending ≡ Memory) × Speaks before after
+    × (Keeps old last ⊎ ((asked : AskedMove) × (between : ServeDeskValue)
+    × TakesWish (Some (wish.Move asked)) before between × HasBegunMove asked.plan old last))
+
+-- nothing more could be written, or memory ran out at the desk
+abbrev pub EndsAtDesk : ServeEnding → EngineValue → ServeDeskValue → EngineValue → ServeDeskValue → Type 0
+EndsAtDesk ending old before last after =
+    EndsStopped ending × (last ≡ old) × (after.has_stopped ≡ true) × Speaks before after
+
+-- how an engine ended, which was `old` before and is `last` then
+abbrev pub EndsBy : ServeEnding → EngineValue → ServeDeskValue → EngineValue → ServeDeskValue → Type 0
+EndsBy ending old before last after =
+    EndsClosed ending old before last after ⊎ EndsInEpoch ending old before last after
+    ⊎ EndsForMemory ending old before last after ⊎ EndsAtDesk ending old before last after
+
+-- an engine was served until it ended with `ending`, and is `last` then
+pub record HasEndedServing (saves : List ℕ → List ℕ → Bool → Type 0) (old : EngineValue) (before : ServeDeskValue)
+    (ending : ServeEnding) (last : EngineValue) (after : ServeDeskValue) : Type 0 where
   pub events : List ServeEvent
-  pub last : Standing
-  pub happened : HappenEach events old before last after
-  pub judged : List RestPage
-  pub rest : List RestPage
-  pub pages : page_due was.due ++ pages_turned events ≡ judged ++ rest
-  pub sound : All (IsFoundAs verdict.Sound) judged
-  pub ends : (total : ℕ)
-      × (commits_on_pages was.committed judged < 2 ^ 64 → total ≡ commits_on_pages was.committed judged)
-      × ServiceEndsBy total rest last ending
-  pub whole : SoundIsWhole ending events
-  pub written : DeskEndsBy ending after
+  pub served : EngineValue
+  pub between : ServeDeskValue
+  pub happened : HappenEach saves events old before served between
+  pub ends : EndsBy ending served between last after
+
+-- how a desk without jobs that wait ends an engine: it closes it, has stopped, or memory ran out
+abbrev pub ClosesWith : ServeEnding → EngineValue → EngineValue → ServeDeskValue → Type 0
+ClosesWith ending old last desk =
+    (HasClosed old last × ClosedEndsBy last ending × IsCleared desk)
+    ⊎ (EndsStopped ending × (last ≡ old) × (desk.has_stopped ≡ true))
+    ⊎ ((ending ≡ Memory) × Keeps old last)

@@ -1,84 +1,74 @@
--- How an engine that is served changes, and what its desk writes meanwhile.
-use Rattle.std.specs.Prelude.{◌≡◌, ◌+◌, ◌^◌, ◌<◌, ℕ, Bool, true, List, [], ◌∷◌, ◌++◌, All, sum_by, Option, Some, None}
+-- What happens to an engine that is served, and what its desk writes meanwhile.
+use Rattle.std.specs.Prelude.{◌≡◌, ◌⊎◌, ℕ, Bool, List, [], ◌∷◌, Some}
 use Rattle.std.specs.List.{flat_map}
-use Rattle.sq_audit.specs.declared.verdict.Verdict.TheVariants.{Sound}
-use Rattle.sq_engine.specs.declared.standing.Standing.{Standing}
-use Rattle.sq_engine.specs.declared.rest_page.RestPage.{RestPage}
-use Rattle.sq_engine.specs.Engine.{KeepsHistoryAndJobs}
-use Rattle.sq_engine.specs.Taken.{TakesPage}
-use Rattle.sq_epoch.specs.Exchanges.{Exchange}
-use Rattle.sq_server.specs.Becoming.{ServeDeskValue, Speaks}
+use Rattle.sq_engine.specs.declared.event.Event.{Event}
+use Rattle.sq_engine.specs.declared.event.Event.TheVariants.{MovesTo}
+use Rattle.sq_engine.specs.declared.serving.EpochEnd.TheVariants.{Whole}
+use Rattle.sq_engine.specs.Values.{EngineValue}
+use Rattle.sq_engine.specs.Engine.{Keeps, HasBegunMove}
+use Rattle.sq_server.specs.declared.desk.Wish.{Wish}
+use Rattle.sq_server.specs.declared.desk.Wish.TheVariants as wish
+use Rattle.sq_server.specs.Becoming.{ServeDeskValue, Speaks, WritesBytes, TakesWish}
 use Rattle.sq_server.specs.Written.{EpochIsWritten}
-use Rattle.sq_service.specs.declared.page_audit.PageToAudit.{PageToAudit}
-use Rattle.sq_service.specs.declared.page_book.PageBook.{PageBook}
-use Rattle.sq_service.specs.Judging.{IsFoundAs, page_commits}
 use Rattle.sq_service.specs.Rows.{TellsRows}
+use Rattle.sq_service.specs.Wishes.{EndsMove, AnswersWish}
 
--- an epoch is served with these exchanges, a page is taken, rows are written, or the engine
--- continues otherwise, for example as a move begins
+-- the output was flushed; an epoch was served in which these events were added to those of the
+-- engine; a move has ended; or a wish was granted, by which events were added too
 pub data ServeEvent : Type 0 where
-  EpochServed : (is_whole : Bool) → (exchanges : List Exchange) → ServeEvent
-  PageTurned : (page : RestPage) → ServeEvent
-  RowsTold : ServeEvent
-  GoneOn : ServeEvent
+  Flushed : ServeEvent
+  EpochServed : (more : List Event) → ServeEvent
+  MoveEnded : ServeEvent
+  Granted : (asked : Wish) → (more : List Event) → ServeEvent
 
--- what an event makes of an engine and of its desk
-abbrev pub Happens : ServeEvent → Standing → ServeDeskValue → Standing → ServeDeskValue → Type 0
-Happens (EpochServed is_whole exchanges) old before new after =
-    (epoch : EpochIsWritten old before new after is_whole) × (exchanges ≡ epoch.exchanges)
-Happens (PageTurned page) old before new after = TakesPage old page new × (after ≡ before)
-Happens RowsTold old before new after = KeepsHistoryAndJobs old new × TellsRows new before after
-Happens GoneOn old before new after = KeepsHistoryAndJobs old new × Speaks before after
+-- how a wish changes an engine, and which events it adds: a move that isn't refused has its event
+abbrev pub ChangesEngine : Wish → List Event → EngineValue → EngineValue → Type 0
+ChangesEngine (wish.Move asked) more old new =
+    (HasBegunMove asked.plan old new × (more ≡ MovesTo asked.plan ∷ [])) ⊎ ((new ≡ old) × (more ≡ []))
+ChangesEngine (wish.Rows asked) more old new = Keeps old new × (more ≡ [])
+ChangesEngine wish.Close more old new = (new ≡ old) × (more ≡ [])
 
--- what these events, one after another, make of an engine and its desk
-abbrev pub HappenEach : List ServeEvent → Standing → ServeDeskValue → Standing → ServeDeskValue → Type 0
-HappenEach [] old before new after = (new ≡ old) × (after ≡ before)
-HappenEach (event ∷ events) old before new after =
-    (mid : Standing) × (between : ServeDeskValue) × Happens event old before mid between × HappenEach events mid between new after
+-- what is written of a wish: rows, or other lines
+abbrev pub WritesOf : Wish → EngineValue → ServeDeskValue → ServeDeskValue → Type 0
+WritesOf (wish.Move asked) engine before after = Speaks before after
+WritesOf (wish.Rows asked) engine before after = TellsRows engine before after ⊎ Speaks before after
+WritesOf wish.Close engine before after = after ≡ before
 
-abbrev pub exchanged : ServeEvent → List Exchange
-exchanged (EpochServed is_whole exchanges) = exchanges
-exchanged (PageTurned page) = []
-exchanged RowsTold = []
-exchanged GoneOn = []
+-- a wish was taken and granted
+pub record IsGranted (saves : List ℕ → List ℕ → Bool → Type 0) (asked : Wish) (more : List Event)
+    (old : EngineValue) (before : ServeDeskValue) (new : EngineValue) (after : ServeDeskValue) : Type 0 where
+  pub between : ServeDeskValue
+  pub takes : TakesWish (Some asked) before between
+  pub engine : ChangesEngine asked more old new
+  pub answers : AnswersWish saves asked old between new after
+  pub writes : WritesOf asked new between after
 
--- the exchanges of all epochs, in their order
-abbrev pub all_exchanged : List ServeEvent → List Exchange
-all_exchanged events = flat_map exchanged events
+-- what happens to an engine and to its desk
+abbrev pub Happens : (List ℕ → List ℕ → Bool → Type 0) → ServeEvent → EngineValue → ServeDeskValue → EngineValue → ServeDeskValue → Type 0
+Happens saves Flushed old before new after = (new ≡ old) × WritesBytes [] before after
+Happens saves (EpochServed more) old before new after =
+    (epoch : EpochIsWritten old before Whole new after) × (more ≡ epoch.more)
+Happens saves MoveEnded old before new after = (new ≡ old) × EndsMove old before after × Speaks before after
+Happens saves (Granted asked more) old before new after = IsGranted saves asked more old before new after
 
--- no answer of the epoch is missing
-abbrev pub IsServedWhole : ServeEvent → Type 0
-IsServedWhole (EpochServed is_whole exchanges) = is_whole ≡ true
-IsServedWhole (PageTurned page) = Unit {0}
-IsServedWhole RowsTold = Unit {0}
-IsServedWhole GoneOn = Unit {0}
+-- what happens, one after another, to an engine and its desk
+abbrev pub HappenEach : (List ℕ → List ℕ → Bool → Type 0) → List ServeEvent → EngineValue → ServeDeskValue → EngineValue → ServeDeskValue → Type 0
+HappenEach saves [] old before new after = (new ≡ old) × (after ≡ before)
+HappenEach saves (event ∷ events) old before new after =
+    (mid : EngineValue) × (between : ServeDeskValue) × Happens saves event old before mid between × HappenEach saves events mid between new after
 
-abbrev pub page_turned : ServeEvent → List RestPage
-page_turned (EpochServed is_whole exchanges) = []
-page_turned (PageTurned page) = page ∷ []
-page_turned RowsTold = []
-page_turned GoneOn = []
+abbrev pub added : ServeEvent → List Event
+added Flushed = []
+added (EpochServed more) = more
+added MoveEnded = []
+added (Granted asked more) = more
 
--- the pages that were taken, in their order
-abbrev pub pages_turned : List ServeEvent → List RestPage
-pages_turned events = flat_map page_turned events
+-- the events that were added to those of the engine, in their order
+abbrev pub all_added : List ServeEvent → List Event
+all_added events = flat_map added events
 
--- the page to audit, if there is one
-abbrev pub page_due : Option PageToAudit → List RestPage
-page_due (Some due) = due.page ∷ []
-page_due None = []
-
--- the commits of these pages were added, unless 64 bits can't count them
-abbrev pub CountsCommits : ℕ → List RestPage → ℕ → Type 0
-CountsCommits before pages after = before + sum_by page_commits pages < 2 ^ 64 → after ≡ before + sum_by page_commits pages
-
--- an engine was served for a while, and no answer is missing: each page that was due or taken was
--- found sound, except for the one that is due now
-pub record HasServed (was : PageBook) (old : Standing) (before : ServeDeskValue) (now : PageBook) (new : Standing) (after : ServeDeskValue) : Type 0 where
+-- an engine was served for a while, and no answer is missing
+pub record HasServed (saves : List ℕ → List ℕ → Bool → Type 0) (old : EngineValue) (before : ServeDeskValue)
+    (new : EngineValue) (after : ServeDeskValue) : Type 0 where
   pub events : List ServeEvent
-  pub happened : HappenEach events old before new after
-  pub whole : All IsServedWhole events
-  pub judged : List RestPage
-  pub pages : page_due was.due ++ pages_turned events ≡ judged ++ page_due now.due
-  pub sound : All (IsFoundAs Sound) judged
-  pub committed : CountsCommits was.committed judged now.committed
+  pub happened : HappenEach saves events old before new after

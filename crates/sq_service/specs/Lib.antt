@@ -1,4 +1,3 @@
-pub mod Judging
 pub mod Rows
 pub mod Events
 pub mod Ends

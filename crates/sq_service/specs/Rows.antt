@@ -6,10 +6,10 @@ use Rattle.sq_store.specs.InOrder.{families_in}
 use Rattle.sq_results.specs.Standing.{WritesRows}
 use Rattle.sq_schema.specs.Fault.{memory_number}
 use Rattle.sq_text.specs.Texts.{refused_line}
-use Rattle.sq_engine.specs.declared.standing.Standing.{Standing}
-use Rattle.sq_engine.specs.declared.pause.NotTaken.{NotTaken}
-use Rattle.sq_engine.specs.declared.pause.NotTaken.TheVariants as untaken
-use Rattle.sq_engine.specs.Engine.{EngineRests, KeepsHistoryAndJobs, stores_in}
+use Rattle.sq_engine.specs.Values.{EngineValue}
+use Rattle.sq_engine.specs.declared.engine.NotEnded.{NotEnded}
+use Rattle.sq_engine.specs.declared.engine.NotEnded.TheVariants as unended
+use Rattle.sq_engine.specs.Engine.{Keeps, rests, rows_in}
 use Rattle.sq_serve.specs.declared.line_place.LinePlace.{LinePlace}
 use Rattle.sq_serve.specs.declared.serve_answer.ServeAnswer.TheVariants.{Fault, Rows}
 use Rattle.sq_serve.specs.ServeAnswers.{serve_answer_line}
@@ -33,38 +33,38 @@ GivesRows saves None lines before after = WritesBytes (rows_told lines) before a
 GivesRows saves (Some name) lines before after = (saved : Bool) × saves name lines saved × WritesBytes (saved_line saved lines) before after
 
 -- the same of the lines of an engine's rows
-pub record RowsAreGiven (saves : List ℕ → List ℕ → Bool → Type 0) (engine : Standing) (file : Option (List ℕ))
+pub record RowsAreGiven (saves : List ℕ → List ℕ → Bool → Type 0) (engine : EngineValue) (file : Option (List ℕ))
     (before after : ServeDeskValue) : Type 0 where
   pub stores : List StoreValue
-  pub lent : stores_in engine ≡ Some stores
+  pub lent : rows_in engine ≡ Some stores
   pub lines : List ℕ
   pub is : IsRowsText stores lines
   pub gives : GivesRows saves file lines before after
 
 -- the one line that refuses rows
-abbrev pub not_taken_line : NotTaken → LinePlace → List ℕ
-not_taken_line untaken.Moving place = refused_line 217
-not_taken_line untaken.Memory place = serve_answer_line (Fault memory_number place.line None)
+abbrev pub not_ended_line : NotEnded → LinePlace → List ℕ
+not_ended_line unended.Moving place = refused_line 217
+not_ended_line unended.Memory place = serve_answer_line (Fault memory_number place.line None)
 
 -- why the rows of an engine can't be had: rows move, or memory ran out
-abbrev pub WithholdsRows : Standing → NotTaken → Type 0
-WithholdsRows engine untaken.Moving = EngineRests engine → ⊥
-WithholdsRows engine untaken.Memory = Unit {0}
+abbrev pub WithholdsRows : EngineValue → NotEnded → Type 0
+WithholdsRows engine unended.Moving = rests engine ≡ false
+WithholdsRows engine unended.Memory = Unit {0}
 
 -- a line that asks for rows is answered by them, or by one line with the reason why not
-abbrev pub AnswersRows : (List ℕ → List ℕ → Bool → Type 0) → AskedRows → Standing → ServeDeskValue → Standing → ServeDeskValue → Type 0
+abbrev pub AnswersRows : (List ℕ → List ℕ → Bool → Type 0) → AskedRows → EngineValue → ServeDeskValue → EngineValue → ServeDeskValue → Type 0
 AnswersRows saves asked old before new after =
     RowsAreGiven saves new asked.file before after
-    ⊎ ((why : NotTaken) × WithholdsRows old why × WritesBytes (not_taken_line why asked.place) before after)
+    ⊎ ((why : NotEnded) × WithholdsRows old why × WritesBytes (not_ended_line why asked.place) before after)
 
 -- the rows of an engine were written
-pub record TellsRows (engine : Standing) (before after : ServeDeskValue) : Type 0 where
+pub record TellsRows (engine : EngineValue) (before after : ServeDeskValue) : Type 0 where
   pub stores : List StoreValue
-  pub lent : stores_in engine ≡ Some stores
+  pub lent : rows_in engine ≡ Some stores
   pub lines : List ℕ
   pub is : IsRowsText stores lines
   pub told : WritesBytes (rows_told lines) before after
 
 -- an engine continued, and either its rows or other lines were written
-abbrev pub TellsRowsOrSpeaks : Standing → ServeDeskValue → Standing → ServeDeskValue → Type 0
-TellsRowsOrSpeaks old before new after = KeepsHistoryAndJobs old new × (TellsRows new before after ⊎ Speaks before after)
+abbrev pub TellsRowsOrSpeaks : EngineValue → ServeDeskValue → EngineValue → ServeDeskValue → Type 0
+TellsRowsOrSpeaks old before new after = Keeps old new × (TellsRows new before after ⊎ Speaks before after)

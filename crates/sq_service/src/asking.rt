@@ -1,5 +1,5 @@
 // What the lines after a header ask.
-ghost use Rattle.std.specs.Prelude.{◌≡◌, Ok};
+ghost use Rattle.std.specs.Prelude.{Ok};
 ghost use Rattle.sq_schema.specs.declared.schema.TheConstants.{MAX_TABLES};
 ghost use Rattle.sq_serve.specs.ServeLines.{serve_line_of, IsServeLine};
 ghost use Rattle.sq_service.specs.Reading.{IsAskedBy};

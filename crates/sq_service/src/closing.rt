@@ -1,103 +1,132 @@
 // How an engine that is served is closed.
-ghost use Rattle.std.specs.Prelude.{◌≡◌, ◌≢◌, [], length, sum_by, IfOk, IfErr};
-ghost use Rattle.sq_ranges.specs.Prelude.{IsSetUp};
-ghost use Rattle.sq_server.specs.declared.ending.ServeEnding.TheVariants.{Unwritten};
+ghost use Rattle.std.specs.Prelude.{◌≡◌, ◌⊎◌, ◌^◌, ◌<◌, length, sum_by, OnOk, IfErr, IsSome};
+ghost use Rattle.sq_engine.specs.Engine.{Keeps, HasClosed, rows_in, verdict_on};
+ghost use Rattle.sq_server.specs.declared.ending.ServeEnding.TheVariants.{Memory};
 ghost use Rattle.sq_server.specs.Becoming.{desk_value};
-ghost use Rattle.sq_service.specs.Ends.{ServiceEndsBy, ClosedEndsBy, DeskEndsBy};
+ghost use Rattle.sq_engine.specs.Ending.{logged_in};
+ghost use Rattle.sq_service.specs.Ends.{families_with_rows, ClosedEndsBy, ClosesWith};
 
-use crate::page_audit::{audit_closed, count_families};
-use sq_engine::{Closed, Engine};
+use sq_audit::Verdict;
+use sq_engine::Engine;
 use sq_server::{InputOutcome, ServeDesk, ServeEnding};
+use sq_slab::SlabStore;
 use std::alloc::Global;
 use std::io::Write;
 use std::sync::Wait;
-use std::thread::Threads;
 
 /// Closes an engine at rest, and returns how it ends; if a job waits beside its queue, the engine
-/// continues instead. `committed` jobs were committed on the pages before.
-pub(crate) fn close_unless_jobs_wait<T: Threads + Wait + Sync, W: Write + Drop>(
+/// continues instead.
+pub(crate) fn close_unless_jobs_wait<T: Wait, W: Write + Drop>(
     rt: &T,
     alloc: Global,
-    engine: Engine,
+    engine: &mut Engine,
     desk: &ServeDesk<W>,
-    committed: u64,
-) -> Result<Engine, ServeEnding>
-    ensures continues { IfOk result (λ next. next ≡ engine) }
-    ensures ends { IfErr result (λ ending. ServiceEndsBy committed [] engine ending) }
-    ensures written { IfErr result (λ ending.
-        DeskEndsBy ending (desk_value W.contents desk.now)) }
+) -> Result<(), ServeEnding>
+    ensures continues { OnOk result (engine.new ≡ engine.old) }
+    ensures ends { IfErr result (λ ending. ClosesWith ending engine.old engine.new
+        (desk_value W.contents desk.now)) }
 {
     if desk.sides.waiting() > 0 {
-        return Ok(engine);
+        return Ok(());
     }
-    Err(close_unless_stopped(rt, alloc, engine, desk, committed))
+    Err(close_unless_stopped(rt, alloc, engine, desk))
 }
 
 // Closes an engine, unless its desk has stopped, and returns how it ends.
-fn close_unless_stopped<T: Threads + Wait + Sync, W: Write + Drop>(
+fn close_unless_stopped<T: Wait, W: Write + Drop>(
     rt: &T,
     alloc: Global,
-    engine: Engine,
+    engine: &mut Engine,
     desk: &ServeDesk<W>,
-    committed: u64,
 ) -> ServeEnding
     requires { sum_by length desk.now.sides ≡ 0 }
-    ensures ends { ServiceEndsBy committed [] engine result }
-    ensures written { DeskEndsBy result (desk_value W.contents desk.now) }
+    ensures { ClosesWith result engine.old engine.new (desk_value W.contents desk.now) }
 {
     match desk.stop_ending() {
-        Some(ending) => {
-            drop(engine);
-            ending
-        }
+        Some(ending) => ending,
         None => {
             let input = desk.end.unwrap_or(InputOutcome::Broken);
-            close(rt, alloc, engine, committed, input)
+            close(rt, alloc, engine, input)
         }
     }
 }
 
 // Closes an engine whose input ended with `input`, and returns how it ends.
-fn close<T: Threads + Wait + Sync>(
-    rt: &T,
-    alloc: Global,
-    engine: Engine,
-    committed: u64,
-    input: InputOutcome,
-) -> ServeEnding
-    ensures ends { ServiceEndsBy committed [] engine result }
-    ensures not_unwritten { result ≢ Unwritten }
+fn close<T: Wait>(rt: &T, alloc: Global, engine: &mut Engine, input: InputOutcome) -> ServeEnding
+    ensures { (HasClosed engine.old engine.new × ClosedEndsBy engine.new result)
+        ⊎ ((result ≡ Memory) × Keeps engine.old engine.new) }
 {
     match engine.close(rt, alloc) {
-        Ok(closed) => {
-            let ending = judge_closed(rt, alloc, &closed, committed, input);
-            drop(closed);
-            ending
-        }
-        Err(refused) => {
-            drop(refused);
-            ServeEnding::Memory
-        }
+        Ok(verdict) => judge_closed(engine, verdict, input),
+        Err(_) => ServeEnding::Memory,
     }
 }
 
-// How a closed engine ends whose input ended with `input`.
-fn judge_closed<T: Threads + Sync>(
-    rt: &T,
-    alloc: Global,
-    closed: &Closed,
-    committed: u64,
-    input: InputOutcome,
-) -> ServeEnding
-    ensures ends { ClosedEndsBy committed closed.now result }
-    ensures set_up { IsSetUp closed.now.opening }
+// Returns how a closed engine ends with `verdict` whose input ended with `input`.
+fn judge_closed(engine: &Engine, verdict: Verdict, input: InputOutcome) -> ServeEnding
+    requires verdict { verdict ≡ verdict_on engine.now.jobs }
+    requires rows { IsSome (rows_in engine.now) }
+    ensures { ClosedEndsBy engine.now result }
 {
-    match audit_closed(rt, alloc, closed) {
-        Ok(counts) => ServeEnding::Sound {
-            families: count_families(&closed.gathered.stores),
-            committed: committed.saturating_add(counts.committed),
-            input,
-        },
-        Err(ending) => ending,
+    match verdict {
+        Verdict::Sound => {
+            let Some(stores) = engine.rows() else {
+                unreachable!()
+            };
+            ServeEnding::Sound {
+                families: count_families(stores),
+                committed: count_logged(stores),
+                input,
+            }
+        }
+        Verdict::Unsound(defect) => ServeEnding::Unsound(defect),
     }
+}
+
+// Returns how many families in `stores` have rows; the most that 64 bits count if they are more.
+fn count_families(stores: &[SlabStore]) -> u64
+    ensures { sum_by families_with_rows stores.now < 2 ^ 64
+        → result ≡ sum_by families_with_rows stores.now }
+{
+    let mut count: u64 = 0;
+    for store in stores {
+        count = count.saturating_add(count_with_rows(store));
+    }
+    count
+}
+
+// Returns the same of one store.
+fn count_with_rows(store: &SlabStore) -> u64
+    ensures { families_with_rows store.now < 2 ^ 64 → result ≡ families_with_rows store.now }
+{
+    let mut count: u64 = 0;
+    for family in store.families() {
+        if !family.rows().is_empty() {
+            count = count.saturating_add(1);
+        }
+    }
+    count
+}
+
+// Returns how many transactions the logs of the families in `stores` have; the most that 64 bits
+// count if they are more.
+fn count_logged(stores: &[SlabStore]) -> u64
+    ensures { sum_by logged_in stores.now < 2 ^ 64 → result ≡ sum_by logged_in stores.now }
+{
+    let mut count: u64 = 0;
+    for store in stores {
+        count = count.saturating_add(count_in(store));
+    }
+    count
+}
+
+// Returns the same of one store.
+fn count_in(store: &SlabStore) -> u64
+    ensures { logged_in store.now < 2 ^ 64 → result ≡ logged_in store.now }
+{
+    let mut count: u64 = 0;
+    for family in store.families() {
+        count = count.saturating_add(family.position());
+    }
+    count
 }

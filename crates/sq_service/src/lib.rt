@@ -3,14 +3,11 @@
 #![tactic(auto)]
 
 mod asking;
-mod beside;
 mod closing;
 mod epochs;
 mod feeds;
 pub mod laws;
 mod moving;
-mod page_audit;
-mod page_book;
 mod plan_line;
 mod reading;
 mod rows;

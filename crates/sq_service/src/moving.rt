@@ -1,10 +1,10 @@
 // Moves of an engine that is served.
-ghost use Rattle.std.specs.Prelude.{◌≡◌, None, Some, IfOk, IfErr};
+ghost use Rattle.std.specs.Prelude.{◌≡◌, None, Some, IfOk, OnOk, IfErr};
 ghost use Rattle.sq_serve.specs.declared.serve_answer.ServeAnswer.TheVariants.{Moved};
 ghost use Rattle.sq_serve.specs.ServeAnswers.{serve_answer_line};
 ghost use Rattle.sq_server.specs.Becoming.{desk_value, Speaks};
 ghost use Rattle.sq_server.specs.declared.ending.ServeEnding.TheVariants.{Memory};
-ghost use Rattle.sq_service.specs.Steps.{GoesOrLacksMemory};
+ghost use Rattle.sq_service.specs.Steps.{MovesOrLacksMemory};
 ghost use Rattle.sq_service.specs.Wishes.{WritesText, EndsMove, TellsMove, RefusesMove, AnswersMove};
 
 use crate::telling::{tell_moved, tell_moving, unread_refusal};
@@ -20,50 +20,47 @@ use std::thread::Threads;
 pub(crate) fn begin_move<T: Threads + Wait + Sync, W: Write + Drop, V: ServeWatch>(
     rt: &T,
     alloc: Global,
-    engine: Engine,
+    engine: &mut Engine,
     asked: AskedMove,
     desk: &mut ServeDesk<W>,
     watch: &V,
-) -> Result<Engine, ServeEnding>
-    ensures gives { GoesOrLacksMemory engine (desk_value W.contents desk.old)
-        result (desk_value W.contents desk.new) }
-    ensures answers { IfOk result (λ next. AnswersMove asked.plan engine
-        (desk_value W.contents desk.old) next (desk_value W.contents desk.new)) }
+) -> Result<(), ServeEnding>
+    ensures gives { MovesOrLacksMemory asked.plan engine.old (desk_value W.contents desk.old)
+        result engine.new (desk_value W.contents desk.new) }
+    ensures answers { OnOk result (AnswersMove asked.plan engine.old
+        (desk_value W.contents desk.old) engine.new (desk_value W.contents desk.new)) }
 {
     let AskedMove { place, plan } = asked;
     let text = plan.write().ok();
     match engine.move_to(rt, alloc, plan) {
-        Ok(engine) => tell_begun(engine, desk, watch),
-        Err((why, engine)) => refuse_move(engine, why, desk, watch, place, text),
+        Ok(()) => tell_begun(engine, desk, watch),
+        Err(why) => refuse_move(engine, why, desk, watch, place, text),
     }
 }
 
 // Refuses the move to the plan with this text that a line asks for, or ends the engine if memory
 // ran out.
 fn refuse_move<W: Write + Drop, V: ServeWatch>(
-    engine: Engine,
+    engine: &Engine,
     why: NotMoved,
     desk: &mut ServeDesk<W>,
     watch: &V,
     place: LinePlace,
     text: Option<String>,
-) -> Result<Engine, ServeEnding>
-    ensures gives { GoesOrLacksMemory engine (desk_value W.contents desk.old)
-        result (desk_value W.contents desk.new) }
-    ensures refuses { IfOk result (λ next. RefusesMove why
+) -> Result<(), ServeEnding>
+    ensures speaks { Speaks (desk_value W.contents desk.old) (desk_value W.contents desk.new) }
+    ensures refuses { OnOk result (RefusesMove why
         (desk_value W.contents desk.old) (desk_value W.contents desk.new)) }
+    ensures memory { IfErr result (λ ending. ending ≡ Memory) }
 {
     match why {
         NotMoved::Plans(fault) => {
             let number = fault.number();
             desk.say_refused(watch, unread_refusal(number, place));
-            explain_move(&engine, watch, number, place, desk.plan.as_str(), text);
-            Ok(engine)
+            explain_move(engine, watch, number, place, desk.plan.as_str(), text);
+            Ok(())
         }
-        NotMoved::Moving | NotMoved::Memory => {
-            drop(engine);
-            Err(ServeEnding::Memory)
-        }
+        NotMoved::Moving | NotMoved::Memory => Err(ServeEnding::Memory),
     }
 }
 
@@ -90,15 +87,14 @@ fn explain_move<V: ServeWatch>(
 
 // Writes that a move begins, and that it is done if nothing moves.
 fn tell_begun<W: Write + Drop, V: ServeWatch>(
-    engine: Engine,
+    engine: &Engine,
     desk: &mut ServeDesk<W>,
     watch: &V,
-) -> Result<Engine, ServeEnding>
-    ensures gives { GoesOrLacksMemory engine (desk_value W.contents desk.old)
-        result (desk_value W.contents desk.new) }
-    ensures same { IfOk result (λ next. next ≡ engine) }
-    ensures tells { IfOk result (λ next. TellsMove next
+) -> Result<(), ServeEnding>
+    ensures speaks { Speaks (desk_value W.contents desk.old) (desk_value W.contents desk.new) }
+    ensures tells { OnOk result (TellsMove engine.now
         (desk_value W.contents desk.old) (desk_value W.contents desk.new)) }
+    ensures memory { IfErr result (λ ending. ending ≡ Memory) }
 {
     let progress = MoveProgress {
         segments: engine.opening().recon().segments().len() as u64,
@@ -108,13 +104,7 @@ fn tell_begun<W: Write + Drop, V: ServeWatch>(
         segments: progress.segments,
     });
     tell_moving(desk, progress);
-    match note_rest(&engine, desk, watch) {
-        Ok(()) => Ok(engine),
-        Err(ending) => {
-            drop(engine);
-            Err(ending)
-        }
-    }
+    note_rest(engine, desk, watch)
 }
 
 /// Writes that a move is done, if one was under way and nothing moves any more.

@@ -1,12 +1,12 @@
 // The rows of an engine that is served.
 ghost use Rattle.std.specs.Prelude.{◌⊎◌, IfOk, IsSome, Some};
-ghost use Rattle.sq_engine.specs.declared.pause.NotTaken.TheVariants as untaken;
-ghost use Rattle.sq_engine.specs.Engine.{stores_in};
+ghost use Rattle.sq_engine.specs.declared.engine.NotEnded.TheVariants as unended;
+ghost use Rattle.sq_engine.specs.Engine.{rows_in};
 ghost use Rattle.sq_server.specs.Becoming.{desk_value, WritesBytes};
-ghost use Rattle.sq_service.specs.Rows.{IsRowsText, GivesRows, RowsAreGiven, TellsRowsOrSpeaks, not_taken_line, AnswersRows};
+ghost use Rattle.sq_service.specs.Rows.{IsRowsText, GivesRows, RowsAreGiven, TellsRowsOrSpeaks, not_ended_line, AnswersRows};
 
 use crate::telling::unread_refusal;
-use sq_engine::{Engine, NotTaken};
+use sq_engine::{Engine, NotEnded};
 use sq_results::write_stored_rows;
 use sq_schema::OUT_OF_MEMORY;
 use sq_serve::{LinePlace, RowsFile, ServeAnswer, ServeWatch, line_ends};
@@ -28,41 +28,35 @@ const UNWRITTEN: u16 = 124;
 pub(crate) fn tell_rows<R: Wait, W: Write + Drop, V: ServeWatch>(
     rt: &R,
     alloc: Global,
-    engine: Engine,
+    engine: &mut Engine,
     desk: &mut ServeDesk<W>,
     watch: &V,
     asked: AskedRows,
-) -> Engine
-    ensures tells { TellsRowsOrSpeaks engine (desk_value W.contents desk.old)
-        result (desk_value W.contents desk.new) }
-    ensures answers { AnswersRows (V.Saves watch.now) asked engine
-        (desk_value W.contents desk.old) result (desk_value W.contents desk.new) }
+)
+    ensures tells { TellsRowsOrSpeaks engine.old (desk_value W.contents desk.old)
+        engine.new (desk_value W.contents desk.new) }
+    ensures answers { AnswersRows (V.Saves watch.now) asked engine.old
+        (desk_value W.contents desk.old) engine.new (desk_value W.contents desk.new) }
 {
-    match engine.pause(rt, alloc) {
-        Ok(engine) => {
-            give_engine_rows(alloc, &engine, desk, watch, asked);
-            engine
-        }
-        Err((why, engine)) => {
-            say_not_paused(desk, watch, why, asked.place);
-            engine
-        }
+    match engine.end_epoch(rt, alloc) {
+        Ok(()) => give_engine_rows(alloc, engine, desk, watch, asked),
+        Err(why) => say_not_ended(desk, watch, why, asked.place),
     }
 }
 
 // Answers a line that asks for rows with the reason why they can't be had.
-fn say_not_paused<W: Write + Drop, V: ServeWatch>(
+fn say_not_ended<W: Write + Drop, V: ServeWatch>(
     desk: &mut ServeDesk<W>,
     watch: &V,
-    why: NotTaken,
+    why: NotEnded,
     place: LinePlace,
 )
-    ensures { WritesBytes (not_taken_line why place) (desk_value W.contents desk.old)
+    ensures { WritesBytes (not_ended_line why place) (desk_value W.contents desk.old)
         (desk_value W.contents desk.new) }
 {
     match why {
-        NotTaken::Moving => desk.say_refused(watch, unread_refusal(MOVING, place)),
-        NotTaken::Memory => desk.say_fault(watch, unread_refusal(OUT_OF_MEMORY, place)),
+        NotEnded::Moving => desk.say_refused(watch, unread_refusal(MOVING, place)),
+        NotEnded::Memory => desk.say_fault(watch, unread_refusal(OUT_OF_MEMORY, place)),
     }
 }
 
@@ -75,13 +69,13 @@ fn give_engine_rows<W: Write + Drop, V: ServeWatch>(
     watch: &V,
     asked: AskedRows,
 )
-    requires { IsSome (stores_in engine.now) }
+    requires { IsSome (rows_in engine.now) }
     ensures { RowsAreGiven (V.Saves watch.now) engine.now asked.file
         (desk_value W.contents desk.old) (desk_value W.contents desk.new)
-        ⊎ WritesBytes (not_taken_line untaken.Memory asked.place)
+        ⊎ WritesBytes (not_ended_line unended.Memory asked.place)
         (desk_value W.contents desk.old) (desk_value W.contents desk.new) }
 {
-    let Some(stores) = engine.stores() else {
+    let Some(stores) = engine.rows() else {
         unreachable!()
     };
     match rows_text(alloc, stores) {

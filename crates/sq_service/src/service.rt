@@ -1,12 +1,9 @@
 // An engine that is served, epoch by epoch.
-ghost use Rattle.std.specs.Prelude.{◌≡◌, None};
 ghost use Rattle.sq_server.specs.Becoming.{desk_value};
 ghost use Rattle.sq_service.specs.Steps.{StepGives};
 ghost use Rattle.sq_service.specs.Service.{HasEndedWithOutlet};
 
-use crate::beside::Beside;
-use crate::epochs::{ServiceStep, go_through_epoch};
-use crate::page_book::PageBook;
+use crate::epochs::run_epoch;
 use crate::wishes::go_on;
 use sq_engine::Engine;
 use sq_serve::ServeWatch;
@@ -16,58 +13,45 @@ use std::io::Write;
 use std::sync::Wait;
 use std::thread::Threads;
 
-/// Serves an engine that has no page yet, epoch by epoch, until it ends.
-pub(crate) fn serve_engine<T: Threads + Wait + Sync, W: Write + Drop, V: ServeWatch>(
+/// Serves an engine epoch by epoch until it ends.
+pub(crate) fn run_epochs<T: Threads + Wait + Sync, W: Write + Drop, V: ServeWatch>(
     rt: &T,
     alloc: Global,
-    engine: Engine,
+    engine: &mut Engine,
     desk: ServeDesk<W>,
     watch: &V,
 ) -> (Outlet<W>, ServeEnding)
-    ensures { HasEndedWithOutlet W.contents engine (desk_value W.contents desk)
-        result.1 result.0 }
+    ensures { HasEndedWithOutlet (V.Saves watch.now) W.contents
+        engine.old (desk_value W.contents desk) result.1 engine.new result.0 }
 {
-    let beside = Beside::new(watch);
-    let mut book = PageBook::new();
-    let mut engine = engine;
     let mut desk = desk;
     for _ in rt.forever() {
-        let step = serve_step(rt, alloc, engine, desk, &beside, &mut book);
-        desk = step.desk;
-        match step.engine {
-            Ok(next) => engine = next,
-            Err(ending) => {
-                drop(book);
-                return (desk.into_outlet(), ending);
-            }
+        let (next, step) = run_epoch_and_wish(rt, alloc, engine, desk, watch);
+        match step {
+            Ok(()) => desk = next,
+            Err(ending) => return (next.into_outlet(), ending),
         }
     }
     unreachable!()
 }
 
 // Flushes the output, serves an epoch, and does what the epoch ended for.
-fn serve_step<T: Threads + Wait + Sync, W: Write + Drop, V: ServeWatch>(
+fn run_epoch_and_wish<T: Threads + Wait + Sync, W: Write + Drop, V: ServeWatch>(
     rt: &T,
     alloc: Global,
-    engine: Engine,
+    engine: &mut Engine,
     desk: ServeDesk<W>,
-    beside: &Beside<'_, V>,
-    book: &mut PageBook,
-) -> ServiceStep<W>
-    ensures { StepGives book.old engine (desk_value W.contents desk)
-        book.new result.engine (desk_value W.contents result.desk) }
+    watch: &V,
+) -> (ServeDesk<W>, Result<(), ServeEnding>)
+    ensures { StepGives (V.Saves watch.now) engine.old (desk_value W.contents desk)
+        result.1 engine.new (desk_value W.contents result.0) }
 {
     let mut desk = desk;
     desk.flush();
-    let ServiceStep { mut desk, engine } = go_through_epoch(rt, alloc, engine, desk, beside, book);
-    match engine {
-        Ok(engine) => {
-            let engine = go_on(rt, alloc, engine, &mut desk, beside.watch, book);
-            ServiceStep { desk, engine }
-        }
-        Err(ending) => ServiceStep {
-            desk,
-            engine: Err(ending),
-        },
+    let (mut desk, end) = run_epoch(rt, alloc, engine, desk, watch);
+    if end.is_err() {
+        return (desk, end);
     }
+    let step = go_on(rt, alloc, engine, &mut desk, watch);
+    (desk, step)
 }

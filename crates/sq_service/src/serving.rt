@@ -8,7 +8,7 @@ ghost use Rattle.sq_service.specs.Service.{first_desk, ServesOpening, ServesSome
 
 use crate::feeds::{Feeds, Header};
 use crate::reading::read_all;
-use crate::service::serve_engine;
+use crate::service::run_epochs;
 use crate::telling::tell_ending;
 use rtrb::{Consumer, RingBuffer};
 use sq_engine::Engine;
@@ -27,8 +27,6 @@ use std::thread::{Builder, Threads};
 #[derive(Clone, Copy, Debug)]
 pub struct ServeConfig {
     pub pumps: u32,
-    /// After how many answers a page is taken.
-    pub fold_after: u64,
     /// Whether the input ends after its first line that is refused or has a fault.
     pub is_strict: bool,
 }
@@ -67,16 +65,16 @@ where
     W: Write + Drop,
     V: ServeWatch,
     requires { config.pumps ≤ MAX_PUMPS }
-    ensures { ServesWriter W.contents writer result.0 result.1 }
+    ensures { ServesWriter (V.Saves watch.now) W.contents writer result.0 result.1 }
 {
     let outlet = Outlet::new(writer);
-    let (outlet, ending) = serve_input(rt, alloc, input, places, outlet, config, watch);
+    let (outlet, ending) = read_and_answer(rt, alloc, input, places, outlet, config, watch);
     let (outlet, ending) = tell_ending(outlet, ending);
     (outlet.writer, ending)
 }
 
 // The same, without the line of the ending.
-fn serve_input<T, I, P, W, V>(
+fn read_and_answer<T, I, P, W, V>(
     rt: &T,
     alloc: Global,
     input: I,
@@ -92,10 +90,10 @@ where
     W: Write + Drop,
     V: ServeWatch,
     requires { config.pumps ≤ MAX_PUMPS }
-    ensures { ServesSome W.contents outlet result.1 result.0 }
+    ensures { ServesSome (V.Saves watch.now) W.contents outlet result.1 result.0 }
 {
     match start_reader(rt, alloc, input, places) {
-        Ok(handed) => serve_handed(rt, alloc, handed, outlet, config, watch),
+        Ok(handed) => await_header(rt, alloc, handed, outlet, config, watch),
         Err(ending) => (outlet, ending),
     }
 }
@@ -141,7 +139,7 @@ fn open_rings<P: LinePlaces + Drop>(
 }
 
 // Serves an engine from what the reader hands on.
-fn serve_handed<T: Threads + Wait + Sync, W: Write + Drop, V: ServeWatch>(
+fn await_header<T: Threads + Wait + Sync, W: Write + Drop, V: ServeWatch>(
     rt: &T,
     alloc: Global,
     handed: Handed,
@@ -150,13 +148,13 @@ fn serve_handed<T: Threads + Wait + Sync, W: Write + Drop, V: ServeWatch>(
     watch: &V,
 ) -> (Outlet<W>, ServeEnding)
     requires { config.pumps ≤ MAX_PUMPS }
-    ensures { ServesSome W.contents outlet result.1 result.0 }
+    ensures { ServesSome (V.Saves watch.now) W.contents outlet result.1 result.0 }
 {
     let Handed { mut header, lines } = handed;
     let read = wait_for(rt, &mut header);
     drop(header);
     match read {
-        Some(header) => serve_header(rt, alloc, header, lines, outlet, config, watch),
+        Some(header) => open_or_refuse(rt, alloc, header, lines, outlet, config, watch),
         None => {
             drop(lines);
             (outlet, ServeEnding::Memory)
@@ -165,7 +163,7 @@ fn serve_handed<T: Threads + Wait + Sync, W: Write + Drop, V: ServeWatch>(
 }
 
 // Serves the engine of a header. If the header has a fault, `watch` is told.
-fn serve_header<T: Threads + Wait + Sync, W: Write + Drop, V: ServeWatch>(
+fn open_or_refuse<T: Threads + Wait + Sync, W: Write + Drop, V: ServeWatch>(
     rt: &T,
     alloc: Global,
     header: Header,
@@ -175,10 +173,10 @@ fn serve_header<T: Threads + Wait + Sync, W: Write + Drop, V: ServeWatch>(
     watch: &V,
 ) -> (Outlet<W>, ServeEnding)
     requires { config.pumps ≤ MAX_PUMPS }
-    ensures { ServesSome W.contents outlet result.1 result.0 }
+    ensures { ServesSome (V.Saves watch.now) W.contents outlet result.1 result.0 }
 {
     match header {
-        Ok(opening) => serve_opening(rt, alloc, opening, lines, outlet, config, watch),
+        Ok(opening) => open_desk(rt, alloc, opening, lines, outlet, config, watch),
         Err(faulty) => {
             drop(lines);
             let fault = faulty.fault;
@@ -189,7 +187,7 @@ fn serve_header<T: Threads + Wait + Sync, W: Write + Drop, V: ServeWatch>(
 }
 
 // Serves the engine of an opening.
-fn serve_opening<T: Threads + Wait + Sync, W: Write + Drop, V: ServeWatch>(
+fn open_desk<T: Threads + Wait + Sync, W: Write + Drop, V: ServeWatch>(
     rt: &T,
     alloc: Global,
     opening: Opening,
@@ -199,12 +197,12 @@ fn serve_opening<T: Threads + Wait + Sync, W: Write + Drop, V: ServeWatch>(
     watch: &V,
 ) -> (Outlet<W>, ServeEnding)
     requires { config.pumps ≤ MAX_PUMPS }
-    ensures { ServesOpening W.contents opening
+    ensures { ServesOpening (V.Saves watch.now) W.contents opening
         (first_desk W.contents outlet (received lines.feed) opening.new.parts)
         outlet result.1 result.0 }
 {
     match desk_for(alloc, opening.new_plan(), lines, outlet, config) {
-        Ok(desk) => serve_at_desk(rt, alloc, opening, desk, config.pumps, watch),
+        Ok(desk) => open_engine(rt, alloc, opening, desk, config.pumps, watch),
         Err(outlet) => (outlet, ServeEnding::Memory),
     }
 }
@@ -226,7 +224,6 @@ fn desk_for<W: Write + Drop>(
         return Err(outlet);
     };
     let config = DeskConfig {
-        fold_after: config.fold_after,
         is_strict: config.is_strict,
     };
     let HandedLines { feed, bell } = lines;
@@ -238,7 +235,7 @@ fn desk_for<W: Write + Drop>(
 }
 
 // Opens an engine, and serves it with a desk.
-fn serve_at_desk<T: Threads + Wait + Sync, W: Write + Drop, V: ServeWatch>(
+fn open_engine<T: Threads + Wait + Sync, W: Write + Drop, V: ServeWatch>(
     rt: &T,
     alloc: Global,
     opening: Opening,
@@ -247,11 +244,18 @@ fn serve_at_desk<T: Threads + Wait + Sync, W: Write + Drop, V: ServeWatch>(
     watch: &V,
 ) -> (Outlet<W>, ServeEnding)
     requires { pumps ≤ MAX_PUMPS }
-    ensures { ServesOpening W.contents opening (desk_value W.contents desk)
+    ensures { ServesOpening (V.Saves watch.now) W.contents opening (desk_value W.contents desk)
         desk.outlet result.1 result.0 }
 {
+    // A root key's log goes on from the opening to the end.
+    let opening = opening.without_log_limit();
     match Engine::open(rt, alloc, opening, pumps) {
-        Ok(engine) => serve_engine(rt, alloc, engine, desk, watch),
+        Ok(mut engine) => {
+            let ended = run_epochs(rt, alloc, &mut engine, desk, watch);
+            // For the proof alone: what holds of every engine.
+            let _opening = engine.opening();
+            ended
+        }
         Err(opening) => {
             drop(opening);
             (desk.into_outlet(), ServeEnding::Memory)

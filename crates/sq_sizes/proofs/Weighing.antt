@@ -11,7 +11,7 @@ use Rattle.sq_schema.specs.Table.{TableValue}
 use Rattle.sq_schema.specs.Effect.{RowList}
 use Rattle.sq_schema.specs.Family.{rows_size}
 use Rattle.sq_sizes.specs.Cutting.{room_behind, chunks_more, chunks_from, chunks_to_cut}
-use Rattle.sq_sizes.specs.Sizes.{entries_size, in_64_bits, size_in_64_bits}
+use Rattle.sq_sizes.specs.Sizes.{in_64_bits}
 use Rattle.sq_sizes.specs.declared.size.Size.{Size}
 use Rattle.sq_sizes.specs.declared.cutting.Cutting.{Cutting}
 
@@ -101,33 +101,9 @@ weighs_next limit end all root rows rest size new_size cutting new_cutting low b
           (subst (λ (entries : TableValue). before.done.chunks + chunks_from limit cutting.room (sizes_in entries) ≡ chunks_to_cut limit (sizes_in (below end all)) + 1) taken before.chunks_left));
     }
 
--- nothing is left of a sum
-last_sum : (done left all : ℕ) → left ≡ 0 → done + left ≡ all → done ≡ all
-last_sum done left all none sum = omega arith
-
--- sizes of the same numbers
-same_size : (one other : Size) → one.families ≡ other.families → one.rows ≡ other.rows → one.bytes ≡ other.bytes → one.chunks ≡ other.chunks → one ≡ other
-same_size one other families rows bytes chunks =
-    let with : ℕ → ℕ → ℕ → ℕ → Size = λ f r b c. record { families = f; rows = r; bytes = b; chunks = c } in
-    ap (λ (n : ℕ). with n one.rows one.bytes one.chunks) families
-    ∙ ap (λ (n : ℕ). with other.families n one.bytes one.chunks) rows
-    ∙ ap (λ (n : ℕ). with other.families other.rows n one.chunks) bytes
-    ∙ ap (λ (n : ℕ). with other.families other.rows other.bytes n) chunks
-
 -- a number isn't below one that isn't above it
 not_below : (n end : ℕ) → end ≤ n → nat_lt n end ≡ false
 not_below n end high = grind (arith, nat_tests)
-
--- behind the last family
-pub weighs_all : (limit end : ℕ) (all rest : TableValue) (size : Size) (cutting : Cutting) → below end rest ≡ [] → Weighs limit end all rest size cutting → record size { chunks = cutting.chunks } ≡ size_in_64_bits (entries_size limit (below end all))
-weighs_all limit end all rest size cutting none weighed =
-    let families : weighed.done.families ≡ length (below end all) = last_sum _ _ _ (ap length none) weighed.families_left in
-    let rows : weighed.done.rows ≡ sum_by (λ entry. length entry.1) (below end all) = last_sum _ _ _ (ap (sum_by (λ entry. length entry.1)) none) weighed.rows_left in
-    let bytes : weighed.done.bytes ≡ sum_by (λ entry. rows_size entry.1) (below end all) = last_sum _ _ _ (ap (sum_by (λ entry. rows_size entry.1)) none) weighed.bytes_left in
-    let one : chunks_from limit cutting.room (sizes_in (below end rest)) ≡ 1 = ap (λ (entries : TableValue). chunks_from limit cutting.room (sizes_in entries)) none in
-    let left = weighed.chunks_left in
-    let chunks : weighed.done.chunks ≡ chunks_to_cut limit (sizes_in (below end all)) = omega arith in
-    same_size _ _ (weighed.families ∙ ap in_64_bits families) (weighed.rows ∙ ap in_64_bits rows) (weighed.bytes ∙ ap in_64_bits bytes) (weighed.chunks ∙ ap in_64_bits chunks)
 
 -- none are below, where the first isn't, or there is none
 pub none_below : (end : ℕ) (root : ℕ) (rows : RowList) (rest : TableValue) → end ≤ root → below end ((root, rows) ∷ rest) ≡ []

@@ -4,7 +4,7 @@ ghost use Rattle.sq_ranges.specs.Between.{recon_fault};
 ghost use Rattle.sq_ranges.specs.Refused.{HasFitSizes};
 
 use crate::size::Size;
-use sq_ranges::{Config, MAX_WIDTH, Opening, Recon};
+use sq_ranges::{Config, LOG_LIMIT, MAX_WIDTH, Opening, Recon};
 
 // How many leaves the root keys that move are to make, at most.
 const LEAVES_OF_MOVE: u64 = 4_096;
@@ -14,7 +14,7 @@ const LEAST_LIMIT: u64 = 1_024;
 
 const MOST_LIMIT: u64 = 65_536;
 
-// How many chunks a large move is to have, unless they have more than so many bytes.
+// A large move has this many chunks, and more if they would exceed `LARGE_LIMIT` bytes.
 const CHUNKS_OF_MOVE: u64 = 1_024;
 
 const LARGE_LIMIT: u64 = 16_384;
@@ -38,6 +38,7 @@ pub(crate) fn proposal(opening: &Opening) -> Config
         width,
         limit: limit_for(Size::of_move(opening), width),
         capacity: CAPACITY,
+        log_limit: LOG_LIMIT,
     }
 }
 

@@ -26,6 +26,7 @@ pub(crate) fn write_lines<W: Write>(writer: &mut W, opening: &Opening) -> io::Re
         width,
         limit,
         capacity,
+        ..
     } = proposal(opening);
     writeln!(writer, "config {width} {limit} {capacity}")
 }

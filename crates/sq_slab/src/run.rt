@@ -122,7 +122,7 @@ fn are_keyed(families: &[Family])
     ensures { AreKeyed families.now }
 {
     for family in families {
-        let _ = family.log();
+        let _ = family.position();
     }
 }
 

@@ -91,55 +91,10 @@ module _ (many : ℕ) (holds : ℕ → Bool) where
         ];
       }
 
-  -- it doesn't hold of one number more, which isn't set
-  pub pass_next : (next : ℕ) (marks : List Bool) → AreMarked many next holds marks → holds next ≡ false → AreMarked many (next + 1) holds marks
-  pass_next next marks so_far none = record {
-    length_is = so_far.length_is;
-    each = λ k. elim (cases_eq k next) [
-      | inl same ↦
-          so_far.each k ∙ ap (λ low. low && holds k) (le-ltb k next (omega (arith, same)))
-          ∙ sym (ap (λ low. low && holds k) (lt-ltb k (next + 1) (omega (arith, same))) ∙ ap holds same ∙ none)
-      | inr other ↦ so_far.each k ∙ ap (λ low. low && holds k) (one_more next k other)
-    ];
-  }
-
 -- of the partitions below this number those have reported in the stage that may
 pub record AreHeard (o : OpeningValue) (stage : ℕ) (whole : List Bool) (next : ℕ) (at : StageValue) : Type 0 where
   pub leads : LeadsStage o stage at
   pub marks : AreMarked o.old.parts next (all_marked_complete o.recon stage whole) at.reported
-
-module _ (o : OpeningValue) (stage : ℕ) (whole : List Bool) where
-  same_has_all : (next : ℕ) (at : StageValue) → AreHeard o stage whole next at → all_marked_complete o.recon stage whole next ≡ all_marked_complete at.recon at.stage whole next
-  same_has_all next at so_far = λ i. all_marked_complete (sym so_far.leads.recon_is i) (sym so_far.leads.stage_is i) whole next
-
-  pub none_heard : (at : StageValue) → at ≡ leading o stage → AreHeard o stage whole 0 at
-  none_heard at is = subst (AreHeard o stage whole 0) (sym is) (record {
-    leads = record { recon_is = refl; stage_is = refl };
-    marks = none_yet o.old.parts (all_marked_complete o.recon stage whole);
-  })
-
-  -- one more may and did
-  pub one_heard : (next : ℕ) (at : StageValue) → next < o.old.parts → AreHeard o stage whole next at → all_marked_complete at.recon at.stage whole next ≡ true
-      → AreHeard o stage whole (next + 1) (record at { reported = with_mark at.reported next })
-  one_heard next at lt so_far may = record {
-    leads = record { recon_is = so_far.leads.recon_is; stage_is = so_far.leads.stage_is };
-    marks = set_next o.old.parts (all_marked_complete o.recon stage whole) next at.reported true lt so_far.marks (sym (same_has_all next at so_far ∙ may));
-  }
-
-  -- one more may not
-  pub one_unheard : (next : ℕ) (at : StageValue) → AreHeard o stage whole next at → all_marked_complete at.recon at.stage whole next ≡ false → AreHeard o stage whole (next + 1) at
-  one_unheard next at so_far may_not = record {
-    leads = so_far.leads;
-    marks = pass_next o.old.parts (all_marked_complete o.recon stage whole) next at.reported so_far.marks (same_has_all next at so_far ∙ may_not);
-  }
-
-  -- they all said so
-  pub all_heard : (next : ℕ) (at : StageValue) → next ≡ o.old.parts → AreHeard o stage whole next at → HaveReported o stage whole at
-  all_heard next at is so_far = record {
-    leads = so_far.leads;
-    parts = so_far.marks.length_is;
-    each = λ k. so_far.marks.each k ∙ ap (λ n. nat_lt k n && all_marked_complete o.recon stage whole k) is;
-  }
 
 -- the segment of this number moves in the stage
 record IsOfStage (recon : ReconValue) (stage seg : ℕ) (segment : Range) : Type 0 where

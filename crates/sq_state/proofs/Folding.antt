@@ -1,10 +1,10 @@
 -- The result of a fold of a partition's logs.
-use Rattle.std.proofs.Common.{◌≡◌, ℕ, ◌<◌, false, List, map, length, get_or, set, Ok, sym, ap, ◌∙◌, arith}
+use Rattle.std.proofs.Common.{◌≡◌, ℕ, ◌<◌, List, map, length, get_or, set, Ok, sym, ap, ◌∙◌, arith}
 use Rattle.std.specs.Prelude.{nat_le, if◌then◌else◌}
 use Rattle.sq_exec.specs.CoreValue.{CoreValue, PartCoreValue, folded_core}
 use Rattle.sq_model.specs.declared.step.Phase.TheVariants.{Ended}
 use Rattle.sq_model.specs.declared.step.Phase.{Phase}
-use Rattle.sq_model.specs.declared.answer.Answer.TheVariants.{Done, Refused}
+use Rattle.sq_model.specs.declared.answer.Answer.TheVariants.{Done}
 use Rattle.sq_model.specs.declared.answer.Refusal.TheVariants.{NoSuchPartition, NotFinished}
 use Rattle.sq_model.specs.Leader.{is_ended_phase}
 use Rattle.sq_transition.specs.WorldValue.{WorldValue, core_at, with_core}
@@ -22,11 +22,4 @@ fold_done w parts number part after done are sound exists is ended folded =
     let went : StepResult = (Done, with_core w number (folded_core (core_at w number))) in
     ap (λ (cores : List CoreValue). (Done, record w { cores = cores })) (core_written w parts are number after (folded_core (core_at w number)) (folded ∙ ap folded_core (core_read w parts are number part lt is)))
     ∙ ap (λ (p : Phase). if is_ended_phase p then went else refuse w NotFinished) (sym ended)
-    ∙ passed (nat_le w.old.parts number) NoSuchPartition w (if is_ended_phase (phase_of w.leader) then went else refuse w NotFinished) done exists
-
--- one that comes too early
-pub fold_early : (w : WorldValue) (number : ℕ) (done : Unit {0}) → Ok done ≡ refuse_if (nat_le w.old.parts number) NoSuchPartition → is_ended_phase (phase_of w.leader) ≡ false → (Refused NotFinished, w) ≡ fold_result w number
-fold_early w number done exists early =
-    let went : StepResult = (Done, with_core w number (folded_core (core_at w number))) in
-    ap (λ b. if b then went else refuse w NotFinished) (sym early)
     ∙ passed (nat_le w.old.parts number) NoSuchPartition w (if is_ended_phase (phase_of w.leader) then went else refuse w NotFinished) done exists

@@ -5,7 +5,6 @@ use Rattle.std.specs.List.{list_any, list_all, range_with_len}
 use Rattle.std.proofs.lemmas.Bool.{eq-eqb, lt-ltb}
 use Rattle.std.proofs.lemmas.List.Sums.{list_all-from_AllPass}
 use Rattle.std.proofs.lemmas.Option.{slice_get-get_or}
-use Rattle.sq_plan.specs.PlanValue.{PlanValue}
 use Rattle.sq_ranges.specs.ReconValue.{ReconValue, of_stage, stages, goes_into}
 use Rattle.sq_leader.specs.declared.leader.Leader.{Leader}
 use Rattle.sq_leader.specs.declared.leader.Leader.TheVariants.{Preparing, Moving, Ended}
@@ -66,16 +65,6 @@ counted at part given next is answer =
         → next ≡ record at { reported = with_mark at.reported part }
     by_stage true same is = cc
     by_stage false same is = absurd cc
-
-pub never_refused : (plan : PlanValue) (recon : ReconValue) (whole : List Bool) (at : StageValue) (part : ℕ) (given : ReportValue) (back : RefusedCall StageValue StageFault)
-    → Ok given ≡ made_answer plan recon at.stage whole part → Err back ≡ answer_to_report at given → ⊥
-never_refused plan recon whole at part given back answer refused =
-    let so = made (nat_le plan.parts part) (all_marked_complete recon at.stage whole part) report.NoSuchPartition report.NotFinished (let named : ReportValue = record { part = part; stage = at.stage } in named) given answer in
-    by_stage (at.stage == at.stage) (eq-eqb at.stage at.stage refl) (refused ∙ ap (answer_to_report at) so.2)
-  where
-    by_stage : (here : Bool) → here ≡ true → Err back ≡ (let r : Result StageValue (RefusedCall StageValue StageFault) = if here then Ok (record at { reported = with_mark at.reported part }) else Err (record { leader = at; fault = stage_fault.OtherStage }) in r) → ⊥
-    by_stage true same is = cc
-    by_stage false same is = cc
 
 module _ (w : WorldValue) where
   -- a refused call leaves the leader as it was

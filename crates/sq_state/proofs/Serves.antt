@@ -113,7 +113,7 @@ was_false false is = refl
 not_coming : (core : CoreValue) (place : ℕ) (txn : TxnValue) → position (is_ready_here core) core.waiting ≡ Some place → slice_get core.waiting place ≡ Some txn → is_coming_here core txn.root ≡ false
 not_coming core place txn first found =
     let ready : is_ready_here core txn ≡ true = ap (is_ready_here core) (sym (get_or_from_slice_get core.waiting place txn txn found)) ∙ (position-Some (is_ready_here core) core.waiting place txn first).1 in
-    was_false (is_coming_here core txn.root) (and_parts (not (is_coming_here core txn.root)) (not (is_stuck core.part (route core txn.root) core.store txn)) ready).0
+    was_false (is_coming_here core txn.root) (and_parts (not (is_coming_here core txn.root)) (not (is_stuck core txn.root)) ready).0
 
 resume_refused_by : (w : WorldValue) (number : ℕ) (place : Option ℕ) (fault : ResumeFault) → position (is_ready_here (core_at w number)) (core_at w number).waiting ≡ place
     → fault ≡ unwrap_or (resume_refusal (core_at w number)) resume.Memory → IsResult (Resume number) w (resumed_at w number place) (answer.Refused (resume_refused fault)) w

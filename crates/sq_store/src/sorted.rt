@@ -85,7 +85,7 @@ pub fn put_last(families: &mut Vec<Family>, family: Family)
     ensures keyed { AreKeyed families.old.items → AreKeyed families.new.items }
 {
     // For the proof alone: the log is of the family's root key.
-    let _ = family.log();
+    let _ = family.position();
     families.push_reserved(family);
 }
 

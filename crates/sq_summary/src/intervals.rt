@@ -4,7 +4,9 @@ ghost use Rattle.std.specs.List.{range_with_len};
 ghost use Rattle.sq_summary.specs.Intervals.{answered_in, interval_of, most_in};
 
 use crate::moment::Moment;
-use crate::svg::{BOTTOM, HEIGHT, LEFT, WIDTH, interval_len, share_of, write_label};
+use crate::svg::{
+    PLOT_BOTTOM, PLOT_HEIGHT, PLOT_LEFT, PLOT_WIDTH, interval_len, share_of, write_label,
+};
 use std::alloc::{AllocError, Global};
 use std::io;
 use std::io::Write;
@@ -91,7 +93,7 @@ fn write_interval<W: Write>(
     if start > u128::from(micros) {
         return Ok(());
     }
-    let x = LEFT + share_of(start as u64, micros, WIDTH);
-    let y = BOTTOM - share_of(interval.jobs, most, HEIGHT);
+    let x = PLOT_LEFT + share_of(start as u64, micros, PLOT_WIDTH);
+    let y = PLOT_BOTTOM - share_of(interval.jobs, most, PLOT_HEIGHT);
     write!(writer, "H{x}V{y}")
 }

@@ -25,6 +25,6 @@ pub use json_form::figures_json;
 pub use moment::{Event, Happened, Moment, StageStart, TimedAnswer, moments_of};
 pub use part_figures::PartFigures;
 pub use spread::{Spread, spread_of};
-pub use svg::write_svg;
+pub use svg::{PLOT_BOTTOM, PLOT_HEIGHT, PLOT_LEFT, PLOT_WIDTH, write_svg};
 pub use text_form::write_figures;
 pub use times::{Times, write_times};

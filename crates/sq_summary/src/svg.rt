@@ -8,17 +8,17 @@ use std::alloc::Global;
 use std::io;
 use std::io::Write;
 
-/// The left edge of the plot.
-pub(crate) const LEFT: u64 = 130;
+/// The left edge of the plot of [`write_svg`].
+pub const PLOT_LEFT: u64 = 130;
 
-/// The bottom of the plot, measured from the top.
-pub(crate) const BOTTOM: u64 = 760;
+/// The bottom of that plot, measured from the top of the chart.
+pub const PLOT_BOTTOM: u64 = 760;
 
-/// The width of the plot.
-pub(crate) const WIDTH: u64 = 1400;
+/// The width of that plot.
+pub const PLOT_WIDTH: u64 = 1400;
 
-/// The height of the plot.
-pub(crate) const HEIGHT: u64 = 600;
+/// The height of that plot.
+pub const PLOT_HEIGHT: u64 = 600;
 
 // What is written before the ticks: the styles, the lines of percentages, and the title of the axis
 // of time.
@@ -155,7 +155,7 @@ pub(crate) fn write_start<W: Write>(
     name: &str,
     number: u64,
 ) -> io::Result<()> {
-    let x = LEFT + share_of(start, micros, WIDTH);
+    let x = PLOT_LEFT + share_of(start, micros, PLOT_WIDTH);
     writeln!(
         writer,
         "<path class=\"stage\" d=\"M{x} 160V760\"/><text class=\"soft\" x=\"{x}\" y=\"150\" font-size=\"20\">{name} {number}</text>"
@@ -203,7 +203,7 @@ fn write_tick<W: Write>(writer: &mut W, micros: u64, step: u64, tick: u64) -> io
     if at > u128::from(micros) {
         return Ok(());
     }
-    let x = LEFT + share_of(at as u64, micros, WIDTH);
+    let x = PLOT_LEFT + share_of(at as u64, micros, PLOT_WIDTH);
     write!(
         writer,
         "<path class=\"grid\" d=\"M{x} 160V772\"/><text class=\"soft\" x=\"{x}\" y=\"806\" text-anchor=\"middle\">"
@@ -242,8 +242,8 @@ fn write_curve<W: Write>(
     )?;
     write!(writer, "<path class=\"{class}\" d=\"M130 760")?;
     for moment in moments {
-        let x = LEFT + share_of(moment.micros, all.micros, WIDTH);
-        let y = BOTTOM - share_of(curve.count(*moment), count, HEIGHT);
+        let x = PLOT_LEFT + share_of(moment.micros, all.micros, PLOT_WIDTH);
+        let y = PLOT_BOTTOM - share_of(curve.count(*moment), count, PLOT_HEIGHT);
         write!(writer, "H{x}V{y}")?;
     }
     writer.write_all(b"H1530\"/>\n")

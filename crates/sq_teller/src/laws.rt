@@ -1,14 +1,25 @@
-//! A law of receipts sent over a ring. The function does nothing: it states a law, which the
-//! checker proves.
+//! Laws of receipts that are sent or collected. The functions do nothing: each states a law, which
+//! the checker proves.
 ghost use Rattle.std.specs.Prelude.{List};
 ghost use Rattle.rtrb.specs.Ring.{SameProducer};
 ghost use Rattle.sq_node_model.specs.Prelude.{ReceiptValue};
 ghost use Rattle.sq_driver.specs.Told.{HasTold};
 ghost use Rattle.sq_teller.specs.declared.ring.RingTeller.{RingTeller};
 ghost use Rattle.sq_teller.specs.Sent.{SendsWhatIsWritten};
+ghost use Rattle.sq_teller.specs.declared.collector.Collector.{Collector};
+ghost use Rattle.sq_teller.specs.Collected.{CollectsWhatIsWritten};
 
+use crate::collector::Collector;
 use crate::ring::RingTeller;
 use sq_driver::Teller;
+
+/// After a node was driven, what its collector has grew by exactly the receipts that the node
+/// wrote, each once and in their order, unless it broke off.
+pub fn a_collector_has_what_is_written()
+    ensures { (old new : List ReceiptValue) (before after : Collector)
+        → HasTold ⟦<Collector as Teller>⟧.Tells old before new after
+        → CollectsWhatIsWritten old before new after }
+{}
 
 /// After a node was driven, what its teller has sent has grown by exactly the receipts that the
 /// node wrote, each once and in their order, unless the teller broke off; and the teller still

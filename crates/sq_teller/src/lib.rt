@@ -1,8 +1,10 @@
-//! Sends receipts to another thread: a teller sends each over a ring, in the order in which they
-//! were written.
+//! Tellers: one sends each receipt over a ring to another thread, one collects them, both in the
+//! order in which they were written.
 #![tactic(auto)]
 
+mod collector;
 pub mod laws;
 mod ring;
 
+pub use collector::Collector;
 pub use ring::RingTeller;

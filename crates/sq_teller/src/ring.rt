@@ -1,19 +1,18 @@
 // Tellers that send receipts over a ring.
-ghost use Rattle.std.specs.Prelude.{◌≡◌, true, false, [], ◌∷◌, ◌++◌, IfOk};
+ghost use Rattle.std.specs.Prelude.{◌≡◌, true, false, [], ◌∷◌, ◌++◌};
 ghost use Rattle.rtrb.specs.Ring.{sent, SameProducer};
 
 use rtrb::{Producer, PushError};
 use sq_driver::{Teller, rest};
 use sq_node::Receipt;
-use std::alloc::AllocError;
 use std::sync::Wait;
 
 // The longest sleep before a full ring is tried again, in microseconds.
 const LONGEST_REST: u64 = 2_000;
 
 /// A teller that sends each receipt over a ring to another thread. It waits while the ring is full.
-/// If there is no memory for a receipt, or the ring is full and its other end is gone, it breaks
-/// off: it sends neither that receipt nor any later one.
+/// If the ring is full and its other end is gone, it breaks off: it sends neither that receipt nor
+/// any later one.
 #[derive(Drop)]
 pub struct RingTeller {
     /// The sending end of the ring.
@@ -27,26 +26,13 @@ impl Teller for RingTeller {
 
     ghost Tells = { SendsOrBreaksOff };
 
-    fn tell<R: Wait>(&mut self, rt: &R, receipt: &Receipt) {
+    fn tell<R: Wait>(&mut self, rt: &R, receipt: Receipt) {
         if self.broke_off {
-            return;
-        }
-        match copy_of(receipt) {
-            Ok(copy) => self.broke_off = !push_waiting(rt, &mut self.producer, copy),
-            Err(_) => self.broke_off = true,
+            drop(receipt);
+        } else {
+            self.broke_off = !push_waiting(rt, &mut self.producer, receipt);
         }
     }
-}
-
-fn copy_of(receipt: &Receipt) -> Result<Receipt, AllocError>
-    ensures { IfOk result (λ copy. copy ≡ receipt.now) }
-{
-    Ok(Receipt {
-        id: receipt.id,
-        root: receipt.root,
-        position: receipt.position,
-        reply: receipt.reply.clone()?,
-    })
 }
 
 // Sends `receipt` and returns true. Waits while the ring is full, and returns false if its other

@@ -293,15 +293,6 @@ module _ (tables : ℕ) (first : FirstLines) (v0 v1 : LinesValue) (begins : Firs
       let a = begins end left can in
       (a.0, a.1, λ apart. let is : plans_fault first ≡ Some f = fault_told (plans_fault first) f may apart in rw (a.2, is) refl)
 
--- the line of a fault of an opening is none of the first two
-pub no_early_line : (f : OpeningFault) → IfSome (of_opening f).line (λ line. 3 ≤ line_number line)
-no_early_line opening.Memory = tt
-no_early_line (opening.Recon f) = omega arith
-no_early_line opening.Limit = omega arith
-no_early_line opening.Capacity = omega arith
-no_early_line (opening.Row at f) = omega arith
-no_early_line (opening.Place at f) = omega arith
-
 abbrev pub HeaderRead : ℕ → Result OpeningValue LocatedFault → LinesValue → LinesValue → Type 0
 HeaderRead tables r old new = Leaves old new (λ all left. Opens tables r left (header_of tables all))
 

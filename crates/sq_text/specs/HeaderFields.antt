@@ -4,6 +4,7 @@ use Rattle.sq_ranges.specs.declared.opening.Config.{Config}
 use Rattle.sq_ranges.specs.Given.{GivenValue}
 use Rattle.sq_text.specs.Words.{Word, ◌>>=◌}
 use Rattle.sq_text.specs.Fields.{number_field, key_field, signed_field, note_field, value_at_end}
+use Rattle.sq_ranges.specs.declared.opening.TheConstants.{LOG_LIMIT}
 
 -- the sizes: W L C
 unfoldable pub config_in : List Word → Option Config
@@ -11,7 +12,7 @@ config_in words = do
   width ← number_field words
   limit ← number_field width.1
   capacity ← number_field limit.1
-  value_at_end (Some (record { width = width.0; limit = limit.0; capacity = capacity.0 }, capacity.1))
+  value_at_end (Some (record { width = width.0; limit = limit.0; capacity = capacity.0; log_limit = LOG_LIMIT }, capacity.1))
 
 -- an opening row: ROOT T S N NOTE
 unfoldable pub given_in : List Word → Option GivenValue

@@ -53,7 +53,7 @@ fn put_family(text: &mut Text, family: &Family)
     ensures text { text.new ≡ decimal family.now.root ++ (32 ∷ decimal (length family.now.log)) }
     ensures size { length text.new ≤ 41 }
 {
-    text.put_number(family.log().len() as u64);
+    text.put_number(family.position());
     text.put_byte(b' ');
     text.put_number(family.root().number());
 }

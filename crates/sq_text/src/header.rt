@@ -18,7 +18,7 @@ use crate::step::MAX_LINE;
 use crate::words::Words;
 use sq_lines::{LineReader, Next};
 use sq_plan::{Plan, PlanFault};
-use sq_ranges::{Config, GivenRow, Opening};
+use sq_ranges::{Config, GivenRow, LOG_LIMIT, Opening};
 use sq_schema::{RowKey, Schema};
 use std::alloc::Global;
 use std::io::Read;
@@ -92,6 +92,7 @@ fn config(mut words: Words<'_>) -> Result<Config, Malformed>
             width,
             limit,
             capacity,
+            log_limit: LOG_LIMIT,
         }),
     }
 }

@@ -1,43 +1,53 @@
 -- How a run changes: all nodes and all pumps are its nodes and its pumps still.
 use Rattle.std.proofs.Common.{◌≡◌, ℕ, ◌+◌, ◌<◌, List, length, get_or, Some, refl, sym, ◌∙◌, subst, ⊎_elim}
-use Rattle.std.specs.Prelude.{◌≢◌, slice_get, slice_set, All}
-use Rattle.std.proofs.lemmas.List.{length-set}
-use Rattle.std.proofs.lemmas.Option.{slice_get-get_or, slice_get_read}
+use Rattle.std.specs.Prelude.{◌≢◌, slice_get, slice_set}
+use Rattle.std.proofs.lemmas.List.{length-set, map-set}
+use Rattle.std.proofs.lemmas.Option.{slice_get_read}
 use Rattle.sq_pull.specs.Seats.{AreSeatsOf, OnlyClaimed}
 use Rattle.sq_pull.specs.Pump.{PumpValue}
+use Rattle.sq_node_model.proofs.Lists.{at_map}
 use Rattle.sq_node_model.proofs.Members.{set_stood}
 use Rattle.sq_node.specs.FabricValue.{FabricValue}
 use Rattle.sq_node.specs.NodeState.{NodeState, IsNodeOf}
 use Rattle.sq_node.specs.Opened.{AreFirstSeats}
+use Rattle.sq_driver.specs.declared.teller.TellingNode.{TellingNode}
+use Rattle.sq_driver.specs.Told.{nodes_of}
+use Rattle.sq_teller.specs.declared.collector.Collector.{Collector}
 use Rattle.sq_gather.specs.Gathered.{AreAllOf, IsPumpOf}
 use Rattle.sq_gather.proofs.AllOf.{pump_claimed}
 use Rattle.sq_gather.proofs.Workers.{set_apart}
+use Rattle.sq_run.proofs.Collected.{Pairs, node_of}
+
+-- the node of a pair that was read
+node_there : (pairs : Pairs) (i : ℕ) (pair : TellingNode Collector) → i < length pairs → pair ≡ get_or pairs i pair → slice_get (nodes_of pairs) i ≡ Some pair.node
+node_there pairs i pair within read = at_map node_of pairs i pair (slice_get_read pairs (length pairs) i pair refl within read)
 
 -- the node of a place is one of the run
-pub node_at : (fabric : FabricValue) (nodes : List NodeState) (pumps : List PumpValue) (i : ℕ) (node : NodeState) → AreAllOf fabric nodes pumps → i < length nodes → node ≡ get_or nodes i node → IsNodeOf fabric node
-node_at fabric nodes pumps i node whole within read = whole.each_node i node (slice_get_read nodes (length nodes) i node refl within read)
-
-pub all_nodes : (fabric : FabricValue) (nodes : List NodeState) (pumps : List PumpValue) → AreAllOf fabric nodes pumps → All (IsNodeOf fabric) nodes
-all_nodes fabric nodes pumps whole = λ i d within. whole.each_node i (get_or nodes i d) (slice_get-get_or nodes i d within)
-
-pub all_pumps : (fabric : FabricValue) (nodes : List NodeState) (pumps : List PumpValue) → AreAllOf fabric nodes pumps → All (λ (pump : PumpValue). AreSeatsOf fabric.trees pump.seats) pumps
-all_pumps fabric nodes pumps whole = λ i d within. (whole.each_pump i (get_or pumps i d) (slice_get-get_or pumps i d within)).seats
+pub node_at : (fabric : FabricValue) (pairs : Pairs) (pumps : List PumpValue) (i : ℕ) (pair : TellingNode Collector) → AreAllOf fabric (nodes_of pairs) pumps → i < length pairs → pair ≡ get_or pairs i pair → IsNodeOf fabric pair.node
+node_at fabric pairs pumps i pair whole within read = whole.each_node i pair.node (node_there pairs i pair within read)
 
 -- one node changed
-pub with_node : (fabric : FabricValue) (nodes : List NodeState) (pumps : List PumpValue) (i : ℕ) (old new : NodeState) → AreAllOf fabric nodes pumps → i < length nodes → old ≡ get_or nodes i old → IsNodeOf fabric new → new.core.part ≡ old.core.part
+node_set : (fabric : FabricValue) (nodes : List NodeState) (pumps : List PumpValue) (i : ℕ) (old new : NodeState) → AreAllOf fabric nodes pumps → slice_get nodes i ≡ Some old → IsNodeOf fabric new → new.core.part ≡ old.core.part
     → AreAllOf fabric (slice_set nodes i new) pumps
-with_node fabric nodes pumps i old new whole within read of part =
+node_set fabric nodes pumps i old new whole there of part =
     record {
       seats = subst (λ (count : ℕ). AreFirstSeats (count + length pumps) fabric.trees fabric.seats) (sym (length-set nodes i new)) whole.seats;
       count = length-set nodes i new ∙ whole.count;
-      apart = set_apart nodes i old new whole.apart (slice_get_read nodes (length nodes) i old refl within read) part;
-      each_node = λ k node there.
+      apart = set_apart nodes i old new whole.apart there part;
+      each_node = λ k node stands.
           ⊎_elim
           (λ (here : (k ≡ i) × (new ≡ node)). subst (IsNodeOf fabric) here.1 of)
           (λ (apart : (k ≢ i) × (slice_get nodes k ≡ Some node)). whole.each_node k node apart.1)
-          (set_stood nodes i k new node there);
+          (set_stood nodes i k new node stands);
       each_pump = whole.each_pump;
     }
+
+-- the same with the tellers
+pub with_node : (fabric : FabricValue) (pairs : Pairs) (pumps : List PumpValue) (i : ℕ) (old new : TellingNode Collector) → AreAllOf fabric (nodes_of pairs) pumps → i < length pairs → old ≡ get_or pairs i old → IsNodeOf fabric new.node
+    → new.node.core.part ≡ old.node.core.part → AreAllOf fabric (nodes_of (slice_set pairs i new)) pumps
+with_node fabric pairs pumps i old new whole within read of part =
+    subst (λ (nodes : List NodeState). AreAllOf fabric nodes pumps) (sym (map-set node_of pairs i new))
+    (node_set fabric (nodes_of pairs) pumps i old.node new.node whole (node_there pairs i old within read) of part)
 
 -- one pump changed
 pub with_pump : (fabric : FabricValue) (nodes : List NodeState) (pumps : List PumpValue) (i : ℕ) (old new : PumpValue) → AreAllOf fabric nodes pumps → i < length pumps → old ≡ get_or pumps i old → AreSeatsOf fabric.trees new.seats → OnlyClaimed old.seats new.seats

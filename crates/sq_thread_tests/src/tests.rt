@@ -5,7 +5,6 @@ mod driver;
 mod gates;
 mod live;
 mod node;
-mod page;
 mod round;
 mod run;
 mod stages;

@@ -104,7 +104,7 @@ module _ (o : OpeningValue) (t : Trace) (w : WorldValue) (part : ℕ) (facts : R
   ready_same txn has =
       elim (cases_Bool (is_coming o t part txn.root)) [
         | inl coming ↦
-            ap (λ b. not b && not (is_stuck core.part (route core txn.root) core.store txn)) (coming_same txn.root ∙ coming)
+            ap (λ b. not b && not (is_stuck core txn.root)) (coming_same txn.root ∙ coming)
             ∙ sym (ap (λ b. not b && not (is_full o t txn.root)) coming)
         | inr gone ↦
             let runs = runs_it txn has gone in
@@ -133,7 +133,7 @@ module _ (o : OpeningValue) (t : Trace) (w : WorldValue) (part : ℕ) (facts : R
       let txn = slice_index_or core.waiting place no_txn in
       let at = position-Some (is_ready_here core) core.waiting place no_txn first in
       let has = Contains-slice_get core.waiting place txn (slice_get-get_or core.waiting place no_txn at.0) in
-      let here : is_coming_here core txn.root ≡ false = not-true (is_coming_here core txn.root) (and_parts (not (is_coming_here core txn.root)) (not (is_stuck core.part (route core txn.root) core.store txn)) at.1).0 in
+      let here : is_coming_here core txn.root ≡ false = not-true (is_coming_here core txn.root) (and_parts (not (is_coming_here core txn.root)) (not (is_stuck core txn.root)) at.1).0 in
       let some : are_coming o t part ≡ false = sym all_coming ∙ list_all_at (λ txn. is_coming_here core txn.root) core.waiting place no_txn at.0 here in
       let found : first_ready o t part ≡ Some txn =
       found_at (is_ready o t part) (waiting o t part) place no_txn (sym first_same ∙ first) ∙ ap (λ txns. Some (slice_index_or txns place no_txn)) (sym waits_are) in

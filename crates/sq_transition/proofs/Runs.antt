@@ -10,7 +10,6 @@ use Rattle.sq_schema.specs.TxnValue.{TxnValue}
 use Rattle.sq_schema.specs.declared.txn.Reply.{Reply}
 use Rattle.sq_schema.specs.declared.txn.Reply.TheVariants.{Committed, Aborted}
 use Rattle.sq_schema.specs.Effect.{RowList, RowTable, reply, only}
-use Rattle.sq_schema.specs.declared.family.TheConstants.{MAX_LOG}
 use Rattle.sq_schema.specs.Family.{FamilyValue, rows_of, family_stands, logged}
 use Rattle.sq_chunk.specs.ChunkValue.{ChunkValue, covers}
 use Rattle.sq_store.specs.StoreValue.{family_at, store_reply, store_after}
@@ -202,5 +201,5 @@ reply_same o t w part txn h there placed = ap (λ f. reply (rows_of f) txn) (fam
 
 -- the log of its family is as full as the history says
 pub full_same : (o : OpeningValue) (t : Trace) (w : WorldValue) (part : ℕ) (txn : TxnValue) → PartsHold o t w → part < o.old.parts → place o t txn.root ≡ At part
-    → is_log_full (core_at w part).store txn ≡ is_full o t txn.root
-full_same o t w part txn h there placed = ap (λ (f : FamilyValue). nat_le MAX_LOG (length f.log)) (family_same o t w part txn.root h there placed)
+    → is_log_full (core_at w part).log_limit (core_at w part).store txn.root ≡ is_full o t txn.root
+full_same o t w part txn h there placed = λ i. nat_le ((h.partitions.each part there).set.log_limit i) (length ((family_same o t w part txn.root h there placed i).log))

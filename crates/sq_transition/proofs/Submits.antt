@@ -51,7 +51,7 @@ routed_is o t part txn (Some who) = refl
 abbrev ran_result : WorldValue → ℕ → TxnValue → StepResult
 ran_result w part txn =
     let core = core_at w part in
-    if is_log_full core.store txn then refuse w LogFull
+    if is_log_full core.log_limit core.store txn.root then refuse w LogFull
     else (Replied txn.id (store_reply core.store txn), with_core w part (ran_core core txn (store_reply core.store txn) core.waiting))
 
 -- and of one that another partition runs
@@ -67,7 +67,7 @@ served_result w part txn here =
     (submitted w txn served.0, with_core w part (record core { store = served.1 }))
 
 served_cases : (w : WorldValue) (part : ℕ) (txn : TxnValue) (here : Bool)
-    → (if here && is_log_full (core_at w part).store txn then refuse w LogFull else served_result w part txn here) ≡ (if here then ran_result w part txn else moved_result w part txn)
+    → (if here && is_log_full (core_at w part).log_limit (core_at w part).store txn.root then refuse w LogFull else served_result w part txn here) ≡ (if here then ran_result w part txn else moved_result w part txn)
 served_cases w part txn true = refl
 served_cases w part txn false = refl
 
@@ -97,7 +97,7 @@ taken_cases w part txn =
     let core = core_at w part in
     let here = route core txn.root == core.part in
     taken_after w part txn (submit_refusal core txn)
-    ∙ refusal_cases w (must_wait core txn.root) (nat_le MAX_WAITING (length core.waiting)) (is_stuck core.part (route core txn.root) core.store txn) _ (served_result w part txn here)
+    ∙ refusal_cases w (must_wait core txn.root) (nat_le MAX_WAITING (length core.waiting)) (is_stuck core txn.root) _ (served_result w part txn here)
     ∙ ap (λ result. if must_wait core txn.root then wait_result w part txn else result) (served_cases w part txn here)
 
 -- the history after a transaction ran that was submitted

@@ -120,6 +120,7 @@ IsSetFor o t part core =
       plan : core.plan ≡ o.old;
       recon : core.recon ≡ o.recon;
       limit : core.limit ≡ o.config.limit;
+      log_limit : core.log_limit ≡ o.config.log_limit;
       started : core.started ≡ is_started t;
       stage : core.stage ≡ stage t;
       outs : length core.outs ≡ o.old.parts;

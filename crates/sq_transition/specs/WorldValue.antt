@@ -40,6 +40,7 @@ no_core = record {
   plan = record { version = First; parts = 0; ranges = [] };
   recon = record { width = 0; ranges = []; segments = []; auto = false };
   limit = 0;
+  log_limit = 0;
   started = false;
   stage = 0;
   store = empty;

@@ -18,12 +18,8 @@ pub(crate) enum EngineCall {
     GoTo(PlanChoice),
     /// This many jobs are posted to it, or fewer if there are no more or a queue is full.
     Post(u64),
-    /// Its workers run for this many turns.
-    Run(u64),
-    /// It serves its client for an epoch.
-    Serve,
-    /// A page is taken at rest, which must be sound.
-    TakePage,
+    /// It serves its client for an epoch, in which each worker takes at most this many turns.
+    Serve(u64),
 }
 
 /// A deed that is done with an engine.
@@ -33,20 +29,17 @@ pub enum Deed {
     GoTo(PlanChoice),
     /// This many jobs are posted to it, or fewer if there are no more or a queue is full.
     Post(u64),
-    /// Its workers run for this many turns, or until they are idle.
+    /// It serves its client while its workers take this many turns.
     Run(u64),
-    /// It serves its client until this many jobs are answered. At rest a page is taken if the
-    /// engine wants one.
+    /// It serves its client until this many jobs are answered.
     ServeUntil(u64),
     /// It serves its client until this many jobs have come back, since their queue was full.
     ServeUntilReturned(u64),
     /// It serves its client until nothing moves, one epoch per stage, and some jobs are posted as
     /// each begins. If a number is given, there must be that many stages.
     ServeStages(Option<u64>),
-    /// If it is at rest, a page is taken.
-    TakePage,
-    /// Jobs are posted and its workers run until nothing moves, and then once more.
-    RunToEnd,
+    /// It serves its client until nothing moves and each job is answered.
+    ServeToEnd,
     /// This many jobs must have been posted to it.
     HasPosted(u64),
     /// This many jobs must have been answered.

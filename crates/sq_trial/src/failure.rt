@@ -32,8 +32,8 @@ pub enum Failure {
     NotMoved,
     #[error("a move has another number of stages than its plan asks for")]
     WrongStages,
-    #[error("no page is taken")]
-    NotTaken,
-    #[error("a page is unsound")]
+    #[error("an engine isn't closed")]
+    NotClosed,
+    #[error("an engine is unsound")]
     Unsound,
 }

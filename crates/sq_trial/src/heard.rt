@@ -15,8 +15,8 @@ pub struct Heard {
 pub(crate) fn heard_in(receipt: &Receipt) -> Result<Heard, Failure> {
     match number_of(&receipt.reply) {
         Some(number) => Ok(Heard {
-            id: receipt.id,
-            root: receipt.root.number(),
+            id: receipt.txn.id(),
+            root: receipt.txn.root().number(),
             number,
         }),
         None => Err(Failure::WrongAnswer),

@@ -29,6 +29,11 @@ impl JobSource {
         }
     }
 
+    /// How many jobs there are.
+    pub fn jobs(&self) -> u64 {
+        self.workload.jobs
+    }
+
     /// How many jobs were made so far.
     pub fn made(&self) -> u64 {
         self.made

@@ -1,6 +1,6 @@
 //! A client of an engine that posts random jobs and judges all that it hears, and lists of deeds
 //! that are done with its engine: it runs, it serves the client, it moves to plans in one stage and
-//! in several, and pages are taken of it.
+//! in several.
 #![tactic(auto)]
 
 mod calls;

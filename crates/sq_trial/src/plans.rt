@@ -6,7 +6,7 @@ use crate::dice::Dice;
 use crate::failure::Failure;
 use sq_plan::Plan;
 use sq_ranges::{Config, GivenRow, Opening};
-use sq_schema::Schema;
+use sq_schema::{MAX_LOG, Schema};
 use std::alloc::{AllocError, Global};
 use std::io;
 use std::io::Write;
@@ -28,11 +28,13 @@ const IN_STAGES: &[u8] = br#"{"version":2,"partitions":4,"stages":"auto","ranges
 
 const RANGE_ROOTS: u64 = 5;
 
-// A leaf covers one root key, a chunk holds 64 bytes, and the queue of a link one chunk.
+// A leaf covers one root key, a chunk holds 64 bytes, and the queue of a link one chunk. A log has
+// no limit.
 const CONFIG: Config = Config {
     width: 1,
     limit: 64,
     capacity: 1,
+    log_limit: MAX_LOG,
 };
 
 /// The schema: one table.

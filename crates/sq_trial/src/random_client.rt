@@ -40,8 +40,6 @@ pub(crate) struct RandomClient {
     awaited: Awaited,
     // How many calls in vain there were since the last answer.
     asked_in_vain: u64,
-    // Whether it was served, and so heard the receipts of a page already.
-    was_served: bool,
     // The first thing that was wrong.
     failure: Option<Failure>,
 }
@@ -58,9 +56,13 @@ impl RandomClient {
             returned: 0,
             awaited: Awaited::Answers(0),
             asked_in_vain: 0,
-            was_served: false,
             failure: None,
         })
+    }
+
+    /// How many jobs it has, posted or not.
+    pub(crate) fn jobs(&self) -> u64 {
+        self.source.jobs()
     }
 
     /// How many of its jobs were posted.
@@ -114,29 +116,18 @@ impl RandomClient {
             let Some(job) = self.next_job()? else {
                 return Ok(());
             };
-            match engine.post(rt, job.part, &job.txn) {
-                Ok(()) => {}
-                Err(NotPosted::Refused(fault)) => return self.keep(job, fault),
-                Err(NotPosted::NoEpoch) => return Err(Failure::NotPosted),
+            if let Err((job, why)) = engine.post(rt, job) {
+                return match why {
+                    NotPosted::Refused(fault) => self.keep(job, fault),
+                    NotPosted::NoEpoch => Err(Failure::NotPosted),
+                };
             }
-        }
-        Ok(())
-    }
-
-    /// Hears the receipts of a page, unless it was served.
-    pub(crate) fn hear_page(&mut self, receipts: &[Receipt]) -> Result<(), Failure> {
-        if self.was_served {
-            return Ok(());
-        }
-        for receipt in receipts {
-            self.hearing.hear(heard_in(receipt)?)?;
         }
         Ok(())
     }
 
     // Hears an answer of a partition.
     fn hear(&mut self, part: PartId, receipt: &Receipt) -> Result<(), Failure> {
-        self.was_served = true;
         self.asked_in_vain = 0;
         self.hearing.hear_from(part.number(), heard_in(receipt)?)
     }

@@ -5,8 +5,8 @@ use crate::failure::Failure;
 use std::alloc::Global;
 
 /// The root keys move from one partition to four, in a stage for each of three, and back in one
-/// stage, `rounds` times, while jobs come. After each move a page is taken, and some more jobs are
-/// answered at rest. In the end `jobs` are answered. Fails if memory runs out.
+/// stage, `rounds` times, while jobs come. After each move some more jobs are answered at rest. In
+/// the end `jobs` are answered. Fails if memory runs out.
 pub fn rounds(alloc: Global, rounds: u64, jobs: u64) -> Result<Vec<Deed>, Failure> {
     let mut deeds = Vec::new(alloc);
     let part = jobs / rounds.saturating_mul(2).saturating_add(1);
@@ -29,16 +29,15 @@ fn add_round(deeds: &mut Vec<Deed>, answers: u64, more: u64) -> Result<(), Failu
     add(deeds, Deed::ServeUntil(answers.saturating_add(more)))
 }
 
-// A move of `stages` stages, and a page.
+// A move of `stages` stages.
 fn add_move(deeds: &mut Vec<Deed>, choice: PlanChoice, stages: u64) -> Result<(), Failure> {
     add(deeds, Deed::GoTo(choice))?;
-    add(deeds, Deed::ServeStages(Some(stages)))?;
-    add(deeds, Deed::TakePage)
+    add(deeds, Deed::ServeStages(Some(stages)))
 }
 
 /// Does `moves` moves, each to a random plan, in one stage or in several. Some jobs are answered
-/// during each of them, or it ends before. After some of the moves a page is taken. In the end
-/// `jobs` jobs are answered. Fails if memory runs out.
+/// during each of them, or it ends before. In the end `jobs` jobs are answered. Fails if memory
+/// runs out.
 pub fn any_moves(alloc: Global, seed: u64, moves: u64, jobs: u64) -> Result<Vec<Deed>, Failure> {
     let mut deeds = Vec::new(alloc);
     let mut dice = Dice::new(seed);
@@ -51,27 +50,23 @@ pub fn any_moves(alloc: Global, seed: u64, moves: u64, jobs: u64) -> Result<Vec<
     Ok(deeds)
 }
 
-// A move to any plan, until `answers` jobs are answered, and perhaps a page.
+// A move to any plan, until `answers` jobs are answered.
 fn add_any_move(deeds: &mut Vec<Deed>, dice: &mut Dice, answers: u64) -> Result<(), Failure> {
     add(deeds, Deed::GoTo(PlanChoice::Any(dice.below(u64::MAX))))?;
     add(deeds, Deed::ServeUntil(answers))?;
-    add(deeds, Deed::ServeStages(None))?;
-    if dice.below(2) == 0 {
-        add(deeds, Deed::TakePage)?;
-    }
-    Ok(())
+    add(deeds, Deed::ServeStages(None))
 }
 
 /// Runs `epochs` epochs, with some jobs posted before each; each ends after some turns. If the
-/// engine is at rest then, it may move to a random plan, or a page may be taken. In the end all
-/// jobs are answered. Fails if memory runs out.
+/// engine is at rest then, it may move to a random plan. In the end all jobs are answered. Fails if
+/// memory runs out.
 pub fn any_epochs(alloc: Global, seed: u64, epochs: u64) -> Result<Vec<Deed>, Failure> {
     let mut deeds = Vec::new(alloc);
     let mut dice = Dice::new(seed);
     for _epoch in 0..epochs {
         add_epoch(&mut deeds, &mut dice)?;
     }
-    add(&mut deeds, Deed::RunToEnd)?;
+    add(&mut deeds, Deed::ServeToEnd)?;
     Ok(deeds)
 }
 
@@ -81,7 +76,6 @@ fn add_epoch(deeds: &mut Vec<Deed>, dice: &mut Dice) -> Result<(), Failure> {
     add(deeds, Deed::Run(dice.below(64)))?;
     match dice.below(4) {
         0 => add(deeds, Deed::GoTo(PlanChoice::Any(dice.below(u64::MAX)))),
-        1 => add(deeds, Deed::TakePage),
         _ => Ok(()),
     }
 }

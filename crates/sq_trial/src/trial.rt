@@ -16,8 +16,6 @@ pub(crate) enum Rest {
     Moving,
     /// Nothing moves.
     AtRest,
-    /// Nothing moves, and a page should be taken.
-    LongLog,
 }
 
 /// An engine on trial, and how it rests.
@@ -59,13 +57,15 @@ where
 {
     match deed {
         Deed::GoTo(choice) => call_at_rest(make, tried, client, EngineCall::GoTo(choice)),
-        Deed::TakePage => call_at_rest(make, tried, client, EngineCall::TakePage),
         Deed::Post(count) => make(tried.engine, client, EngineCall::Post(count)),
-        Deed::Run(turns) => make(tried.engine, client, EngineCall::Run(turns)),
+        Deed::Run(turns) => {
+            client.wait_for(Awaited::Answers(u64::MAX));
+            make(tried.engine, client, EngineCall::Serve(turns))
+        }
         Deed::ServeUntil(answers) => serve_until(make, tried, client, Awaited::Answers(answers)),
         Deed::ServeUntilReturned(jobs) => serve_until(make, tried, client, Awaited::Returns(jobs)),
         Deed::ServeStages(wanted) => serve_stages(make, tried, client, wanted),
-        Deed::RunToEnd => run_to_end(make, tried, client),
+        Deed::ServeToEnd => serve_to_end(make, tried, client),
         Deed::HasPosted(count) => {
             check(client.posted() == count, Failure::WrongPosted)?;
             Ok(tried)
@@ -96,7 +96,7 @@ where
 {
     match tried.rest {
         Rest::Moving => Ok(tried),
-        Rest::AtRest | Rest::LongLog => make(tried.engine, client, call),
+        Rest::AtRest => make(tried.engine, client, call),
     }
 }
 
@@ -123,19 +123,32 @@ where
     Ok(tried)
 }
 
-// Serves a client for an epoch, and takes a page if the engine wants one.
+// Serves a client until nothing moves, and then until each of its jobs is answered.
+fn serve_to_end<E, F>(
+    make: &F,
+    tried: Tried<E>,
+    client: &mut RandomClient,
+) -> Result<Tried<E>, Failure>
+where
+    E: Drop,
+    F: Fn(E, &mut RandomClient, EngineCall) -> Result<Tried<E>, Failure>,
+    requires { F.IsAlwaysCallable make.now }
+{
+    let tried = serve_stages(make, tried, client, None)?;
+    let jobs = client.jobs();
+    serve_until(make, tried, client, Awaited::Answers(jobs))
+}
+
+// Serves a client for an epoch.
 fn serve<E, F>(make: &F, tried: Tried<E>, client: &mut RandomClient) -> Result<Tried<E>, Failure>
 where
     E: Drop,
     F: Fn(E, &mut RandomClient, EngineCall) -> Result<Tried<E>, Failure>,
     requires { F.IsAlwaysCallable make.now }
 {
-    let tried = make(tried.engine, client, EngineCall::Serve)?;
+    let tried = make(tried.engine, client, EngineCall::Serve(u64::MAX))?;
     client.judge_so_far()?;
-    match tried.rest {
-        Rest::LongLog => make(tried.engine, client, EngineCall::TakePage),
-        Rest::Moving | Rest::AtRest => Ok(tried),
-    }
+    Ok(tried)
 }
 
 // Serves a client until nothing moves, one epoch per stage. Fails if the number of stages isn't
@@ -180,44 +193,5 @@ where
     requires { F.IsAlwaysCallable make.now }
 {
     let tried = make(tried.engine, client, EngineCall::Post(STAGE_JOBS))?;
-    let tried = make(tried.engine, client, EngineCall::Serve)?;
-    client.judge_so_far()?;
-    Ok(tried)
-}
-
-// Posts jobs and runs until nothing moves, and then once more.
-fn run_to_end<E, F>(
-    make: &F,
-    tried: Tried<E>,
-    client: &mut RandomClient,
-) -> Result<Tried<E>, Failure>
-where
-    E: Drop,
-    F: Fn(E, &mut RandomClient, EngineCall) -> Result<Tried<E>, Failure>,
-    requires { F.IsAlwaysCallable make.now }
-{
-    let mut tried = tried;
-    for _epoch in 0..EPOCHS {
-        if tried.rest != Rest::Moving {
-            break;
-        }
-        tried = post_and_run(make, tried, client)?;
-    }
-    post_and_run(make, tried, client)
-}
-
-// Posts the jobs that are left, as long as the queues have room for them, and runs until the
-// workers are idle.
-fn post_and_run<E, F>(
-    make: &F,
-    tried: Tried<E>,
-    client: &mut RandomClient,
-) -> Result<Tried<E>, Failure>
-where
-    E: Drop,
-    F: Fn(E, &mut RandomClient, EngineCall) -> Result<Tried<E>, Failure>,
-    requires { F.IsAlwaysCallable make.now }
-{
-    let tried = make(tried.engine, client, EngineCall::Post(u64::MAX))?;
-    make(tried.engine, client, EngineCall::Run(u64::MAX))
+    serve(make, tried, client)
 }

@@ -12,8 +12,8 @@ use std::thread::Threads;
 
 /// Opens an engine at rest with the plan `choice`, does `deeds` with it while a client has the jobs
 /// of `workload`, and closes it. Fails if the client hears anything wrong: each job that was posted
-/// is answered once, the numbers of each root key are 1, 2, 3 and so on, those from one partition
-/// are in order, and each page is sound.
+/// is answered once, the numbers of each root key are 1, 2, 3 and so on, and those from one
+/// partition are in order.
 pub fn try_engine<R: Threads + Wait + Sync>(
     rt: &R,
     alloc: Global,
@@ -39,7 +39,7 @@ fn open_and_close<R: Threads + Wait + Sync>(
     };
     let opened = looked_at(open(rt, alloc, choice)?);
     let tried = do_deeds(&make, opened, client, deeds)?;
-    close(rt, alloc, tried.engine, client)
+    close(rt, alloc, tried.engine)
 }
 
 // An engine, and how it rests.

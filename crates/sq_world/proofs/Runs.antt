@@ -3,7 +3,6 @@ use Rattle.std.proofs.Common.{◌≡◌, ℕ, List, [], Option, inl, inr, refl, 
 use Rattle.std.specs.Prelude.{None, Some, Result, Ok, Err, IfOk}
 use Rattle.std.specs.Io.KnownBytes.{Keeps}
 use Rattle.sq_schema.specs.declared.schema.TheConstants.{MAX_TABLES}
-use Rattle.sq_ranges.specs.OpeningValue.{OpeningValue}
 use Rattle.sq_transition.specs.WorldValue.{WorldValue}
 use Rattle.sq_lines.specs.declared.reader.TheConstants.{MAX_LINES}
 use Rattle.sq_lines.specs.declared.reader.ReadState.TheVariants.{Open}

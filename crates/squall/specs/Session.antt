@@ -125,11 +125,15 @@ EndsOwners keys width before now status =
     (option_append (Some (plan_lines old new)) (Some (widest_config width))) before now) exit_status status)
     ⊎ (status ≡ 2)
 
+-- nothing is known of what a file holds in which rows were to be saved
+abbrev pub SavesAny : List ℕ → List ℕ → Bool → Type 0
+SavesAny = λ name text saved. Unit {0}
+
 -- the status is that of some ending of an engine, and if that ending is sound, so was the service;
 -- or it is 2, if a file can't be read or written, or memory ran out
 abbrev pub EndsEngine : Option (List ℕ) → Option (List ℕ) → ℕ → Type 0
 EndsEngine before now status =
-    ((ending : ServeEnding) × ServesSoundly before now ending × (status ≡ serve_status ending)) ⊎ (status ≡ 2)
+    ((ending : ServeEnding) × ServesSoundly SavesAny before now ending × (status ≡ serve_status ending)) ⊎ (status ≡ 2)
 
 -- what a line asks for was done with the text that was read, or that of the files, unless a file
 -- can't be read, and ended with this status
@@ -137,7 +141,7 @@ abbrev pub EndsLine : Line → Option (List ℕ) → Option (List ℕ) → Optio
 EndsLine (Work task input) known before now status = EndsMain task input.plans input.file known before now status
 EndsLine (Owner keys plans width) known before now status = EndsOwners keys.items width before now status
 EndsLine (Demo demo folder) known before now status = (status ≡ 0) ⊎ (status ≡ 2)
-EndsLine (Serve pumps fold_after strict files file reports) known before now status = EndsEngine before now status
+EndsLine (Serve pumps strict files file reports) known before now status = EndsEngine before now status
 EndsLine (Explain number) known before now status = EndsAs (Explains number before now) explain_status status
 
 -- the words have no fault, and what their subcommand asks for ended with this status

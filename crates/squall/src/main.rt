@@ -248,7 +248,6 @@ where
         Ok(
             Line::Serve {
                 pumps,
-                fold_after,
                 strict,
                 files,
                 file,
@@ -257,7 +256,6 @@ where
         ) => {
             let config = ServeConfig {
                 pumps,
-                fold_after,
                 is_strict: strict,
             };
             let input = EngineInput {

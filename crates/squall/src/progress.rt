@@ -1,6 +1,6 @@
 // The progress of a live run, shown meanwhile.
 use sq_driver::{Gate, NodeStep, WorkerEvent};
-use sq_live::{Gathered, Job, Watch};
+use sq_live::{Gathered, Job, Receipt, Watch};
 use sq_ranges::Opening;
 use sq_report::Stopwatch;
 use std::mem::forget;
@@ -100,8 +100,8 @@ impl<E: Eprint + Clock + Sync> Watch for Progress<'_, E> {
         self.say();
     }
 
-    fn leaves(&self, left: Gathered, opening: Opening, jobs: Vec<Job>) {
-        leave(left, opening, jobs);
+    fn leaves(&self, left: Gathered, told: Vec<Receipt>, opening: Opening, jobs: Vec<Job>) {
+        leave(left, told, opening, jobs);
     }
 
     fn ends(&self) {
@@ -121,15 +121,16 @@ impl Gate for Silent {
 }
 
 impl Watch for Silent {
-    fn leaves(&self, left: Gathered, opening: Opening, jobs: Vec<Job>) {
-        leave(left, opening, jobs);
+    fn leaves(&self, left: Gathered, told: Vec<Receipt>, opening: Opening, jobs: Vec<Job>) {
+        leave(left, told, opening, jobs);
     }
 }
 
 // Frees nothing: the program ends, and the system reclaims its memory faster than it could be
 // freed.
-fn leave(left: Gathered, opening: Opening, jobs: Vec<Job>) {
+fn leave(left: Gathered, told: Vec<Receipt>, opening: Opening, jobs: Vec<Job>) {
     forget(left);
+    forget(told);
     forget(opening);
     forget(jobs);
 }

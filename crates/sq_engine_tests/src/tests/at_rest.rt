@@ -55,7 +55,7 @@ impl<R: Clock> Client for Sleeper<'_, R> {
 #[test]
 fn an_engine_at_rest_takes_little_of_a_processor(rt: HostRuntime) {
     let alloc = rt.alloc();
-    let engine = opened(&rt, alloc);
+    let mut engine = opened(&rt, alloc);
     let before = rt.process_cpu_time().expect(&rt, "no clock");
     let mut client = Sleeper {
         clock: &rt,
@@ -131,7 +131,7 @@ impl<R: Clock> Client for Pacer<'_, R> {
 #[test]
 fn a_job_wakes_an_engine_at_rest(rt: HostRuntime) {
     let alloc = rt.alloc();
-    let engine = opened(&rt, alloc);
+    let mut engine = opened(&rt, alloc);
     let workload = Workload {
         seed: 3,
         jobs: JOBS,

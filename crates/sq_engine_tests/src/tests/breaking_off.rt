@@ -2,17 +2,29 @@
 use rtrb::RingBuffer;
 use sq_driver::Teller;
 use sq_node::Receipt;
-use sq_schema::{Cause, Reply, Root};
+use sq_schema::{Cause, Op, Reply, RowKey, Schema, Txn};
 use sq_teller::RingTeller;
+use std::alloc::Global;
 use std::process::Abort;
 
 // How many receipts the ring holds.
 const PLACES: u64 = 2;
 
-fn receipt<R: Abort>(rt: &R, id: u64) -> Receipt {
+// A transaction that deletes a row that there isn't.
+fn txn<R: Abort>(rt: &R, alloc: Global, id: u64) -> Txn {
+    let schema = Schema::new(1).expect(rt, "a schema");
+    let mut ops = Vec::new(alloc);
+    ops.push(Op::Del(RowKey::ROOT))
+        .expect(rt, "no memory for an operation");
+    match Txn::new(&schema, id, 9, ops) {
+        Ok(txn) => txn,
+        Err(_) => rt.panic("no transaction"),
+    }
+}
+
+fn receipt<R: Abort>(rt: &R, alloc: Global, id: u64) -> Receipt {
     Receipt {
-        id,
-        root: Root::new(9).expect(rt, "a root key"),
+        txn: txn(rt, alloc, id),
         position: id,
         reply: Reply::Aborted {
             at: 0,
@@ -30,10 +42,10 @@ fn a_teller_breaks_off_where_nobody_takes(rt: HostRuntime) {
         broke_off: false,
     };
     for id in 0..PLACES {
-        teller.tell(&rt, &receipt(&rt, id));
+        teller.tell(&rt, receipt(&rt, rt.alloc(), id));
         assert!(rt; !teller.broke_off, "the ring has room for {id}");
     }
     drop(consumer);
-    teller.tell(&rt, &receipt(&rt, PLACES));
+    teller.tell(&rt, receipt(&rt, rt.alloc(), PLACES));
     assert!(rt; teller.broke_off, "the ring has no room");
 }

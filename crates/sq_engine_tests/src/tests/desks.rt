@@ -80,10 +80,7 @@ fn desk_at(alloc: Global, is_strict: bool) -> Result<Served, Fail> {
     let plan = String::from_str(alloc, "{}")?;
     let sides = SideQueues::new(alloc, 2)?;
     let (feed, lines) = RingBuffer::new(alloc, 8)?;
-    let config = DeskConfig {
-        fold_after: u64::MAX,
-        is_strict,
-    };
+    let config = DeskConfig { is_strict };
     let outlet = Outlet::new(Vec::new(alloc));
     let desk = ServeDesk::new(lines, bell, outlet, sides, plan, config);
     Ok(Served { feed, desk })
@@ -129,14 +126,14 @@ fn return_next(desk: &mut Desk, watch: &Counter, fault: PostFault) {
 
 fn call_often(desk: &mut Desk, watch: &Counter, calls: u64) {
     for _call in 0..calls {
-        desk.begin_call(false);
+        desk.begin_call();
         offered(desk, watch);
     }
 }
 
 fn retry_often(desk: &mut Desk, watch: &Counter, calls: u64) {
     for _call in 0..calls {
-        desk.begin_call(false);
+        desk.begin_call();
         return_next(desk, watch, PostFault::QueueFull);
     }
 }

@@ -1,12 +1,13 @@
 // Workers that a gate ends while another thread posts jobs: each job that was taken has a receipt, or is among those that are left.
-ghost use Rattle.std.specs.Prelude.{IfOk};
+ghost use Rattle.std.specs.Prelude.{◌≡◌, [], IfOk};
+ghost use Rattle.sq_driver.specs.Told.{nodes_of};
 ghost use Rattle.sq_gather.specs.Gathered.{AreAllOf};
 
-use sq_driver::{Gate, NodeStep, run_workers};
+use sq_driver::{Gate, NodeStep, TellingNode, run_workers};
 use sq_gather::{Gathered, gather};
 use sq_node::{Fabric, Node, RunParts};
-use sq_pull::Pump;
 use sq_ranges::Opening;
+use sq_teller::Collector;
 use sq_trial::{JobSource, PARTS, PlanChoice, ROOTS, Workload, opening_at};
 use std::alloc::{AllocError, Global};
 use std::process::Abort;
@@ -21,6 +22,9 @@ const RUNS: u64 = 20;
 const ENOUGH: u64 = 100;
 
 const JOBS: u64 = 100_000;
+
+// A node with its collector.
+type Pair = TellingNode<Collector>;
 
 // More turns than any of the workers takes.
 const TURNS: u64 = 1_000_000_000_000;
@@ -44,27 +48,39 @@ impl Gate for EnoughGate {
     }
 }
 
-// A run at rest, in its parts.
-fn opened(alloc: Global, opening: &Opening) -> Result<RunParts, AllocError>
-    ensures { IfOk result (λ run. AreAllOf run.fabric run.nodes.items run.pumps.items) }
+// Gives a collector to each of these nodes.
+fn pairs_of(alloc: Global, nodes: Vec<Node>) -> Result<Vec<Pair>, AllocError>
+    ensures { IfOk result (λ pairs. nodes_of pairs.items ≡ nodes.items) }
 {
-    let parts = Fabric::open(alloc, opening, 0)?;
-    Ok(parts)
+    let mut pairs = Vec::with_capacity(alloc, nodes.len())?;
+    for node in nodes {
+        let teller = Collector::new(alloc);
+        pairs.push_reserved(TellingNode { node, teller });
+    }
+    Ok(pairs)
+}
+
+// A run at rest: what its workers share, and its nodes, each with a collector. It has no pumps.
+fn opened(alloc: Global, opening: &Opening) -> Result<(Fabric, Vec<Pair>), AllocError>
+    ensures { IfOk result (λ run. AreAllOf run.0 (nodes_of run.1.items) []) }
+{
+    let RunParts { fabric, nodes, .. } = Fabric::open(alloc, opening, 0)?;
+    let pairs = pairs_of(alloc, nodes)?;
+    Ok((fabric, pairs))
 }
 
 // Drives the workers until their gate ends them.
 fn drive<R: Threads + Wait + Sync>(
     rt: &R,
     fabric: &Fabric,
-    mut nodes: Vec<Node>,
-    mut pumps: Vec<Pump>,
+    mut pairs: Vec<Pair>,
     gate: &EnoughGate,
-) -> (Vec<Node>, Vec<Pump>)
-    requires { AreAllOf fabric.now nodes.items pumps.items }
-    ensures { AreAllOf fabric.now result.0.items result.1.items }
+) -> Vec<Pair>
+    requires { AreAllOf fabric.now (nodes_of pairs.items) [] }
+    ensures { AreAllOf fabric.now (nodes_of result.items) [] }
 {
-    run_workers(rt, fabric, &mut nodes, &mut pumps, TURNS, gate);
-    (nodes, pumps)
+    run_workers(rt, fabric, &mut pairs, &mut [], TURNS, gate);
+    pairs
 }
 
 // Posts jobs of this seed until one comes back. How many were taken, whose ids are 0, 1, 2 and so on.
@@ -92,12 +108,11 @@ fn run_beside<R: Threads + Wait + Sync>(
     rt: &R,
     alloc: Global,
     fabric: &Fabric,
-    nodes: Vec<Node>,
-    pumps: Vec<Pump>,
+    pairs: Vec<Pair>,
     seed: u64,
-) -> ((Vec<Node>, Vec<Pump>), u64)
-    requires { AreAllOf fabric.now nodes.items pumps.items }
-    ensures { AreAllOf fabric.now result.0.0.items result.0.1.items }
+) -> (Vec<Pair>, u64)
+    requires { AreAllOf fabric.now (nodes_of pairs.items) [] }
+    ensures { AreAllOf fabric.now (nodes_of result.0.items) [] }
 {
     let gate = EnoughGate {
         answers: AtomicU64::new(0),
@@ -106,26 +121,35 @@ fn run_beside<R: Threads + Wait + Sync>(
     thread::join(
         rt,
         move ||
-            requires { AreAllOf fabric.now nodes.items pumps.items }
-            ensures { AreAllOf fabric.entry.now result.0.items result.1.items }
-        { drive(rt, fabric, nodes, pumps, shared) },
+            requires { AreAllOf fabric.now (nodes_of pairs.items) [] }
+            ensures { AreAllOf fabric.entry.now (nodes_of result.items) [] }
+        { drive(rt, fabric, pairs, shared) },
         move || post_until_one_returns(rt, alloc, fabric, seed),
     )
 }
 
-// The ids of the jobs that have a receipt, and of those that are left.
-fn ids_in(alloc: Global, gathered: &Gathered) -> Result<Vec<u64>, AllocError> {
-    let mut ids = Vec::new(alloc);
-    for receipt in &gathered.receipts {
-        ids.push(receipt.id)?;
+// Adds the ids of the jobs that have a receipt, and returns the nodes alone.
+fn take_told(alloc: Global, pairs: Vec<Pair>, ids: &mut Vec<u64>) -> Result<Vec<Node>, AllocError>
+    ensures { IfOk result (λ nodes. nodes.items ≡ nodes_of pairs.items) }
+{
+    let mut nodes = Vec::with_capacity(alloc, pairs.len())?;
+    for pair in pairs {
+        for receipt in &pair.teller.receipts {
+            ids.push(receipt.txn.id())?;
+        }
+        nodes.push_reserved(pair.node);
     }
+    Ok(nodes)
+}
+
+// Adds the ids of the jobs that are left.
+fn add_left(gathered: &Gathered, ids: &mut Vec<u64>) -> Result<(), AllocError> {
     for jobs in &gathered.left {
         for job in jobs {
             ids.push(job.id())?;
         }
     }
-    ids.sort_unstable();
-    Ok(ids)
+    Ok(())
 }
 
 // Whether these are the numbers below a count, in their order.
@@ -145,28 +169,26 @@ fn end_beside<R: Threads + Wait + Abort + Sync>(
     opening: &Opening,
     seed: u64,
 ) -> Result<(), AllocError> {
-    let RunParts {
-        fabric,
-        nodes,
-        pumps,
-    } = opened(alloc, opening)?;
-    let ((nodes, pumps), taken) = run_beside(rt, alloc, &fabric, nodes, pumps, seed);
+    let (fabric, pairs) = opened(alloc, opening)?;
+    let (pairs, taken) = run_beside(rt, alloc, &fabric, pairs, seed);
+    let mut ids = Vec::new(alloc);
     let run = RunParts {
         fabric,
-        nodes,
-        pumps,
+        nodes: take_told(alloc, pairs, &mut ids)?,
+        pumps: Vec::new(alloc),
     };
+    let answered = ids.len() as u64;
     let gathered = gather(rt, alloc, run).ok();
     let gathered = gathered.expect(rt, "no memory for what is gathered");
-    let answered = gathered.receipts.len() as u64;
-    let ids = ids_in(alloc, &gathered);
+    add_left(&gathered, &mut ids)?;
     drop(gathered);
+    ids.sort_unstable();
     assert!(rt;
         answered >= ENOUGH,
         "it ended before there were enough answers"
     );
     assert!(rt;
-        are_all_below(&ids?, taken),
+        are_all_below(&ids, taken),
         "not each job that was taken is answered or left, once"
     );
     Ok(())

@@ -10,16 +10,16 @@ use std::thread::Threads;
 // How many jobs a client has in moves.
 const JOBS: u64 = 600;
 
-// How many transactions a log holds.
+// How many transactions a log with a limit holds.
 const LOG: u64 = 4_096;
 
 // How many places the queue of a partition has.
 const PLACES: u64 = JOB_PLACES as u64;
 
-// As many turns as a worker wants, or jobs as there are.
-const TURNS: u64 = u64::MAX;
+// As many jobs as there are.
+const ALL: u64 = u64::MAX;
 
-// Jobs to all partitions that a client has at rest: on all root keys, and on one, whose log would hold no more than 4,096 of them.
+// Jobs to all partitions that a client has at rest: on all root keys, and on one, whose log has no limit.
 const AT_REST: [(&str, Workload); 2] = [
     (
         "a client is served at rest",
@@ -31,7 +31,7 @@ const AT_REST: [(&str, Workload); 2] = [
         },
     ),
     (
-        "pages make room in a log",
+        "a log has no limit",
         Workload {
             seed: 7,
             jobs: LOG + 104,
@@ -50,43 +50,34 @@ fn a_client_is_served_at_rest(rt: HostRuntime) {
     }
 }
 
-// So many jobs, all for one partition and on one root key, and what is done with the engine. The queue takes as many as it has places,
-// and the log as many; what comes then isn't answered before a page has made room.
+// So many jobs, all for one partition and on one root key, and what is done with the engine. The queue takes as many as it has places.
 const FULL: [(&str, u64, &[Deed]); 2] = [
     (
-        "a full queue and a full log wait",
+        "a full queue waits",
         PLACES + 7,
         &[
-            Deed::Post(TURNS),
+            Deed::Post(ALL),
             Deed::HasPosted(PLACES),
-            Deed::Run(TURNS),
-            Deed::Post(TURNS),
+            Deed::ServeUntil(PLACES + 7),
             Deed::HasPosted(PLACES + 7),
-            Deed::Run(50),
-            Deed::TakePage,
-            Deed::HasAnswered(LOG),
-            Deed::Run(TURNS),
-            Deed::TakePage,
-            Deed::HasAnswered(LOG + 7),
+            Deed::HasAnswered(PLACES + 7),
         ],
     ),
-    // A client is served. The log is full: what it posts isn't answered, so the queue is full in the end, and jobs come back. It
-    // posts them again, and each is answered once, as pages make room.
+    // A client is served whose queue is full at the begin. Jobs that come back it posts again, and each is answered once.
     (
         "a client meets a full queue",
         3 * PLACES,
         &[
-            Deed::Post(TURNS),
-            Deed::Run(TURNS),
-            Deed::ServeUntilReturned(2),
-            Deed::HasAnswered(LOG),
+            Deed::Post(ALL),
+            Deed::HasPosted(PLACES),
             Deed::ServeUntil(3 * PLACES),
+            Deed::HasAnswered(3 * PLACES),
         ],
     ),
 ];
 
 #[test]
-fn a_full_queue_and_a_full_log_wait(rt: HostRuntime) {
+fn a_full_queue_waits(rt: HostRuntime) {
     for (what, jobs, deeds) in &FULL {
         let workload = Workload {
             seed: 2,

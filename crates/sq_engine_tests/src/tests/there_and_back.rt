@@ -1,7 +1,6 @@
 // The caller of an engine that docs/guide/library.md shows.
 use sq_audit::Verdict;
-use sq_engine::Closed;
-use sq_examples::engine::{ThereAndBack, go_there_and_back};
+use sq_examples::engine::{CameBack, go_there_and_back};
 use sq_lines::LineReader;
 use sq_plan::Plan;
 use sq_ranges::Opening;
@@ -48,22 +47,21 @@ fn has_each_job_answered(rt: HostRuntime) {
     assert_good_end(&rt, &end);
 }
 
-// All jobs were answered, both pages are sound, and each root key has its number at its owner.
-fn assert_good_end<R: Abort>(rt: &R, end: &(ThereAndBack, (u64, u64))) {
+// All jobs were answered, the engine is sound, and each root key has its number at its owner.
+fn assert_good_end<R: Abort>(rt: &R, end: &(CameBack, (u64, u64))) {
     let (came, heard) = end;
     assert_eq!(*rt; *heard, (1_000, 1_000));
     assert_eq!(*rt; came.verdict, Verdict::Sound);
-    assert_eq!(*rt; came.last_verdict, Verdict::Sound);
     for root in 0..10 {
         let part = if root < 5 { 0 } else { 1 };
-        let number = number_at(&came.closed, part, root);
+        let number = number_at(came, part, root);
         assert_eq!(*rt; number, Some(200), "of {root}");
     }
 }
 
 // The number of a root key in the store of a partition.
-fn number_at(closed: &Closed, part: usize, root: u64) -> Option<i64> {
-    let family = closed.gathered.stores.get(part)?.get(Root::new(root)?)?;
+fn number_at(came: &CameBack, part: usize, root: u64) -> Option<i64> {
+    let family = came.engine.rows()?.get(part)?.get(Root::new(root)?)?;
     let row = family.rows().get(RowKey { table: 0, sub: 0 })?;
     Some(row.number())
 }

@@ -73,7 +73,7 @@ impl<R: Wait> Client for Broker<'_, R> {
 
     fn take(&mut self, _part: PartId, receipt: Receipt) {
         self.done = self.done.saturating_add(1);
-        let answers = if receipt.id < JOBS {
+        let answers = if receipt.txn.id() < JOBS {
             &self.first
         } else {
             &self.second

@@ -68,6 +68,7 @@ impl<S: FamilyStore> PartCore<S> {
             plan: places.plan,
             recon: places.recon,
             limit: opening.config().limit,
+            log_limit: opening.config().log_limit,
             started: false,
             stage: 0,
             store,

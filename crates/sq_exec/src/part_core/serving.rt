@@ -1,9 +1,9 @@
 // Transactions at a partition.
-ghost use Rattle.std.specs.Prelude.{◌≡◌, true, false, length, Some, option_map, unwrap_or, IfOk, IfErr, OnOk, OnErr, IsErrOf, ◌↔◌, MatchResult, IsTrue};
+ghost use Rattle.std.specs.Prelude.{◌≡◌, ◌||◌, true, false, length, Some, option_map, unwrap_or, IfOk, IfErr, OnOk, OnErr, IsErrOf, ◌↔◌, MatchResult, IsTrue};
 ghost use Rattle.std.specs.List.Sorted.{IsStrictlyIncreasing};
 ghost use Rattle.sq_store.specs.Prelude.{log_length};
 ghost use Rattle.sq_exec.specs.Location.{location, is_coming_here, is_coming_from, route, route_from, waits_for};
-ghost use Rattle.sq_exec.specs.Serving.{is_stuck, served, must_wait, submit_refusal, submit_takes_memory, is_ready_here, stays_by, graver, first_ready_here, resume_refusal, resume_takes_memory, IsMadeToWait, IsTaken, IsResumed};
+ghost use Rattle.sq_exec.specs.Serving.{is_stuck, is_at_end, served, must_wait, submit_refusal, submit_takes_memory, is_ready_here, stays_by, graver, first_ready_here, resume_refusal, resume_takes_memory, IsMadeToWait, IsTaken, IsResumed};
 ghost use Rattle.sq_exec.specs.Numbering.{numbered, arrival_number, IsFirstReady, TakesNumber};
 
 use crate::fault::{ResumeFault, SubmitFault};
@@ -42,6 +42,9 @@ impl<S: FamilyStore> PartCore<S> {
             return self.wait(txn, &found);
         }
         let who = self.route(root, &found);
+        if self.refuses(root, who) {
+            return Err(SubmitFault::LogFull);
+        }
         match serve(&mut self.store, self.part, who, txn) {
             Ok(outcome) => Ok(outcome),
             Err(ApplyFault::LogFull) => Err(SubmitFault::LogFull),
@@ -85,11 +88,11 @@ impl<S: FamilyStore> PartCore<S> {
 
     /// Returns the length of the log of `root`: how many transactions on it committed, here and
     /// where it came from, since the log was last folded. 0 if `root` has no family here.
-    pub fn position(&self, root: Root) -> usize
+    pub fn position(&self, root: Root) -> u64
         ensures { result ≡ log_length self.now.core.store root }
     {
         match self.store.get(root) {
-            Some(family) => family.log().len(),
+            Some(family) => family.position(),
             None => 0,
         }
     }
@@ -135,6 +138,28 @@ impl<S: FamilyStore> PartCore<S> {
         let has_left = at.src == self.part && at.given_up;
         let has_come = at.src != self.part && at.dst == self.part && at.loaded;
         if has_left || has_come { at.dst } else { at.src }
+    }
+
+    // Returns true if transactions on `root`, which go to `who`, would run here on a log that is
+    // full.
+    fn is_stuck(&self, root: Root, who: PartId) -> bool
+        requires { who ≡ route self.now.core root }
+        ensures { result ≡ is_stuck self.now.core root }
+    {
+        who == self.part && self.position(root) >= self.log_limit
+    }
+
+    // Returns the same, or false if the limit is the greatest: then the store itself refuses, and
+    // the log is looked for once.
+    fn refuses(&self, root: Root, who: PartId) -> bool
+        requires { who ≡ route self.now.core root }
+        ensures { is_stuck self.now.core root
+            ≡ (result || is_at_end self.now.core.part who self.now.core.store root) }
+    {
+        if self.log_limit == MAX_LOG {
+            return false;
+        }
+        self.is_stuck(root, who)
     }
 
     // Returns true if a transaction on `root` waits.
@@ -187,7 +212,7 @@ impl<S: FamilyStore> PartCore<S> {
             return Err(ResumeFault::NoneReady);
         }
         let who = self.route(root, &found);
-        if who == self.part && self.position(root) >= MAX_LOG {
+        if self.is_stuck(root, who) {
             return Err(ResumeFault::LogFull);
         }
         Ok(who)
@@ -233,7 +258,7 @@ fn serve<S: FamilyStore>(
     txn: &Txn,
 ) -> Result<Outcome, ApplyFault>
     ensures full { IsErrOf result ApplyFault.LogFull
-        ↔ IsTrue (is_stuck here who (S.contents store.old) txn.now) }
+        ↔ IsTrue (is_at_end here who (S.contents store.old) txn.now.root) }
     ensures runs { OnErr result (who ≡ here) }
     ensures outcome { IfOk result (λ outcome. outcome
         ≡ (served here who (S.contents store.old) txn.now).0) }

@@ -12,6 +12,7 @@ use crate::ends::{LinkEnd, PartEnd};
 use crate::run_parts::RunParts;
 use crossbeam_queue::ArrayQueue;
 use sq_exec::open_store;
+use sq_history::History;
 use sq_link::SharedLink;
 use sq_plan::PartId;
 use sq_ranges::{Link, Opening, Recon};
@@ -198,7 +199,7 @@ fn open_fabric(
         trees,
         seats,
         links,
-        receipts: Vec::new(alloc),
+        receipts: History::new(),
         requests: queues(alloc, parts, REQUEST_PLACES)?,
         jobs: queues(alloc, parts, JOB_PLACES)?,
         posted: AtomicU64::new(0),

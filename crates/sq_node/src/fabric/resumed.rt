@@ -12,6 +12,7 @@ use super::left::{open_rooms, post_left};
 use super::open::open_run;
 use crate::receipt::Receipt;
 use crate::run_parts::RunParts;
+use sq_history::History;
 use sq_ranges::Opening;
 use sq_schema::Txn;
 use sq_slab::SlabStore;
@@ -24,8 +25,8 @@ pub struct Unresumed {
     pub stores: Vec<SlabStore>,
     /// The jobs that were left at each partition.
     pub left: Vec<Vec<Txn>>,
-    /// The receipts of earlier stages.
-    pub receipts: Vec<Receipt>,
+    /// The history of receipts of earlier stages.
+    pub receipts: History<Receipt>,
 }
 
 impl Fabric {
@@ -46,7 +47,7 @@ impl Fabric {
         stage: u64,
         stores: Vec<SlabStore>,
         left: Vec<Vec<Txn>>,
-        receipts: Vec<Receipt>,
+        receipts: History<Receipt>,
         pumps: u32,
     ) -> Result<RunParts, Unresumed>
         requires { pumps ≤ MAX_PUMPS }

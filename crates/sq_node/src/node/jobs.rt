@@ -1,5 +1,5 @@
 // The steps of a node on jobs.
-ghost use Rattle.std.specs.Prelude.{◌≡◌, ◌⊎◌};
+ghost use Rattle.std.specs.Prelude.{◌≡◌, ◌⊎◌, ◌++◌, option_to_list};
 ghost use Rattle.sq_store.specs.Prelude.{log_length};
 ghost use Rattle.sq_node.specs.NodeState.{IsNodeOf, position_before};
 ghost use Rattle.sq_node.specs.Holds.{DoesAndKeeps};
@@ -15,35 +15,39 @@ use sq_slab::SlabStore;
 use std::sync::Wait;
 
 impl Node {
-    /// Takes a job, and submits it. If it is answered, its receipt is kept. If it belongs to
+    /// Takes a job, and submits it. If it is answered, its receipt is returned. If it belongs to
     /// another partition, it is forwarded, and if it is refused, it is posted here again. If it has
     /// to wait, the leaf that it waits for is claimed.
-    pub fn step_job<R: Wait>(&mut self, rt: &R, fabric: &Fabric) -> Stepped
+    pub fn step_job<R: Wait>(&mut self, rt: &R, fabric: &Fabric) -> (Stepped, Option<Receipt>)
         requires { IsNodeOf fabric.now self.old }
-        ensures { DoesAndKeeps fabric.now JobStep self.old result self.new }
+        ensures step { DoesAndKeeps fabric.now JobStep self.old result.0 self.new }
+        ensures receipt { self.new.receipts ≡ self.old.receipts ++ option_to_list result.1 }
     {
         if self.desk.reserve().is_err() || self.puller.reserve().is_err() {
-            return Stepped::Memory;
+            return (Stepped::Memory, None);
         }
         let Some(job) = fabric.take_job(rt, self.core.part()) else {
-            return Stepped::Nothing;
+            return (Stepped::Nothing, None);
         };
         let outcome = match self.core.submit(&job) {
             Ok(outcome) => outcome,
             Err(fault) => {
                 self.desk.post(rt, fabric, self.core.part(), job);
-                return refusal(fault);
+                return (refusal(fault), None);
             }
         };
         match outcome {
             Outcome::Done(reply) => {
                 self.effort.add_answer(job.ops().len());
-                self.desk.add(receipt(&self.core, job, reply));
+                let receipt = receipt(&self.core, job, reply);
+                self.desk.add(&receipt);
                 fabric.count_answer();
+                (Stepped::Did, Some(receipt))
             }
             Outcome::Moved(to) => {
                 self.effort.add_post();
                 self.desk.post(rt, fabric, to, job);
+                (Stepped::Did, None)
             }
             Outcome::Waits(seg, leaf) => {
                 self.effort.add_wait(job.id(), job.ops().len());
@@ -52,37 +56,43 @@ impl Node {
                 let _ = self
                     .puller
                     .reactive(rt, &shared, &mut self.seats, seg, leaf);
+                (Stepped::Did, None)
             }
         }
-        Stepped::Did
     }
 
-    /// Resumes a waiting transaction, if one can run.
-    pub fn step_resume<R: Wait>(&mut self, rt: &R, fabric: &Fabric) -> Stepped
+    /// Resumes a waiting transaction, if one can run. If it is answered, its receipt is returned.
+    pub fn step_resume<R: Wait>(&mut self, rt: &R, fabric: &Fabric) -> (Stepped, Option<Receipt>)
         requires { IsNodeOf fabric.now self.old }
-        ensures { DoesAndKeeps fabric.now ResumeStep self.old result self.new }
+        ensures step { DoesAndKeeps fabric.now ResumeStep self.old result.0 self.new }
+        ensures receipt { self.new.receipts ≡ self.old.receipts ++ option_to_list result.1 }
     {
         if self.desk.reserve().is_err() {
-            return Stepped::Memory;
+            return (Stepped::Memory, None);
         }
         let Resumed { txn, outcome } = match self.core.resume() {
             Ok(resumed) => resumed,
-            Err(ResumeFault::Memory) => return Stepped::Memory,
-            Err(ResumeFault::NoneReady | ResumeFault::LogFull) => return Stepped::Nothing,
+            Err(ResumeFault::Memory) => return (Stepped::Memory, None),
+            Err(ResumeFault::NoneReady | ResumeFault::LogFull) => return (Stepped::Nothing, None),
         };
         match outcome {
             Outcome::Done(reply) => {
                 self.effort.add_answer(txn.ops().len());
-                self.desk.add(receipt(&self.core, txn, reply));
+                let receipt = receipt(&self.core, txn, reply);
+                self.desk.add(&receipt);
                 fabric.count_answer();
+                (Stepped::Did, Some(receipt))
             }
             Outcome::Moved(to) => {
                 self.effort.add_post();
                 self.desk.post(rt, fabric, to, txn);
+                (Stepped::Did, None)
             }
-            Outcome::Waits(_, _) => drop(txn),
+            Outcome::Waits(_, _) => {
+                drop(txn);
+                (Stepped::Did, None)
+            }
         }
-        Stepped::Did
     }
 }
 
@@ -99,21 +109,18 @@ fn refusal(fault: SubmitFault) -> Stepped
 // Returns the receipt of a transaction that a partition has just answered with `reply`.
 fn receipt(core: &PartCore<SlabStore>, txn: Txn, reply: Reply) -> Receipt
     ensures { result ≡ record {
-      id = txn.id;
-      root = txn.root;
+      txn = txn;
       position = position_before (log_length core.now.core.store txn.root) reply;
       reply = reply;
     } }
 {
-    let root = txn.root();
-    let after = core.position(root) as u64;
+    let after = core.position(txn.root());
     let position = match &reply {
         Reply::Committed(_) => after.saturating_sub(1),
         Reply::Aborted { .. } => after,
     };
     Receipt {
-        id: txn.id(),
-        root,
+        txn,
         position,
         reply,
     }

@@ -1,5 +1,5 @@
 // Turns of a node.
-ghost use Rattle.std.specs.Prelude.{◌≡◌, ◌↔◌, ℕ, ◌<◌, true, false, List, [], length, map, slice_get, Some, IsTrue};
+ghost use Rattle.std.specs.Prelude.{◌≡◌, ◌↔◌, ◌++◌, ℕ, ◌<◌, true, false, List, [], length, map, slice_get, Some, IsTrue, option_to_list};
 ghost use Rattle.sq_ranges.specs.declared.recon.Range.{Range};
 ghost use Rattle.sq_status.specs.Seat.{IsSameSeat};
 ghost use Rattle.sq_waiting.specs.Waiting.{Arrival, txns_of};
@@ -15,6 +15,7 @@ ghost use Rattle.sq_node.specs.Idle.{IsQuiet, IsIdle, IsBusy, IsAtWork, IsUnderW
 
 use super::{Node, NodeParts};
 use crate::fabric::Fabric;
+use crate::receipt::Receipt;
 use crate::stepped::Stepped;
 use sq_plan::PartId;
 use sq_ranges::Range;
@@ -22,32 +23,52 @@ use sq_status::{StatusTree, TreeSeat};
 use sq_tree::{NodeId, Status};
 use std::sync::Wait;
 
+/// What [`Node::turn`] returns.
+#[derive(Debug, Drop)]
+pub struct Turned {
+    /// What the steps did: `Did` if one of them did something, else `Memory` if one of them lacked
+    /// memory, else `Nothing`.
+    pub stepped: Stepped,
+    /// The receipt of the job that was taken, if it was answered.
+    pub job: Option<Receipt>,
+    /// The receipt of the transaction that was resumed, if it was answered.
+    pub resumed: Option<Receipt>,
+}
+
 impl Node {
     /// Takes a turn: sends what is pending, and then performs each step once: job, request, cut,
     /// send, receive, load, complete, resume.
-    pub fn turn<R: Wait>(&mut self, rt: &R, fabric: &Fabric) -> Stepped
+    pub fn turn<R: Wait>(&mut self, rt: &R, fabric: &Fabric) -> Turned
         requires { IsNodeOf fabric.now self.old }
-        ensures { DoesAndKeeps fabric.now (TurnStep fabric.now) self.old result self.new }
+        ensures turn { DoesAndKeeps fabric.now (TurnStep fabric.now) self.old result.stepped self.new }
+        ensures receipts { self.new.receipts
+            ≡ (self.old.receipts ++ option_to_list result.job) ++ option_to_list result.resumed }
     {
         self.send_pending(rt, fabric);
-        let job = self.step_job(rt, fabric);
+        let (served, job) = self.step_job(rt, fabric);
         let request = self.step_request(rt, fabric);
         let cut = self.step_cut();
         let send = self.step_send(rt, fabric);
-        let taken = self.take_in(rt, fabric);
-        job.and(request.and(cut.and(send.and(taken))))
+        let (taken, resumed) = self.take_in(rt, fabric);
+        let stepped = served.and(request.and(cut.and(send.and(taken))));
+        Turned {
+            stepped,
+            job,
+            resumed,
+        }
     }
 
     // Performs the steps of the second half of a turn.
-    fn take_in<R: Wait>(&mut self, rt: &R, fabric: &Fabric) -> Stepped
+    fn take_in<R: Wait>(&mut self, rt: &R, fabric: &Fabric) -> (Stepped, Option<Receipt>)
         requires { IsNodeOf fabric.now self.old }
-        ensures { DoesAndKeeps fabric.now TakesIn self.old result self.new }
+        ensures turn { DoesAndKeeps fabric.now TakesIn self.old result.0 self.new }
+        ensures receipt { self.new.receipts ≡ self.old.receipts ++ option_to_list result.1 }
     {
         let recv = self.step_recv(rt, fabric);
         let load = self.step_load(fabric);
         let complete = self.step_complete(fabric);
-        let resume = self.step_resume(rt, fabric);
-        recv.and(load.and(complete.and(resume)))
+        let (resume, receipt) = self.step_resume(rt, fabric);
+        (recv.and(load.and(complete.and(resume))), receipt)
     }
 
     /// Sends the pending jobs up to the first whose queue is full or for which memory runs out, and

@@ -2,7 +2,7 @@
 ghost use Rattle.sq_audit.specs.Answers.{IdsDiffer};
 
 use super::node::PAIR;
-use super::run::{TestRun, read_opening, two_jobs};
+use super::run::{TestRun, read_opening, two_jobs, with_id};
 use sq_audit::{Job, Verdict, audit};
 use sq_gather::Gathered;
 use sq_node::Receipt;
@@ -20,8 +20,8 @@ const FIRST: &str = "txn 0 1 5 get 0 0";
 
 const SECOND: &str = "txn 0 2 9 check 0 0 99";
 
-// What is gathered of the run, in which partition 0 answers both.
-fn worked<R: Wait + Abort>(rt: &R, alloc: Global) -> Gathered {
+// What is gathered of the run, in which partition 0 answers both, and the receipts.
+fn worked<R: Wait + Abort>(rt: &R, alloc: Global) -> (Gathered, Vec<Receipt>) {
     let mut run = TestRun::opened(rt, alloc, PAIR, 1);
     run.post(rt, alloc, FIRST);
     run.post(rt, alloc, SECOND);
@@ -94,12 +94,13 @@ fn is_given(answers: &[StoreAnswer]) -> bool {
 }
 
 // Makes a change.
-fn make<R: Abort>(rt: &R, alloc: Global, gathered: &mut Gathered, change: Change) {
-    let Gathered {
-        stores,
-        receipts,
-        ..
-    } = gathered;
+fn make<R: Abort>(
+    rt: &R,
+    alloc: Global,
+    stores: &mut [SlabStore],
+    receipts: &mut Vec<Receipt>,
+    change: Change,
+) {
     match change {
         Change::Nothing => {}
         Change::FamilyOut => drop(take_family(rt, stores)),
@@ -112,16 +113,16 @@ fn make<R: Abort>(rt: &R, alloc: Global, gathered: &mut Gathered, change: Change
             let family = take_family(rt, stores);
             put_family(rt, alloc, stores, 1, family);
         }
-        Change::ReceiptId(id) => set_first_id(rt, receipts, id),
+        Change::ReceiptId(id) => set_first_id(rt, alloc, receipts, id),
         Change::ReceiptOut(at) => take_receipt(rt, receipts, at),
     }
 }
 
-fn set_first_id<R: Abort>(rt: &R, receipts: &mut [Receipt], id: u64) {
+fn set_first_id<R: Abort>(rt: &R, alloc: Global, receipts: &mut [Receipt], id: u64) {
     let Some(first) = receipts.first_mut() else {
         rt.panic("no receipt")
     };
-    first.id = id;
+    first.txn = with_id(rt, alloc, &first.txn, id);
 }
 
 fn take_receipt<R: Abort>(rt: &R, receipts: &mut Vec<Receipt>, at: usize) {
@@ -134,12 +135,13 @@ fn defect_of<R: Threads + Abort + Sync>(
     rt: &R,
     alloc: Global,
     gathered: &Gathered,
+    receipts: &[Receipt],
     jobs: &[Job],
 ) -> Option<u16>
     requires { IdsDiffer jobs.now }
 {
     let opening = read_opening(rt, alloc, PAIR);
-    let verdict = audit(&opening, gathered, jobs);
+    let verdict = audit(&opening, gathered, receipts, jobs);
     defect_told(verdict.expect(rt, "no memory for an audit"))
 }
 
@@ -171,9 +173,9 @@ fn defect_after<R: Threads + Wait + Abort + Sync>(
     change: Change,
 ) -> Option<u16> {
     let jobs = two_jobs(rt, alloc, FIRST, SECOND);
-    let mut gathered = worked(rt, alloc);
-    make(rt, alloc, &mut gathered, change);
-    defect_of(rt, alloc, &gathered, &jobs)
+    let (mut gathered, mut receipts) = worked(rt, alloc);
+    make(rt, alloc, &mut gathered.stores, &mut receipts, change);
+    defect_of(rt, alloc, &gathered, &receipts, &jobs)
 }
 
 #[test]

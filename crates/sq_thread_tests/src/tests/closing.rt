@@ -3,10 +3,11 @@
 ghost use Rattle.std.specs.Prelude.{IfOk, All};
 ghost use Rattle.sq_node.specs.NodeState.{IsNodeOf};
 ghost use Rattle.sq_driver.specs.Pumps.{HasAllSeats};
+ghost use Rattle.sq_driver.specs.Told.{nodes_of};
 
 use super::driver::APART;
-use super::run::{job, read_opening, work_to_end};
-use sq_node::{Fabric, Node, RunParts};
+use super::run::{Pair, job, pairs_of, read_opening, work_to_end};
+use sq_node::{Fabric, RunParts};
 use sq_plan::PartId;
 use sq_pull::Pump;
 use sq_ranges::Opening;
@@ -61,19 +62,19 @@ fn post_each<R: Wait>(rt: &R, fabric: &Fabric, jobs: Vec<Txn>) -> usize {
 fn work_beside<R: Threads + Wait + Sync>(
     rt: &R,
     fabric: &Fabric,
-    nodes: Vec<Node>,
+    pairs: Vec<Pair>,
     pumps: Vec<Pump>,
     jobs: Vec<Txn>,
 ) -> (usize, usize)
-    requires nodes { All (IsNodeOf fabric.now) nodes.items }
+    requires nodes { All (IsNodeOf fabric.now) (nodes_of pairs.items) }
     requires pumps { All (HasAllSeats fabric.now) pumps.items }
 {
     thread::join(
         rt,
         move ||
-            requires nodes { All (IsNodeOf fabric.now) nodes.items }
+            requires nodes { All (IsNodeOf fabric.now) (nodes_of pairs.items) }
             requires pumps { All (HasAllSeats fabric.now) pumps.items }
-        { work_to_end(rt, fabric, nodes, pumps) },
+        { work_to_end(rt, fabric, pairs, pumps) },
         move || post_each(rt, fabric, jobs),
     )
 }
@@ -96,7 +97,7 @@ fn run_beside<R: Threads + Wait + Abort + Sync>(
         nodes,
         pumps,
     } = opened(alloc, opening)?;
-    let (receipts, taken) = work_beside(rt, &fabric, nodes, pumps, jobs);
+    let (receipts, taken) = work_beside(rt, &fabric, pairs_of(alloc, nodes)?, pumps, jobs);
     assert_eq!(rt; receipts, taken, "not each job that was taken is answered");
     assert!(rt;
         !takes_another(rt, alloc, &fabric),

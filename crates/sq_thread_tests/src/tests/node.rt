@@ -139,7 +139,7 @@ fn all_jobs_left_are_gathered(rt: HostRuntime) {
         run.post(&rt, alloc, line);
     }
     run.turns(&rt, 3, &[1]);
-    match run.gathered(&rt, alloc).left.as_slice() {
+    match run.gathered(&rt, alloc).0.left.as_slice() {
         [first, second] => {
             assert!(rt; are_left(first, &[2, 4], 4096) && are_left(second, &[3, 5], 0));
         }

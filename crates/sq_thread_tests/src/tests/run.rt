@@ -1,14 +1,15 @@
 // Runs, made by hand or by their workers.
-ghost use Rattle.std.specs.Prelude.{◌≡◌, ◌≤◌, All};
+ghost use Rattle.std.specs.Prelude.{◌≡◌, ◌≤◌, All, IfOk};
 ghost use Rattle.sq_pull.specs.declared.numbers.TheConstants.{MAX_PUMPS};
 ghost use Rattle.sq_node.specs.Prelude.{IsNodeOf};
 ghost use Rattle.sq_driver.specs.Pumps.{HasAllSeats};
+ghost use Rattle.sq_driver.specs.Told.{nodes_of};
 ghost use Rattle.sq_gather.specs.Gathered.{AreAllOf};
 ghost use Rattle.sq_audit.specs.Answers.{IdsDiffer};
 
 use super::text::{receipts_text, text_of};
 use sq_audit::Job;
-use sq_driver::{Gate, OpenGate, WorkersEnd, drive, drive_pump, run_workers};
+use sq_driver::{Gate, OpenGate, Teller, TellingNode, WorkersEnd, drive, drive_pump, run_workers};
 use sq_gather::{Gathered, gather};
 use sq_lines::LineReader;
 use sq_model::Step;
@@ -16,7 +17,8 @@ use sq_node::{Fabric, Node, Receipt, RunParts, Stepped};
 use sq_plan::PartId;
 use sq_pull::{Pump, PumpTurn, Request};
 use sq_ranges::Opening;
-use sq_schema::{Reply, Schema};
+use sq_schema::{Reply, Schema, Txn};
+use sq_teller::Collector;
 use sq_text::{read_header, read_step};
 use std::alloc::{AllocError, Global};
 use std::process::Abort;
@@ -43,6 +45,19 @@ pub fn job<R: Abort>(rt: &R, alloc: Global, line: &str) -> Job {
     submitted(step).expect(rt, "no transaction")
 }
 
+/// The transaction with another id.
+pub fn with_id<R: Abort>(rt: &R, alloc: Global, txn: &Txn, id: u64) -> Txn {
+    let mut ops = Vec::new(alloc);
+    for op in txn.ops() {
+        let copy = op.clone().expect(rt, "no memory for an operation");
+        ops.push(copy).expect(rt, "no memory for operations");
+    }
+    match Txn::new(&schema(), id, txn.root().number(), ops) {
+        Ok(other) => other,
+        Err(_) => rt.panic("no transaction"),
+    }
+}
+
 // The job that a step submits.
 fn submitted(step: Step) -> Option<Job> {
     match step {
@@ -67,35 +82,50 @@ pub fn two_jobs<R: Abort>(rt: &R, alloc: Global, first: &str, second: &str) -> V
     jobs
 }
 
-/// How many receipts nodes have.
-pub fn count_receipts(nodes: &[Node]) -> usize {
-    let mut count: usize = 0;
+/// A node with its collector.
+pub type Pair = TellingNode<Collector>;
+
+/// Gives a collector to each of these nodes.
+pub fn pairs_of(alloc: Global, nodes: Vec<Node>) -> Result<Vec<Pair>, AllocError>
+    ensures { IfOk result (λ pairs. nodes_of pairs.items ≡ nodes.items) }
+{
+    let mut pairs = Vec::with_capacity(alloc, nodes.len())?;
     for node in nodes {
-        count = count.saturating_add(node.receipts().len());
+        let teller = Collector::new(alloc);
+        pairs.push_reserved(TellingNode { node, teller });
+    }
+    Ok(pairs)
+}
+
+/// How many receipts nodes wrote.
+pub fn count_receipts(pairs: &[Pair]) -> usize {
+    let mut count: usize = 0;
+    for pair in pairs {
+        count = count.saturating_add(pair.teller.receipts.len());
     }
     count
 }
 
-/// Runs workers until all are idle. How many receipts their nodes have then.
+/// Runs workers until all are idle. How many receipts their nodes wrote.
 pub fn work_to_end<R: Threads + Wait + Sync>(
     rt: &R,
     fabric: &Fabric,
-    mut nodes: Vec<Node>,
+    mut pairs: Vec<Pair>,
     mut pumps: Vec<Pump>,
 ) -> usize
-    requires nodes { All (IsNodeOf fabric.now) nodes.items }
+    requires nodes { All (IsNodeOf fabric.now) (nodes_of pairs.items) }
     requires pumps { All (HasAllSeats fabric.now) pumps.items }
 {
-    run_workers(rt, fabric, &mut nodes, &mut pumps, TURNS, &OpenGate);
-    count_receipts(&nodes)
+    run_workers(rt, fabric, &mut pairs, &mut pumps, TURNS, &OpenGate);
+    count_receipts(&pairs)
 }
 
 /// A run: what its nodes share, all nodes and all pumps. Its drop is a function of its own, which each way out of a test calls.
 pub struct TestRun {
     fabric: Fabric,
-    nodes: Vec<Node>,
+    nodes: Vec<Pair>,
     pumps: Vec<Pump>,
-    ghost whole: { AreAllOf fabric nodes.items pumps.items },
+    ghost whole: { AreAllOf fabric (nodes_of nodes.items) pumps.items },
 }
 
 impl Drop for TestRun {
@@ -122,22 +152,17 @@ impl TestRun {
         requires { pumps ≤ MAX_PUMPS }
     {
         let parts = Fabric::open(alloc, opening, pumps)?;
-        Ok(TestRun::new(parts))
-    }
-
-    fn new(run: RunParts) -> TestRun
-        requires { AreAllOf run.fabric run.nodes.items run.pumps.items }
-    {
         let RunParts {
             fabric,
             nodes,
             pumps,
-        } = run;
-        TestRun {
+        } = parts;
+        let nodes = pairs_of(alloc, nodes)?;
+        Ok(TestRun {
             fabric,
             nodes,
             pumps,
-        }
+        })
     }
 
     /// Posts the transaction of a line to the partition that the line names.
@@ -248,7 +273,7 @@ impl TestRun {
     /// The receipts of the node of a partition, in lines.
     pub fn text_of_receipts<R: Abort>(&self, rt: &R, alloc: Global, part: usize) -> String {
         assert!(rt; part < self.nodes.len(), "no such partition");
-        let text = receipts_text(alloc, self.nodes[part].receipts());
+        let text = receipts_text(alloc, &self.nodes[part].teller.receipts);
         text.expect(rt, "no memory for lines")
     }
 
@@ -259,34 +284,56 @@ impl TestRun {
 
     /// Whether all receipts are of commits.
     pub fn all_commit(&self) -> bool {
-        for node in &self.nodes {
-            if !are_commits(node.receipts()) {
+        for pair in &self.nodes {
+            if !are_commits(&pair.teller.receipts) {
                 return false;
             }
         }
         true
     }
 
-    pub fn gathered<R: Wait + Abort>(self, rt: &R, alloc: Global) -> Gathered {
+    /// What is gathered, and all receipts.
+    pub fn gathered<R: Wait + Abort>(self, rt: &R, alloc: Global) -> (Gathered, Vec<Receipt>) {
         let TestRun {
             fabric,
             nodes,
             pumps,
         } = self;
+        let mut told = Vec::new(alloc);
+        let nodes = take_told(alloc, nodes, &mut told).expect(rt, "no memory for receipts");
         let run = RunParts {
             fabric,
             nodes,
             pumps,
         };
         let outcome = gather(rt, alloc, run);
-        outcome.ok().expect(rt, "no memory for what is gathered")
+        let gathered = outcome.ok().expect(rt, "no memory for what is gathered");
+        (gathered, told)
     }
 
     /// The same, in lines.
     pub fn text<R: Wait + Abort>(self, rt: &R, alloc: Global) -> String {
-        let gathered = self.gathered(rt, alloc);
-        text_of(alloc, &gathered).expect(rt, "no memory for lines")
+        let (gathered, told) = self.gathered(rt, alloc);
+        text_of(alloc, &gathered, &told).expect(rt, "no memory for lines")
     }
+}
+
+// Adds what the tellers collected to `told`, and returns the nodes alone.
+fn take_told(
+    alloc: Global,
+    pairs: Vec<Pair>,
+    told: &mut Vec<Receipt>,
+) -> Result<Vec<Node>, AllocError>
+    ensures { IfOk result (λ nodes. nodes.items ≡ nodes_of pairs.items) }
+{
+    let mut nodes = Vec::with_capacity(alloc, pairs.len())?;
+    for pair in pairs {
+        let TellingNode { node, teller } = pair;
+        let Collector { mut receipts, .. } = teller;
+        told.append(&mut receipts)?;
+        nodes.push_reserved(node);
+    }
+    Ok(nodes)
 }
 
 fn are_commits(receipts: &[Receipt]) -> bool {
@@ -298,29 +345,39 @@ fn are_commits(receipts: &[Receipt]) -> bool {
     true
 }
 
-// A turn of a node.
-fn turn_once<R: Wait>(rt: &R, fabric: &Fabric, node: &mut Node)
-    requires { IsNodeOf fabric.now node.old }
-    ensures of { IsNodeOf fabric.now node.new }
-    ensures part { node.new.core.part ≡ node.old.core.part }
+// A turn of a node: it sends what is pending, and makes each step once.
+fn turn_once<R: Wait>(rt: &R, fabric: &Fabric, pair: &mut Pair)
+    requires { IsNodeOf fabric.now pair.old.node }
+    ensures of { IsNodeOf fabric.now pair.new.node }
+    ensures part { pair.new.node.core.part ≡ pair.old.node.core.part }
 {
-    node.turn(rt, fabric);
+    pair.node.send_pending(rt, fabric);
+    make_steps(rt, fabric, pair);
 }
 
 // Makes each step of a node once.
-fn make_steps<R: Wait>(rt: &R, fabric: &Fabric, node: &mut Node) -> [Stepped; 8]
-    requires { IsNodeOf fabric.now node.old }
-    ensures of { IsNodeOf fabric.now node.new }
-    ensures part { node.new.core.part ≡ node.old.core.part }
+fn make_steps<R: Wait>(rt: &R, fabric: &Fabric, pair: &mut Pair) -> [Stepped; 8]
+    requires { IsNodeOf fabric.now pair.old.node }
+    ensures of { IsNodeOf fabric.now pair.new.node }
+    ensures part { pair.new.node.core.part ≡ pair.old.node.core.part }
 {
-    [
-        node.step_job(rt, fabric),
-        node.step_request(rt, fabric),
-        node.step_cut(),
-        node.step_send(rt, fabric),
-        node.step_recv(rt, fabric),
-        node.step_load(fabric),
-        node.step_complete(fabric),
-        node.step_resume(rt, fabric),
-    ]
+    let TellingNode { node, teller } = pair;
+    let (job, receipt) = node.step_job(rt, fabric);
+    tell(rt, teller, receipt);
+    let request = node.step_request(rt, fabric);
+    let cut = node.step_cut();
+    let send = node.step_send(rt, fabric);
+    let recv = node.step_recv(rt, fabric);
+    let load = node.step_load(fabric);
+    let complete = node.step_complete(fabric);
+    let (resume, receipt) = node.step_resume(rt, fabric);
+    tell(rt, teller, receipt);
+    [job, request, cut, send, recv, load, complete, resume]
+}
+
+// Gives a teller a receipt, if there is one.
+fn tell<R: Wait>(rt: &R, teller: &mut Collector, receipt: Option<Receipt>) {
+    if let Some(receipt) = receipt {
+        teller.tell(rt, receipt);
+    }
 }

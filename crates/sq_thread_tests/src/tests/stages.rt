@@ -4,8 +4,9 @@ ghost use Rattle.sq_node.specs.NodeState.{IsNodeOf};
 ghost use Rattle.sq_driver.specs.Pumps.{HasAllSeats};
 
 use super::node::PAIR;
-use super::run::{TestRun, job, read_opening, work_to_end};
+use super::run::{TestRun, job, pairs_of, read_opening, work_to_end};
 use sq_driver::OpenGate;
+use sq_history::History;
 use sq_node::{Fabric, RunParts};
 use sq_ranges::Opening;
 use sq_schema::Txn;
@@ -38,7 +39,7 @@ fn begun(
     ensures nodes { IfOk result (λ stage. All (IsNodeOf stage.fabric) stage.nodes.items) }
     ensures pumps { IfOk result (λ stage. All (HasAllSeats stage.fabric) stage.pumps.items) }
 {
-    let Ok(stage) = Fabric::resumed(alloc, opening, 0, stores, left, Vec::new(alloc), 1) else {
+    let Ok(stage) = Fabric::resumed(alloc, opening, 0, stores, left, History::new(), 1) else {
         return Err("the stage doesn't begin")?;
     };
     Ok(stage)
@@ -55,7 +56,10 @@ fn jobs_that_were_left_are_answered(rt: HostRuntime) -> Result<(), Fail> {
         nodes,
         pumps,
     } = begun(alloc, &opening, no_families(alloc)?, left)?;
-    assert_eq!(rt; work_to_end(&rt, &fabric, nodes, pumps), 5000);
+    assert_eq!(rt;
+        work_to_end(&rt, &fabric, pairs_of(alloc, nodes)?, pumps),
+        5000
+    );
     Ok(())
 }
 

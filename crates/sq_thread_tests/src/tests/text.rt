@@ -12,9 +12,10 @@ use std::io::Write;
 
 /// All that is gathered: the families of each partition; for each link the notes of its chunks, and then the chunks
 /// under way; for each segment the nodes that aren't free; the receipts.
-pub fn text_of(alloc: Global, gathered: &Gathered) -> Result<String, WriteFault> {
+pub fn text_of(alloc: Global, gathered: &Gathered, told: &[Receipt]) -> Result<String, WriteFault> {
     let mut text = Vec::new(alloc);
     write_gathered(&mut text, gathered)?;
+    write_receipts(&mut text, told)?;
     as_text(text)
 }
 
@@ -35,8 +36,7 @@ fn as_text(bytes: Vec<u8>) -> Result<String, WriteFault> {
 fn write_gathered(text: &mut Vec<u8>, gathered: &Gathered) -> Result<(), WriteFault> {
     write_stores(text, &gathered.stores)?;
     write_links(text, &gathered.links)?;
-    write_trees(text, &gathered.statuses)?;
-    write_receipts(text, &gathered.receipts)
+    write_trees(text, &gathered.statuses)
 }
 
 // The families of each partition.
@@ -124,9 +124,9 @@ fn write_receipts(text: &mut Vec<u8>, receipts: &[Receipt]) -> Result<(), WriteF
 }
 
 fn write_receipt(text: &mut Vec<u8>, receipt: &Receipt) -> Result<(), WriteFault> {
-    let (root, position) = (receipt.root.number(), receipt.position);
+    let (root, position) = (receipt.txn.root().number(), receipt.position);
     write!(text, "receipt {root} {position} ")?;
-    let id = receipt.id;
+    let id = receipt.txn.id();
     match receipt.reply.clone() {
         Ok(reply) => write_answer(text, &Answer::Replied { id, reply }),
         Err(_) => Err(WriteFault),

@@ -13,7 +13,7 @@ loop-receipt-preserved c =
     let receipts = c.args.receipts.now in
     let at = c.loop-receipt.receipt-index in
     let receipt = c.receipt-item.result in
-    let pair = pair_is (ap (λ (r : ReceiptValue). r.id) c.receipt.view_is) (c.number.ensures.number ∙ ap (λ (r : ReceiptValue). r.root) c.receipt.view_is) in
+    let pair = pair_is (c.id.ensures ∙ ap (λ (r : ReceiptValue). r.txn.id) c.receipt.view_is) (c.number.ensures.number ∙ c.root.ensures ∙ ap (λ (r : ReceiptValue). r.txn.root) c.receipt.view_is) in
     listed_next receipts at receipt (item_at receipts at receipt c.receipt-item.is c.loop-receipt-test.true) c.loop-receipt.ids.items c.push.new.self.items _ pair c.in_ok-push.ensures.items c.loop-receipt.invariant
 
 pub returns : goal.returns

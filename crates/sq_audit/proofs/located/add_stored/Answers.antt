@@ -1,6 +1,4 @@
-use Rattle.std.proofs.Common.{◌≡◌, List, refl, ap, ◌∙◌, subst, sym}
-use Rattle.std.specs.Prelude.{All}
-use Rattle.sq_gather.specs.Prelude.{TxnValue}
+use Rattle.std.proofs.Common.{List, refl, ap, ◌∙◌, subst, sym}
 use Rattle.sq_audit.specs.declared.located.Located.{Located}
 use Rattle.sq_audit.specs.Located.{Entry, spot_of, entries_in}
 use Rattle.sq_audit.proofs.Listing.{SomeAdded, none_added, more_added, all_added}
@@ -14,8 +12,7 @@ loop-family-preserved c =
     let family = c.in-Some.family.now in
     let one : Located = record { site = c.args.site; family = c.in-Some.family } in
     let before = entries_in c.args.all.now.items in
-    let own = subst (All (λ (txn : TxnValue). txn.root ≡ family.root)) c.log.ensures.log c.log.ensures.own in
-    let more = more_added (spot_of c.args.site) c.args.store.now before c.loop-family.family-iterator c.next.new.self c.loop-family.all.items one family c.loop-family.invariant.2 c.in-Some.ensures.steps refl own in (
+    let more = more_added (spot_of c.args.site) c.args.store.now before c.loop-family.family-iterator c.next.new.self c.loop-family.all.items one family c.loop-family.invariant.2 c.in-Some.ensures.steps refl c.position.ensures.own in (
       tt,
       tt,
       subst (λ (now : List Entry). SomeAdded (spot_of c.args.site) c.args.store.now before c.next.new.self now) (sym (ap entries_in c.in_ok-push.ensures.items)) more,

@@ -1,6 +1,4 @@
-use Rattle.std.proofs.Common.{◌≡◌, ◌+◌, ◌≤◌, sym, ap, ◌∙◌, subst, arith}
-use Rattle.std.specs.Prelude.{All}
-use Rattle.sq_gather.specs.Prelude.{TxnValue}
+use Rattle.std.proofs.Common.{◌≡◌, ◌+◌, ◌≤◌, sym, ap, ◌∙◌, arith}
 use Rattle.sq_gather.proofs.Prelude.{first_is}
 use Rattle.sq_audit.proofs.stored.next_family.Goals as goal
 
@@ -17,5 +15,5 @@ returns-clause-some c =
       behind = ap (λ n. n + 1) number;
       rises = omega (arith, number, from);
       bound = omega (arith, bound);
-      own = subst (All (λ (txn : TxnValue). txn.root ≡ family.root)) c.log.ensures.log c.log.ensures.own;
+      own = c.position.ensures.own;
     }

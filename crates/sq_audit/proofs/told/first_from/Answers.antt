@@ -16,7 +16,7 @@ loop-at-preserved c =
     let so_far = c.loop-at.invariant in
     let from = so_far.from in
     let there = mapped_at (λ (x : Bor ReceiptValue). x.now) sorted at one c.index-sorted-at.is test in
-    let root = c.number.ensures.number ∙ ap (λ (r : ReceiptValue). r.root) c.receipt.view_is in
+    let root = c.number.ensures.number ∙ c.root.ensures ∙ ap (λ (r : ReceiptValue). r.txn.root) c.receipt.view_is in
     let less = c.if-number-root.false in
     record {
       from = omega (arith, from);
@@ -25,7 +25,7 @@ loop-at-preserved c =
           ⊎_elim
           (λ before. so_far.below k receipt above before stands)
           (λ last.
-          let same = ap (λ (r : ReceiptValue). r.root) (same_of (values_of sorted) at k one.now receipt there stands (omega (arith, low, last))) in
+          let same = ap (λ (r : ReceiptValue). r.txn.root) (same_of (values_of sorted) at k one.now receipt there stands (omega (arith, low, last))) in
           omega (arith, root, less, same))
           (cases_lt k at);
     }

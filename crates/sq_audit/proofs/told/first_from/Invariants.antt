@@ -8,7 +8,7 @@ abbrev pub invariant-loop-at : goal.invariant-loop-at
 invariant-loop-at l = record {
   from : l.from ≤ l.at;
   within : l.at ≤ length l.sorted;
-  below : (k : ℕ) (receipt : ReceiptValue) → l.from ≤ k → k < l.at → slice_get (values_of l.sorted) k ≡ Some receipt → receipt.root < l.root;
+  below : (k : ℕ) (receipt : ReceiptValue) → l.from ≤ k → k < l.at → slice_get (values_of l.sorted) k ≡ Some receipt → receipt.txn.root < l.root;
 }
 
 abbrev pub decreases-loop-at : goal.decreases-loop-at

@@ -4,5 +4,4 @@ use Rattle.sq_command.proofs.serve.served.Goals as goal
 pub returns : goal.returns
 returns c =
     let pumped = c.with-pumped.ensures _ _ (begun _ _ c.subcommand.ensures.shape c.subcommand.ensures.local) c.counted-pumps.ensures.rule in
-    let folding = c.with-folding.ensures _ _ pumped c.counted-folds.ensures.rule in
-    c.with_flag.ensures _ folding
+    c.with_flag.ensures _ pumped

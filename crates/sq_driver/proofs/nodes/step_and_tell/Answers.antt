@@ -1,11 +1,17 @@
-use Rattle.std.proofs.Common.{arith}
-use Rattle.sq_driver.proofs.Told.{step_writes, told_nothing}
+use Rattle.std.proofs.Common.{ap, ◌++◌, ◌∙◌, Option}
+use Rattle.std.specs.Prelude.{option_to_list}
+use Rattle.sq_node_model.specs.NodeValue.{ReceiptValue}
+use Rattle.sq_driver.proofs.Told.{told_nothing, told_one}
 use Rattle.sq_driver.proofs.nodes.step_and_tell.Goals as goal
 
-pub returns-in_default-clause-told : goal.returns-in_default-clause-told
-returns-in_default-clause-told g c =
-    let past = c.in_default.ensures in
-    let before = c.receipts-receipts.ensures in
-    let behind = c.receipts.ensures in
-    told_nothing g.T.Teller.Tells c.args.node.now.receipts c.make_step-stepped.new.node.receipts c.args.teller.now
-    (step_writes c.args.fabric.now c.args.step c.args.node.now c.make_step-stepped.result c.make_step-stepped.new.node c.make_step-stepped.ensures) (grind (arith))
+pub returns-in-Some-clause-told : goal.returns-in-Some-clause-told
+returns-in-Some-clause-told g c =
+    let old = c.args.node.now.receipts in
+    told_one g.T.Teller.Tells old c.make_step-stepped.new.node.receipts c.in-Some.receipt c.args.teller.now c.tell.new.self
+    (c.make_step-stepped.ensures.receipt ∙ ap (λ (written : Option ReceiptValue). old ++ option_to_list written) c.in-Some.is) c.tell.ensures
+
+pub returns-in-None-clause-told : goal.returns-in-None-clause-told
+returns-in-None-clause-told g c =
+    let old = c.args.node.now.receipts in
+    told_nothing g.T.Teller.Tells old c.make_step-stepped.new.node.receipts c.args.teller.now
+    (c.make_step-stepped.ensures.receipt ∙ ap (λ (written : Option ReceiptValue). old ++ option_to_list written) c.in-None.is)

@@ -12,23 +12,15 @@ use Rattle.sq_gather.specs.Trees.{AreClosed as AreClosedTrees}
 use Rattle.sq_gather.specs.GatheringValue.{GatheringValue, IsReserved, AddsNodes}
 use Rattle.sq_gather.specs.Gathered.{AreByPart, IsGathered}
 use Rattle.sq_gather.proofs.ByPart.{AllInOrder, LinksHaveNodes, part_of, all_in_order, ordered, links_have_nodes}
-use Rattle.sq_gather.proofs.Whole.{room_for_past, with_past, room_in_order, each_addable, room_for_nodes, room_for_pumps, each_kept, closable_with, is_gathered}
+use Rattle.sq_gather.proofs.Whole.{with_past, room_in_order, each_addable, room_for_nodes, room_for_pumps, each_kept, closable_with, is_gathered}
 use Rattle.sq_gather.proofs.Placing.{placed, goes_on}
 use Rattle.sq_gather.proofs.run.gather.Goals as goal
-use Rattle.sq_gather.proofs.run.gather.Goals.{In-Ok, After-add_receipts}
+use Rattle.sq_gather.proofs.run.gather.Goals.{After-add_receipts}
 use Rattle.sq_gather.proofs.run.gather.Given.{Over}
 
 -- what was reserved is for all nodes and pumps
 for_all : (fabric : FabricValue) (nodes was : List NodeState) (pumps count : ℕ) (gathering : GatheringValue) → was ≡ nodes → count ≡ pumps → IsReserved [] fabric was count gathering → IsReserved [] fabric nodes pumps gathering
 for_all fabric nodes was pumps count gathering are is reserved = subst (λ (all : List NodeState × ℕ). IsReserved [] fabric all.0 all.1 gathering) (λ i. (are i, is i)) reserved
-
-reserved : (g : Over) (c : In-Ok g) → IsReserved [] c.args.run.fabric c.args.run.nodes.items (length c.args.run.pumps.items) c.in-Ok.gathering
-reserved g c = for_all c.args.run.fabric c.args.run.nodes.items _ (length c.args.run.pumps.items) _ c.in-Ok.gathering c.deref.ensures.value (search rules) c.in-Ok.ensures.reserved
-
-pub add_receipts-requires : goal.add_receipts-requires
-add_receipts-requires g c =
-    room_for_past c.args.run.fabric c.args.run.nodes.items (length c.args.run.pumps.items) c.in-Ok.gathering (reserved g (goal.at.add_receipts-requires g c).In-Ok)
-    c.into_parts-stage.result.receipts.items c.into_parts-stage.ensures.receipts
 
 -- the nodes in the order of their partitions
 abbrev by_part : (g : Over) → After-add_receipts g → List NodeState

@@ -24,7 +24,7 @@ opening g c = c.requires.ready.1.is_account.is_opening
 
 -- the stage ran
 ran : (g : Over) (c : After-deref g) → (began : BeganWith) → IsReady began c.args.ready → RanFrom c.args.ready.account.opening began c.in_ok-gathered.gathered
-ran g c began ready = c.in_ok-gathered.ensures c.args.ready.account.opening began (opening g c) ready.run
+ran g c began ready = c.in_ok-gathered.ensures.ran c.args.ready.account.opening began (opening g c) ready.run
 
 statuses : (g : Over) (c : After-deref g) → c.deref.result.now ≡ c.in_ok-gathered.gathered.statuses
 statuses g c = c.deref.ensures.value ∙ ap (λ (g : GatheredValue). g.statuses) c.gathered.view_is
@@ -64,10 +64,13 @@ go_on-requires g c =
     let led = led_next g (goal.at.go_on-requires g c).In-Next in (
       c.type_bounds.sync-R,
       (
-        told.ran.placed,
+        c.in_ok-gathered.ensures.told,
         (
-          done_before account moving c.requires.ready.0 gathered marks told c.in-Next.moving led,
-          leads_next account moving c.requires.ready.0 gathered marks told c.in-Next.moving led,
+          told.ran.placed,
+          (
+            done_before account moving c.requires.ready.0 gathered marks told c.in-Next.moving led,
+            leads_next account moving c.requires.ready.0 gathered marks told c.in-Next.moving led,
+          ),
         ),
       ),
     )
@@ -82,12 +85,15 @@ judge_end-requires g c =
     let led = led_end g (goal.at.judge_end-requires g c).In-Ended in (
       c.type_bounds.sync-R,
       (
-        told.marks,
+        c.deref-in-Ended.ensures.value ∙ c.in_ok-gathered.ensures.told,
         (
-          last_stage account moving c.requires.ready.0 gathered marks told led,
+          told.marks,
           (
-            done_at_last account moving c.requires.ready.0 gathered marks told led,
-            has_ended account moving c.requires.ready.0 gathered marks told led,
+            last_stage account moving c.requires.ready.0 gathered marks told led,
+            (
+              done_at_last account moving c.requires.ready.0 gathered marks told led,
+              has_ended account moving c.requires.ready.0 gathered marks told led,
+            ),
           ),
         ),
       ),
@@ -97,6 +103,7 @@ pub judge_stopped-requires : goal.judge_stopped-requires
 judge_stopped-requires g c =
     let told = told g (goal.at.judge_stopped-requires g c).After-deref c.moved_segments-moved.result c.moved_segments-moved.ensures c.requires.ready.0 c.requires.ready.1 in
     record {
+      told = c.deref-in-Missing.ensures.value ∙ c.in_ok-gathered.ensures.told;
       moved = told.marks;
       missing = not_done c.args.ready.account c.args.ready.moving c.requires.ready.0 c.in_ok-gathered.gathered c.moved_segments-moved.result told (led_missing g (goal.at.judge_stopped-requires g c).In-Missing);
     }

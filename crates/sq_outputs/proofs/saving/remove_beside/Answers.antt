@@ -1,7 +1,7 @@
 use Rattle.std.proofs.Common.{subst, List, ◌∷◌, []}
 use Rattle.std.specs.Prelude.{ℕ}
 use Rattle.std.proofs.lemmas.List.{take_all}
-use Rattle.sq_outputs.specs.Calls.{FileCall, Makes, Removed, removes_beside}
+use Rattle.sq_outputs.specs.Calls.{Makes, Removed, removes_beside}
 use Rattle.sq_outputs.proofs.Made.{made_none, made_one_more}
 use Rattle.sq_outputs.proofs.saving.remove_beside.Goals as goal
 

@@ -12,4 +12,4 @@ fold_once-requires-in-Err-Memory-clause-done g c κs region =
 pub fold_once-requires-in-Err-Memory-clause-ids : goal.fold_once-requires-in-Err-Memory-clause-ids
 fold_once-requires-in-Err-Memory-clause-ids g c κs region =
     let same = rw c.in-Err-Memory.field-0-is at c.in-Err-Memory.ensures in
-    subst IdsDiffer (sym same.2) c.requires.ids
+    subst IdsDiffer (sym same.3) c.requires.ids

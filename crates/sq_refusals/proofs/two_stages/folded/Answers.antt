@@ -3,4 +3,4 @@ use Rattle.sq_audit.specs.Answers.{IdsDiffer}
 use Rattle.sq_refusals.proofs.two_stages.folded.Goals as goal
 
 pub check_done-requires : goal.check_done-requires
-check_done-requires g c = subst IdsDiffer (sym c.deref.ensures.value) c.requires
+check_done-requires g c = subst IdsDiffer (sym c.deref-2.ensures.value) c.requires

@@ -12,7 +12,7 @@ more f n old new next pushed so_far is =
 
 pub loop-part-preserved : goal.loop-part-preserved
 loop-part-preserved c =
-    let nodes = c.args.nodes.now in
+    let pairs = c.args.pairs.now in
     let part = c.loop-part.part in
-    more (count_after c.args.parts.now.items nodes) part _ _ _ c.in_ok-push.ensures.items c.loop-part.invariant
-    (c.count_part.ensures ∙ ap (λ (parts : List PartCount). count_after parts nodes part) c.deref.ensures.value)
+    more (count_after c.args.parts.now.items pairs) part _ _ _ c.in_ok-push.ensures.items c.loop-part.invariant
+    (c.count_part.ensures ∙ ap (λ (parts : List PartCount). count_after parts pairs part) c.deref.ensures.value)

@@ -4,4 +4,4 @@ use Rattle.sq_report.specs.SummaryValue.{count_after}
 use Rattle.sq_report.proofs.summary.count_parts.Given as goal
 
 abbrev pub invariant-loop-part : goal.invariant-loop-part
-invariant-loop-part l = l.counts.items ≡ map (count_after l.parts.items l.nodes) (range_with_len 0 l.part)
+invariant-loop-part l = l.counts.items ≡ map (count_after l.parts.items l.pairs) (range_with_len 0 l.part)

@@ -1,11 +1,12 @@
-use Rattle.sq_service.proofs.Served.{closed_ends, closed_is_written}
+use Rattle.std.proofs.Common.{inl, inr, refl}
+use Rattle.sq_service.proofs.Steps.{closed_lends, not_ended_keeps}
 use Rattle.sq_service.proofs.closing.close.Goals as goal
 
-pub returns-in-Ok-clause-ends : goal.returns-in-Ok-clause-ends
-returns-in-Ok-clause-ends g c =
-    closed_ends c.args.committed c.args.engine c.in-Ok.closed c.judge_closed-ending.result c.in-Ok.ensures.closed
-    c.judge_closed-ending.ensures.set_up c.judge_closed-ending.ensures.ends
+pub judge_closed-requires-clause-rows : goal.judge_closed-requires-clause-rows
+judge_closed-requires-clause-rows g c = closed_lends c.args.engine.now c.close.new.self c.in-Ok.ensures.closed
 
-pub returns-in-Ok-clause-not_unwritten : goal.returns-in-Ok-clause-not_unwritten
-returns-in-Ok-clause-not_unwritten g c =
-    closed_is_written c.args.committed c.in-Ok.closed c.judge_closed-ending.result c.judge_closed-ending.ensures.ends
+pub returns-in-Ok : goal.returns-in-Ok
+returns-in-Ok g c = inl (c.in-Ok.ensures.closed, c.judge_closed.ensures)
+
+pub returns-in-Err : goal.returns-in-Err
+returns-in-Err g c = inr (refl, not_ended_keeps _ c.args.engine.now c.close.new.self c.in-Err.ensures.not_closed)

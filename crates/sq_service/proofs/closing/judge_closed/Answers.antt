@@ -1,5 +1,11 @@
-use Rattle.sq_service.proofs.Served.{found_closed}
+use Rattle.std.proofs.Common.{sym, ◌∙◌}
 use Rattle.sq_service.proofs.closing.judge_closed.Goals as goal
 
-pub returns-in-Err-clause-ends : goal.returns-in-Err-clause-ends
-returns-in-Err-clause-ends g c = found_closed c.args.committed c.args.closed.now c.in-Err.ending c.in-Err.ensures.judged
+pub returns-in-Some : goal.returns-in-Some
+returns-in-Some c = (
+  sym c.requires.verdict ∙ c.in-Sound.is,
+  (c.in-Some.stores.now, sym c.in-Some.ensures, record { families_are = c.count_families.ensures; committed_are = c.count_logged.ensures }),
+)
+
+pub returns-in-Unsound : goal.returns-in-Unsound
+returns-in-Unsound c = sym c.requires.verdict ∙ c.in-Unsound.is

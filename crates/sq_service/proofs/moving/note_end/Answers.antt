@@ -1,4 +1,4 @@
-use Rattle.std.proofs.Common.{refl, sym, ◌∙◌, true≢false}
+use Rattle.std.proofs.Common.{refl, sym, ◌∙◌}
 use Rattle.sq_server.specs.Becoming.{desk_value}
 use Rattle.sq_server.proofs.Desks.{silent}
 use Rattle.sq_service.proofs.Answered.{move_over, rows_move}
@@ -8,7 +8,7 @@ pub returns-then-is_at_rest-clause-ends : goal.returns-then-is_at_rest-clause-en
 returns-then-is_at_rest-clause-ends g c =
     let dv = desk_value g.W.Write.contents in
     move_over c.end_move.result c.args.engine.now c.args.progress (dv c.args.desk.now) (dv c.end_move.new.desk) c.requires
-    (c.is_at_rest.ensures.0 c.if-is_at_rest.true) c.end_move.ensures.line c.end_move.ensures.moving
+    (sym c.is_at_rest.ensures ∙ c.if-is_at_rest.true) c.end_move.ensures.line c.end_move.ensures.moving
 
 pub returns-else-is_at_rest-clause-speaks : goal.returns-else-is_at_rest-clause-speaks
 returns-else-is_at_rest-clause-speaks g c =
@@ -18,4 +18,4 @@ returns-else-is_at_rest-clause-speaks g c =
 pub returns-else-is_at_rest-clause-ends : goal.returns-else-is_at_rest-clause-ends
 returns-else-is_at_rest-clause-ends g c =
     rows_move c.args.engine.now (desk_value g.W.Write.contents c.args.desk.now)
-    (λ rests. true≢false (sym (c.is_at_rest.ensures.1 rests) ∙ c.if-is_at_rest.false))
+    (sym c.is_at_rest.ensures ∙ c.if-is_at_rest.false)

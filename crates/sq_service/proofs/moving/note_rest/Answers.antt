@@ -1,4 +1,4 @@
-use Rattle.std.proofs.Common.{inr, refl}
+use Rattle.std.proofs.Common.{refl}
 use Rattle.sq_server.specs.Becoming.{desk_value}
 use Rattle.sq_server.proofs.Desks.{silent}
 use Rattle.sq_service.proofs.Answered.{no_move_over}

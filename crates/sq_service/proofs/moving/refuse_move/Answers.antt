@@ -1,12 +1,8 @@
 use Rattle.std.proofs.Common.{refl, ◌∙◌}
 use Rattle.sq_server.specs.Becoming.{desk_value}
 use Rattle.sq_server.proofs.Desks.{silent}
-use Rattle.sq_engine.proofs.Goings.{stays}
 use Rattle.sq_service.proofs.Answered.{fault_of_move}
 use Rattle.sq_service.proofs.moving.refuse_move.Goals as goal
-
-pub returns-in-Plans-clause-gives : goal.returns-in-Plans-clause-gives
-returns-in-Plans-clause-gives g c = (stays c.args.engine c.args.engine refl, c.say_refused.ensures.speaks)
 
 pub returns-in-Plans-clause-refuses : goal.returns-in-Plans-clause-refuses
 returns-in-Plans-clause-refuses g c =
@@ -15,6 +11,7 @@ returns-in-Plans-clause-refuses g c =
     (fault_of_move _ c.in-Plans.fault (dv c.args.desk.now) (dv c.say_refused.new.self)
     (c.unread_refusal.ensures.number ∙ c.number-number.ensures) c.say_refused.ensures.line)
 
-pub returns-in-Moving-clause-gives : goal.returns-in-Moving-clause-gives
-returns-in-Moving-clause-gives g c =
-    let desk = desk_value g.W.Write.contents c.args.desk.now in (refl, silent desk desk refl)
+pub returns-in-Moving-clause-speaks : goal.returns-in-Moving-clause-speaks
+returns-in-Moving-clause-speaks g c =
+    let desk = desk_value g.W.Write.contents c.args.desk.now in
+    silent desk desk refl

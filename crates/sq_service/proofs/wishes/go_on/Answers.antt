@@ -1,39 +1,35 @@
+use Rattle.std.proofs.Common.{refl}
+use Rattle.std.proofs.lemmas.Result.{err_from_is_err_and}
 use Rattle.sq_server.specs.Becoming.{desk_value}
-use Rattle.sq_service.specs.Events.{GoneOn}
-use Rattle.std.proofs.Common.{[], ◌∷◌, refl}
-use Rattle.sq_engine.proofs.Goings.{stays}
-use Rattle.sq_service.proofs.Served.{ends_at_once, ends_with, stopped_ends, stopped_at_desk, want_ends, want_is_whole, want_at_desk, wants_memory, served_steps, speaks_only, speaks_then}
-use Rattle.sq_server.proofs.Desks.{writes_nothing}
+use Rattle.sq_service.proofs.Served.{served_steps, flushed, move_ended}
+use Rattle.sq_service.proofs.Steps.{stays, stops_at_desk, lacks_memory}
 use Rattle.sq_service.proofs.wishes.go_on.Goals as goal
 
 pub returns-in-Some-clause-gives : goal.returns-in-Some-clause-gives
 returns-in-Some-clause-gives g c =
-    let book = c.args.book.now in
-    let desk = desk_value g.W.Write.contents c.args.desk.now in
-    ends_at_once book c.args.engine desk c.in-Some.ending c.requires
-    (stopped_ends book.committed [] c.args.engine c.in-Some.ending c.in-Some.ensures.stopped)
-    (stopped_at_desk c.in-Some.ending desk c.in-Some.ensures.stopped c.in-Some.ensures.stops)
+    stops_at_desk (g.V.ServeWatch.Saves c.args.watch.now) c.in-Some.ending c.args.engine.now (desk_value g.W.Write.contents c.args.desk.now)
+    c.in-Some.ensures.stopped c.in-Some.ensures.stops
 
-pub returns-in-Ok-clause-gives : goal.returns-in-Ok-clause-gives
-returns-in-Ok-clause-gives g c =
-    let book = c.args.book.now in
-    let before = desk_value g.W.Write.contents c.args.desk.now in
-    let told = desk_value g.W.Write.contents c.note_rest.new.desk in
-    let flushed = desk_value g.W.Write.contents c.flush.new.self in
-    let after = desk_value g.W.Write.contents c.page_or_wish.new.desk in
-    served_steps book book c.page_or_wish.new.book c.args.engine before c.args.engine flushed c.page_or_wish.result after
-    (speaks_only book c.args.engine before flushed (speaks_then before told flushed c.note_rest.ensures.speaks (writes_nothing told flushed c.flush.ensures)))
-    c.page_or_wish.ensures
+pub returns-in_err-note_rest-clause-gives : goal.returns-in_err-note_rest-clause-gives
+returns-in_err-note_rest-clause-gives g c =
+    let dv = desk_value g.W.Write.contents in
+    let engine = c.args.engine.now in
+    let p = err_from_is_err_and c.from_residual.result c.from_residual.ensures.1 in
+    rw (p.1, p.2)
+    (lacks_memory (g.V.ServeWatch.Saves c.args.watch.now) _ engine (dv c.args.desk.now) engine (dv c.note_rest.new.desk)
+    c.in_err-note_rest.ensures.memory (stays engine engine refl) c.note_rest.ensures.speaks)
 
-pub returns-in-Err-clause-gives : goal.returns-in-Err-clause-gives
-returns-in-Err-clause-gives g c =
-    let book = c.args.book.now in
-    let engine = c.args.engine in
-    let before = desk_value g.W.Write.contents c.args.desk.now in
-    let told = desk_value g.W.Write.contents c.note_rest.new.desk in
-    let want = wants_memory c.in-Err.ending c.in-Err.ensures.memory in
-    ends_with (GoneOn ∷ []) book engine before engine told c.in-Err.ending refl c.requires
-    (engine, told, (stays engine engine refl, c.note_rest.ensures.speaks), (refl, refl))
-    (want_ends book.committed [] engine c.in-Err.ending want)
-    (want_is_whole c.in-Err.ending (GoneOn ∷ []) want)
-    (want_at_desk c.in-Err.ending told want)
+pub returns-clause-gives : goal.returns-clause-gives
+returns-clause-gives g c =
+    let dv = desk_value g.W.Write.contents in
+    let saves = g.V.ServeWatch.Saves c.args.watch.now in
+    let engine = c.args.engine.now in
+    let before = dv c.args.desk.now in
+    let told = dv c.note_rest.new.desk in
+    let sent = dv c.flush.new.self in
+    let wish = c.grant_wish in
+    let after = dv wish.new.desk in
+    served_steps saves engine before engine told wish.result wish.new.engine after
+    (move_ended saves engine before told c.in_ok-note_rest.ensures.ends c.note_rest.ensures.speaks)
+    (served_steps saves engine told engine sent wish.result wish.new.engine after
+    (flushed saves engine told sent c.flush.ensures) wish.ensures.gives)

@@ -8,6 +8,6 @@ use Rattle.sq_slab.proofs.run.are_keyed.Goals as goal
 pub loop-family-preserved : goal.loop-family-preserved
 loop-family-preserved c =
     let family = c.family-item.result in
-    let own : All (λ (txn : TxnValue). txn.root ≡ family.root) family.log = subst (All (λ (txn : TxnValue). txn.root ≡ family.root)) c.log.ensures.log c.log.ensures.own in
+    let own : All (λ (txn : TxnValue). txn.root ≡ family.root) family.log = c.position.ensures.own in
     All-more (λ (f : FamilyValue). All (λ (txn : TxnValue). txn.root ≡ f.root) f.log) c.args.families.now c.loop-family.family-index family c.loop-family-test.true c.loop-family.invariant
     (subst (λ (f : FamilyValue). All (λ (txn : TxnValue). txn.root ≡ f.root) f.log) c.family-item.is own)

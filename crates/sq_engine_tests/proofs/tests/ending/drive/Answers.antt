@@ -1,34 +1,32 @@
-use Rattle.std.proofs.Common.{List, sym, subst, subst₂, arith}
+use Rattle.std.proofs.Common.{[], sym, subst, arith}
 use Rattle.std.specs.Prelude.{All}
-use Rattle.sq_node.specs.NodeState.{NodeState, IsNodeOf}
-use Rattle.sq_pull.specs.Pump.{PumpValue}
+use Rattle.sq_node.specs.NodeState.{IsNodeOf}
+use Rattle.sq_driver.specs.declared.teller.TellingNode.{TellingNode}
+use Rattle.sq_driver.specs.Told.{AllDrivenTelling, nodes_of}
+use Rattle.sq_driver.proofs.Together.{all_were_driven}
+use Rattle.sq_teller.specs.declared.collector.Collector.{Collector}
+use Rattle.sq_teller.specs.Collected.{CollectsOrBreaksOff}
 use Rattle.sq_gather.specs.Gathered.{AreAllOf}
-use Rattle.sq_gather.proofs.Workers.{nodes_of, pumps_of, written}
-use Rattle.sq_driver.specs.Nodes.{AllDriven}
-use Rattle.sq_driver.specs.Pumps.{HasAllSeats, AllPumpsDriven}
+use Rattle.sq_gather.proofs.Workers.{written}
+use Rattle.sq_gather.proofs.Lists.{empty}
 use Rattle.sq_run.proofs.Driven.{whole_driven}
+use Rattle.sq_run.proofs.Collected.{Pairs, all_of_fabric}
 use Rattle.sq_engine_tests.proofs.tests.ending.drive.Goals as goal
 
 pub run_workers-requires-clause-nodes : goal.run_workers-requires-clause-nodes
 run_workers-requires-clause-nodes g c κs within =
     let fabric = c.args.fabric.now in
-    subst (All (IsNodeOf fabric)) (sym c.deref_mut.ensures.value) (nodes_of fabric c.args.nodes.items c.args.pumps.items c.requires)
-
-pub run_workers-requires-clause-pumps : goal.run_workers-requires-clause-pumps
-run_workers-requires-clause-pumps g c κs within =
-    let fabric = c.args.fabric.now in
-    subst (All (HasAllSeats fabric)) (sym c.deref_mut-2.ensures.value) (pumps_of fabric c.args.nodes.items c.args.pumps.items c.requires)
+    subst (All (λ (pair : TellingNode Collector). IsNodeOf fabric pair.node)) (sym c.deref_mut.ensures.value) (all_of_fabric fabric c.args.pairs.items [] c.requires)
 
 pub returns : goal.returns
 returns g c =
     let fabric = c.args.fabric.now in
-    let nodes = c.run_workers.new.nodes in
+    let old = c.args.pairs.items in
+    let new = c.run_workers.new.pairs in
     let pumps = c.run_workers.new.pumps in
-    let by_nodes : AllDriven fabric c.args.nodes.items nodes =
-    subst (λ (old : List NodeState). AllDriven fabric old nodes) c.deref_mut.ensures.value c.run_workers.ensures.nodes in
-    let by_pumps : AllPumpsDriven fabric c.args.pumps.items pumps =
-    subst (λ (old : List PumpValue). AllPumpsDriven fabric old pumps) c.deref_mut-2.ensures.value c.run_workers.ensures.pumps in
-    let all_nodes = written c.args.nodes.items nodes c.args.nodes.len (omega (arith, c.args.nodes.ok.0, by_nodes.count)) in
-    let all_pumps = written c.args.pumps.items pumps c.args.pumps.len (omega (arith, c.args.pumps.ok.0, by_pumps.count)) in
-    subst₂ (AreAllOf fabric) (sym all_nodes) (sym all_pumps)
-    (whole_driven fabric c.args.nodes.items nodes c.args.pumps.items pumps by_nodes by_pumps c.requires)
+    let pairs = subst (λ (was : Pairs). AllDrivenTelling CollectsOrBreaksOff fabric was new) c.deref_mut.ensures.value c.run_workers.ensures.nodes in
+    let none = empty pumps c.run_workers.ensures.pumps.count in
+    let all_pairs = written old new c.args.pairs.len (omega (arith, pairs.count, c.deref_mut.ensures.len)) in
+    subst (λ (list : Pairs). AreAllOf fabric (nodes_of list) []) (sym all_pairs)
+    (subst (AreAllOf fabric (nodes_of new)) none
+    (whole_driven fabric (nodes_of old) (nodes_of new) [] pumps (all_were_driven CollectsOrBreaksOff fabric old new pairs) c.run_workers.ensures.pumps c.requires))

@@ -79,28 +79,28 @@ unclaimed_told g c outcome is none receipts same =
           ∙ ap (λ (node : NodeState). record node { core = new; seats = seats; claims = count; receipts = receipts_after node.core.store job outcome node.receipts }) c.self.view_is;
     })
 
-pub returns-in-Done : goal.returns-in-Done
-returns-in-Done g c =
+pub returns-in-Done-clause-step : goal.returns-in-Done-clause-step
+returns-in-Done-clause-step g c =
     let job = c.in-Some.job in
     let reply = c.in-Done.reply in
     let old = c.self.inside.core.core in
     let new = c.submit.new.self.core in
     let waits = must_wait old job.root in
     let taken : IsTaken waits old job (Done reply) new = subst (λ (o : Outcome). IsTaken waits old job o new) c.in-Done.is c.in-Ok.ensures.ok in
-    let receipt : c.receipt.result ≡ receipt_of old.store job reply =
-    receipt_same old.store job reply (log_length new.store job.root) c.receipt.result c.receipt.ensures (submitted_position waits old new job reply taken) in
-    unclaimed_told g (goal.at.returns-in-Done g c).In-Ok (Done reply) c.in-Done.is (λ old new none. none) c.add.new.self.receipts
+    let receipt : c.receipt-receipt.result ≡ receipt_of old.store job reply =
+    receipt_same old.store job reply (log_length new.store job.root) c.receipt-receipt.result c.receipt-receipt.ensures (submitted_position waits old new job reply taken) in
+    unclaimed_told g (goal.at.returns-in-Done-clause-step g c).In-Ok (Done reply) c.in-Done.is (λ old new none. none) c.add.new.self.receipts
     (c.add.ensures.receipts ∙ (λ k. c.reserve.ensures.receipts k ++ receipt k ∷ []))
 
-pub returns-in-Moved : goal.returns-in-Moved
-returns-in-Moved g c =
-    unclaimed_told g (goal.at.returns-in-Moved g c).In-Ok (Moved c.in-Moved.to) c.in-Moved.is (λ old new none. none) _ (search rules)
+pub returns-in-Moved-clause-step : goal.returns-in-Moved-clause-step
+returns-in-Moved-clause-step g c =
+    unclaimed_told g (goal.at.returns-in-Moved-clause-step g c).In-Ok (Moved c.in-Moved.to) c.in-Moved.is (λ old new none. none) _ (search rules)
 
 has_room : (g : Over) (c : In-Waits g) → c.reserve-else-is_err.new.self.has_room ≡ true
 has_room g c = search rules
 
-pub returns-in-Waits : goal.returns-in-Waits
-returns-in-Waits g c =
+pub returns-in-Waits-clause-step : goal.returns-in-Waits-clause-step
+returns-in-Waits-clause-step g c =
     let inside = c.self.inside in
     let job = c.in-Some.job in
     let seg = c.in-Waits.seg in
@@ -116,7 +116,7 @@ returns-in-Waits g c =
     let claims : ClaimsAt seg leaf before now =
     pulled_claims _ seg leaf _ _ before now c.reactive.result _
     (sym (ap (λ (puller : PullerValue). puller.part) c.reserve-else-is_err.ensures.same ∙ c.self.invariant.0))
-    (sym (ap (λ (puller : PullerValue). puller.wins.count) c.reserve-else-is_err.ensures.same)) refl (has_room g (goal.at.returns-in-Waits g c).In-Waits) c.reactive.ensures.pulled c.reactive.ensures.memory in
+    (sym (ap (λ (puller : PullerValue). puller.wins.count) c.reserve-else-is_err.ensures.same)) refl (has_room g (goal.at.returns-in-Waits-clause-step g c).In-Waits) c.reactive.ensures.pulled c.reactive.ensures.memory in
     job_told c.args.fabric.now c.args.self.now Did _ c.requires
     (record {
       txn = job;

@@ -1,7 +1,7 @@
 use Rattle.std.proofs.Common.{◌≡◌, List, [], ◌∷◌, ◌++◌, refl, sym, ap, ◌∙◌, subst}
 use Rattle.sq_exec.specs.CoreValue.{CoreValue}
 use Rattle.sq_exec.specs.declared.outcome.Outcome.{Outcome}
-use Rattle.sq_exec.specs.declared.outcome.Outcome.TheVariants.{Done, Moved, Waits}
+use Rattle.sq_exec.specs.declared.outcome.Outcome.TheVariants.{Moved, Waits}
 use Rattle.sq_exec.specs.Serving.{IsResumed}
 use Rattle.sq_store.specs.StoreValue.{log_length}
 use Rattle.sq_node_model.specs.NodeValue.{ReceiptValue}
@@ -53,24 +53,24 @@ kept g c outcome is same =
     let inside = c.self.inside in
     c.reserve.ensures.receipts ∙ same ∙ ap (λ (o : Outcome). receipts_after inside.core.core.store c.in-Ok.resumed.txn o inside.desk.receipts) (sym is)
 
-pub returns-in-Done : goal.returns-in-Done
-returns-in-Done g c =
-    let ok = (goal.at.returns-in-Done g c).In-Ok in
+pub returns-in-Done-clause-step : goal.returns-in-Done-clause-step
+returns-in-Done-clause-step g c =
+    let ok = (goal.at.returns-in-Done-clause-step g c).In-Ok in
     let txn = c.in-Ok.resumed.txn in
     let reply = c.in-Done.reply in
     let old = c.self.inside.core.core in
     let new = c.resume.new.self.core in
-    let receipt : c.receipt.result ≡ receipt_of old.store txn reply =
-    receipt_same old.store txn reply (log_length new.store txn.root) c.receipt.result c.receipt.ensures (resumed_position old new c.in-Ok.resumed reply c.in-Ok.ensures.ok c.in-Done.is) in
+    let receipt : c.receipt-receipt.result ≡ receipt_of old.store txn reply =
+    receipt_same old.store txn reply (log_length new.store txn.root) c.receipt-receipt.result c.receipt-receipt.ensures (resumed_position old new c.in-Ok.resumed reply c.in-Ok.ensures.ok c.in-Done.is) in
     resumed_told g ok c.add.new.self.receipts
     (c.add.ensures.receipts ∙ (λ k. c.reserve.ensures.receipts k ++ receipt k ∷ []) ∙ ap (λ (o : Outcome). receipts_after old.store txn o c.self.inside.desk.receipts) (sym c.in-Done.is))
 
-pub returns-in-Moved : goal.returns-in-Moved
-returns-in-Moved g c =
-    let ok = (goal.at.returns-in-Moved g c).In-Ok in
+pub returns-in-Moved-clause-step : goal.returns-in-Moved-clause-step
+returns-in-Moved-clause-step g c =
+    let ok = (goal.at.returns-in-Moved-clause-step g c).In-Ok in
     resumed_told g ok c.post.new.self.receipts (c.post.ensures ∙ kept g ok (Moved c.in-Moved.to) c.in-Moved.is refl)
 
-pub returns-in-Waits : goal.returns-in-Waits
-returns-in-Waits g c =
-    let ok = (goal.at.returns-in-Waits g c).In-Ok in
+pub returns-in-Waits-clause-step : goal.returns-in-Waits-clause-step
+returns-in-Waits-clause-step g c =
+    let ok = (goal.at.returns-in-Waits-clause-step g c).In-Ok in
     resumed_told g ok c.reserve.new.self.receipts (kept g ok (Waits c.in-Waits.field-0 c.in-Waits.field-1) c.in-Waits.is refl)

@@ -1,10 +1,11 @@
 use Rattle.std.proofs.Common.{inl, inr, refl}
 use Rattle.std.specs.Prelude.{Ok, Some, None, string_bytes, sum_by, length}
 use Rattle.sq_text.specs.Texts.{refused_line}
+use Rattle.sq_serve.specs.declared.serve_answer.ServeAnswer.TheVariants.{Folded}
 use Rattle.sq_serve.specs.declared.serve_line.ServeLine.TheVariants as asks
 use Rattle.sq_server.specs.declared.desk.Wish.TheVariants as wish
 use Rattle.sq_server.specs.declared.feed.Fed.TheVariants as fed
-use Rattle.sq_server.specs.Saying.{PlanTold}
+use Rattle.sq_server.specs.Saying.{Answered, PlanTold}
 use Rattle.sq_server.specs.Settling.{unanswered_jobs}
 use Rattle.sq_server.proofs.Desks.{answers_one, status_answered, wish_unheard, wishes_one}
 use Rattle.sq_server.proofs.desk.ServeDesk.take_asked.Goals as goal
@@ -17,13 +18,11 @@ returns-in-Move-clause-handles g c =
     rw c.in-Move.is
     (wishes_one (fed.Line c.args.place (Ok (asks.Move c.in-Move.plan))) (wish.Move (record { place = c.args.place; plan = c.in-Move.plan })) _ _ (inl (refl, refl)) (inr (refl, refl)) (λ part within. refl) c.want_at_rest.ensures.either)
 
-pub returns-in-Fold-clause-heard : goal.returns-in-Fold-clause-heard
-returns-in-Fold-clause-heard g c = wish_unheard wish.Fold (refused_line 217) _ _ c.want_at_rest-in-Fold.ensures.either
-
 pub returns-in-Fold-clause-handles : goal.returns-in-Fold-clause-handles
 returns-in-Fold-clause-handles g c =
+    let answers = c.args.self.now.counts.answered in
     rw c.in-Fold.is
-    (wishes_one (fed.Line c.args.place (Ok asks.Fold)) wish.Fold _ _ (inl (refl, refl)) (inr (refl, refl)) (λ part within. refl) c.want_at_rest-in-Fold.ensures.either)
+    (answers_one (fed.Line c.args.place (Ok asks.Fold)) (Answered (Folded answers)) _ _ c.say_folded.ensures (answers, refl, refl) (λ part within. refl))
 
 pub returns-in-Rows-clause-heard : goal.returns-in-Rows-clause-heard
 returns-in-Rows-clause-heard g c = wish_unheard (wish.Rows (record { place = c.args.place; file = None })) (refused_line 217) _ _ c.want_at_rest-in-Rows.ensures.either

@@ -1,4 +1,5 @@
 use Rattle.std.proofs.Common.{arith}
+use Rattle.sq_driver.specs.Told.{nodes_of}
 use Rattle.sq_thread_tests.proofs.Whole.{with_pump}
 use Rattle.sq_thread_tests.proofs.tests.run.TestRun.drive_pump.Goals as goal
 
@@ -6,5 +7,5 @@ pub invariant_of-self : goal.invariant_of-self
 invariant_of-self g c =
     let run = c.args.self.now in
     record {
-      whole = with_pump run.fabric run.nodes.items run.pumps.items c.args.number c.index_mut.result.now c.drive_pump.new.pump run.whole (omega arith) c.index_mut.ensures.value c.drive_pump.ensures.stays c.drive_pump.ensures.claims;
+      whole = with_pump run.fabric (nodes_of run.nodes.items) run.pumps.items c.args.number c.index_mut.result.now c.drive_pump.new.pump run.whole (omega arith) c.index_mut.ensures.value c.drive_pump.ensures.stays c.drive_pump.ensures.claims;
     }

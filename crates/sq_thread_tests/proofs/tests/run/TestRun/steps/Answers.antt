@@ -8,5 +8,5 @@ make_steps-requires g c = node_at c.args.self.now.fabric _ _ c.args.part c.index
 pub invariant_of-self : goal.invariant_of-self
 invariant_of-self g c =
     record {
-      whole = with_node c.args.self.now.fabric _ _ c.args.part c.index_mut.result.now c.make_steps.new.node c.args.self.now.whole (omega arith) c.index_mut.ensures.value c.make_steps.ensures.of c.make_steps.ensures.part;
+      whole = with_node c.args.self.now.fabric _ _ c.args.part c.index_mut.result.now c.make_steps.new.pair c.args.self.now.whole (omega arith) c.index_mut.ensures.value c.make_steps.ensures.of c.make_steps.ensures.part;
     }

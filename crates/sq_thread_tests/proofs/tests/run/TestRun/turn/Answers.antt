@@ -8,5 +8,5 @@ turn_once-requires g c = node_at c.args.self.now.fabric _ _ c.args.part c.index_
 pub invariant_of-self : goal.invariant_of-self
 invariant_of-self g c =
     record {
-      whole = with_node c.args.self.now.fabric _ _ c.args.part c.index_mut.result.now c.turn_once.new.node c.args.self.now.whole (omega arith) c.index_mut.ensures.value c.turn_once.ensures.of c.turn_once.ensures.part;
+      whole = with_node c.args.self.now.fabric _ _ c.args.part c.index_mut.result.now c.turn_once.new.pair c.args.self.now.whole (omega arith) c.index_mut.ensures.value c.turn_once.ensures.of c.turn_once.ensures.part;
     }

@@ -1,6 +1,0 @@
-pub mod PostedIds
-pub mod Passing
-pub mod Tellers
-pub mod Resting
-pub mod Sending
-pub mod AllGiven

@@ -1,6 +1,0 @@
-use Rattle.sq_epoch.proofs.Resting.{GivesFirst}
-use Rattle.sq_epoch.proofs.rings.give_rest.Given as goal
-
--- all that was sent over the rings so far was given
-abbrev pub invariant-loop-number : goal.invariant-loop-number
-invariant-loop-number g l = GivesFirst g.C.Client.Becomes l.number l.fn.pairs l.fn.rings l.fn.client l.pairs l.rings l.client

@@ -1,6 +1,0 @@
-use Rattle.sq_epoch.specs.Telling.{AreNewRings}
-use Rattle.sq_epoch.proofs.telling.open_rings.Given as goal
-
--- so many rings were made
-abbrev pub invariant-loop-part : goal.invariant-loop-part
-invariant-loop-part l = AreNewRings l._part l.tellers.items l.rings.items

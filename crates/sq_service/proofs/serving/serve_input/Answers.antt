@@ -1,6 +1,0 @@
-use Rattle.std.proofs.Common.{inr, refl}
-use Rattle.sq_service.proofs.Served.{want_serves_none}
-use Rattle.sq_service.proofs.serving.serve_input.Goals as goal
-
-pub returns-in-Err : goal.returns-in-Err
-returns-in-Err g c = inr (want_serves_none c.in-Err.ending c.in-Err.ensures, refl)
