@@ -61,7 +61,7 @@ FILENAME ~ /^crates/ {
     judge(last, crates_in(last) != "" ? crates_in(last) : row != "" ? row : heading)
 }
 END {
-    if (looked < 480) { print looked " names are too few"; exit 1 }
+    if (looked < 570) { print looked " names are too few"; exit 1 }
     print looked + 0 " names of docs/proof, " gone + 0 " of them gone"
     exit gone > 0
 }
