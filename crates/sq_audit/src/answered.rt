@@ -54,7 +54,7 @@ pub fn list_ids(alloc: Global, receipts: &[Receipt]) -> Result<Vec<(u64, u64)>, 
     for receipt in receipts {
         ids.push((receipt.txn.id(), receipt.txn.root().number()))?;
     }
-    ids.sort_by_key(|one| one.0)?;
+    ids.sort_unstable_by_key(|one| one.0);
     Ok(ids)
 }
 

@@ -46,7 +46,7 @@ fn is_placed(opening: &Opening, stage: u64, spans: &[Span], located: &Located) -
         return true;
     };
     match part_of(opening, stage, spans, located.family.root()) {
-        Some(at) => usize::from(at.number()) == part,
+        Some(at) => u32::from(at.number()) == part,
         None => false,
     }
 }

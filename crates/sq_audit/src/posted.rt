@@ -98,7 +98,7 @@ fn by_id(alloc: Global, jobs: &[Job]) -> Result<Vec<(u64, usize)>, AllocError>
     for (at, job) in jobs.iter().enumerate() {
         places.push((job.txn.id(), at))?;
     }
-    places.sort_by_key(|place| place.0)?;
+    places.sort_unstable_by_key(|place| place.0);
     Ok(places)
 }
 

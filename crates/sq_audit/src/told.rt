@@ -308,11 +308,11 @@ fn sort(alloc: Global, receipts: &[Receipt]) -> Result<Vec<&Receipt>, AllocError
     for receipt in receipts {
         sorted.push(receipt)?;
     }
-    sorted.sort_by_cached_key(|receipt| (
+    sorted.sort_unstable_by_key(|receipt| (
         receipt.txn.root().number(),
         receipt.position,
         commits(receipt),
-    ))?;
+    ));
     Ok(sorted)
 }
 

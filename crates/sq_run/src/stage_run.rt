@@ -213,5 +213,9 @@ fn add_told(told: &mut Vec<Receipt>, teller: Collector) -> Result<(), AllocError
     if broke_off {
         return Err(AllocError);
     }
+    if told.is_empty() {
+        *told = receipts;
+        return Ok(());
+    }
     told.append(&mut receipts)
 }

@@ -19,9 +19,9 @@ loop-receipt-preserved c =
 pub returns : goal.returns
 returns c =
     let old = c.loop-receipt.ids.items in
-    let new = c.sort_by_key.new.self.items in
+    let new = c.sort_unstable_by_key.new.self.items in
     let all : old ≡ map id_and_root c.args.receipts.now = c.loop-receipt.invariant ∙ ap (map id_and_root) (take_all c.loop-receipt.receipt-index c.args.receipts.now c.loop-receipt-test.false) in
     record {
-      all = subst (λ (ids : List (ℕ × ℕ)). IsPermutation ids new) all c.in_ok-sort_by_key.ensures.permutation;
-      by_id = IsNonDecreasingBy-from_sort listed_id new (c.in_ok-sort_by_key.ensures.sorted listed_id (answers_always _ _ _ (λ f a r g called. search rules)));
+      all = subst (λ (ids : List (ℕ × ℕ)). IsPermutation ids new) all c.sort_unstable_by_key.ensures.permutation;
+      by_id = IsNonDecreasingBy-from_sort listed_id new (c.sort_unstable_by_key.ensures.sorted listed_id (answers_always _ _ _ (λ f a r g called. search rules)));
     }

@@ -1,7 +1,7 @@
 use Rattle.std.proofs.Common.{◌++◌, [], List, sym, ap, ◌∙◌, subst, append_assoc}
 use Rattle.std.proofs.lemmas.List.{append-nil}
-use Rattle.sq_gather.specs.Prelude.{GatheredLink, Chunk}
-use Rattle.sq_audit.specs.Located.{Entry, entries_in}
+use Rattle.sq_gather.specs.Prelude.{GatheredLink, Chunk, family_in}
+use Rattle.sq_audit.specs.Located.{Entry, entries_in, AddsAll}
 use Rattle.sq_audit.proofs.Listing.{item_of, end_of, of_spot, carried_none, carried_next, carried_whole, CarriedTo}
 use Rattle.sq_audit.proofs.located.add_under_way.Goals as goal
 
@@ -14,7 +14,7 @@ loop-chunk-preserved c =
     let here = c.deref-carried-items.ensures.value ∙ ap (λ (l : GatheredLink). l.under_way) c.of.view_is in
     let at = item_of c.deref-carried-items.result.now c.args.of.now.under_way chunk c.carried-item.result here c.carried-item.is c.loop-chunk-test.true in
     let so_far = c.loop-chunk.invariant in
-    let adds = c.in_ok-add_carried.ensures in
+    let adds = subst (λ n. AddsAll (Chunk c.args.link n) (family_in c.carried-item.result.families) (entries_in c.loop-chunk.all.items) (entries_in c.add_carried.new.all.items)) c.in_ok-chunk.ensures c.in_ok-add_carried.ensures in
     let more = of_spot (Chunk c.args.link chunk) adds.families in (
       so_far.0 ++ more,
       adds.added ∙ ap (λ (es : List Entry). es ++ more) so_far.1 ∙ append_assoc (entries_in c.args.all.now.items) so_far.0 more,

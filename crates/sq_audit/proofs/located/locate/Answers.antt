@@ -8,10 +8,10 @@ use Rattle.sq_audit.proofs.located.locate.Goals as goal
 pub returns-clause-all : goal.returns-clause-all
 returns-clause-all c =
     let old = c.in_ok-all.all.items in
-    let new = c.sort_by_key.new.self.items in
-    lists_permuted c.args.g.now (entries_in old) (entries_in new) (IsPermutation-map entry_of old new c.in_ok-sort_by_key.ensures.permutation) c.in_ok-all.ensures
+    let new = c.sort_unstable_by_key.new.self.items in
+    lists_permuted c.args.g.now (entries_in old) (entries_in new) (IsPermutation-map entry_of old new c.sort_unstable_by_key.ensures.permutation) c.in_ok-all.ensures
 
 pub returns-clause-rise : goal.returns-clause-rise
 returns-clause-rise c =
-    let new = c.sort_by_key.new.self.items in
-    rise_entries new (IsNonDecreasingBy-from_sort (λ located. located.family.now.root) new (c.in_ok-sort_by_key.ensures.sorted (λ located. located.family.now.root) (answers_always _ _ _ (λ f a r g called. search rules))))
+    let new = c.sort_unstable_by_key.new.self.items in
+    rise_entries new (IsNonDecreasingBy-from_sort (λ located. located.family.now.root) new (c.sort_unstable_by_key.ensures.sorted (λ located. located.family.now.root) (answers_always _ _ _ (λ f a r g called. search rules))))

@@ -19,6 +19,6 @@ loop-at-preserved c =
 
 pub returns : goal.returns
 returns c =
-    let new = c.sort_by_key.new.self.items in
-    index_whole id_of c.args.jobs.now c.loop-at.at c.loop-at.places.items new c.loop-at-test.false c.loop-at.invariant c.in_ok-sort_by_key.ensures.permutation
-    (IsNonDecreasingBy-from_sort listed_id new (c.in_ok-sort_by_key.ensures.sorted listed_id (answers_always _ _ _ (λ f a r g called. search rules))))
+    let new = c.sort_unstable_by_key.new.self.items in
+    index_whole id_of c.args.jobs.now c.loop-at.at c.loop-at.places.items new c.loop-at-test.false c.loop-at.invariant c.sort_unstable_by_key.ensures.permutation
+    (IsNonDecreasingBy-from_sort listed_id new (c.sort_unstable_by_key.ensures.sorted listed_id (answers_always _ _ _ (λ f a r g called. search rules))))

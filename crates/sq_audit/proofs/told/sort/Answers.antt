@@ -9,9 +9,9 @@ use Rattle.sq_audit.proofs.told.sort.Goals as goal
 pub returns-clause-all : goal.returns-clause-all
 returns-clause-all c =
     let all : values_of c.loop-receipt.sorted.items ≡ c.args.receipts.now = c.loop-receipt.invariant ∙ take_all c.loop-receipt.receipt-index c.args.receipts.now c.loop-receipt-test.false in
-    subst (λ (rs : List ReceiptValue). IsPermutation rs (values_of c.sort_by_cached_key.new.self.items)) all
-    (IsPermutation-map (λ (r : Bor ReceiptValue). r.now) c.loop-receipt.sorted.items c.sort_by_cached_key.new.self.items c.in_ok-sort_by_cached_key.ensures.permutation)
+    subst (λ (rs : List ReceiptValue). IsPermutation rs (values_of c.sort_unstable_by_key.new.self.items)) all
+    (IsPermutation-map (λ (r : Bor ReceiptValue). r.now) c.loop-receipt.sorted.items c.sort_unstable_by_key.new.self.items c.sort_unstable_by_key.ensures.permutation)
 
 pub returns-clause-sorted : goal.returns-clause-sorted
 returns-clause-sorted c =
-    sorted_values c.sort_by_cached_key.new.self.items (c.in_ok-sort_by_cached_key.ensures.sorted (λ r. receipt_key r.now) (answers_always _ _ _ (λ f a r g called. search rules)))
+    sorted_values c.sort_unstable_by_key.new.self.items (c.sort_unstable_by_key.ensures.sorted (λ r. receipt_key r.now) (answers_always _ _ _ (λ f a r g called. search rules)))
