@@ -1,7 +1,6 @@
 #!/usr/bin/env bash
-# A million jobs of an engine, while root keys move from one partition to four in three stages and back in one, ten times, with a
-# page after each move and where a log is long: each job is answered once, each root key's numbers are 1, 2, 3 and so on, and each
-# page is sound.
+# A million jobs of an engine, while root keys move from one partition to four in three stages and back in one, ten times: each job is
+# answered once, and each root key's numbers are 1, 2, 3 and so on.
 #
 #   tests/million.sh
 #
