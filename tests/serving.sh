@@ -384,7 +384,7 @@ served_end_in_a_move() {
     count 'serve: an end in a move' "$([ "$ended" = 0 ] || echo "status $ended; ")$(difference "$room/wanted" "$room/got")"
 }
 
-# Jobs on one root key that moves there and back, with pages meanwhile: each is answered once, and the numbers are 1, 2, 3 ..
+# Jobs on one root key that moves there and back: each is answered once, and the numbers are 1, 2, 3 ..
 served_moves() {
     local owner from=1 plan='{"version":1,"partitions":2,"ranges":[[0,8,OWNER],[8,4294967296,0]]}'
     {
