@@ -29,20 +29,20 @@ cat <<'END'
 <rect class="back" width="1600" height="860"/>
 END
 awk '
-function x_of(ms) { return 130 + int(1400 * (ms + 500) / 1900 + 0.5) }
-function rate_y(thousands) { return 390 - int(240 * (thousands > 800 ? 800 : thousands) / 800 + 0.5) }
-function wait_y(ms) { return 720 - int(240 * (ms > 800 ? 800 : ms) / 800 + 0.5) }
+function x_of(ms) { return 630 + ms }
+function rate_y(thousands) { return 390 - int(240 * (thousands > 1000 ? 1000 : thousands) / 1000 + 0.5) }
+function wait_y(ms) { return 720 - int(240 * (ms > 200 ? 200 : ms) / 200 + 0.5) }
 function text(x, y, anchor, class, words) { printf "<text class=\"%s\" x=\"%d\" y=\"%d\" text-anchor=\"%s\">%s</text>\n", class, x, y, anchor, words }
 FNR == 1 { run++; from[run] = $2; to[run] = $3 - $2; next }
 { bin = int(($1 * 10 - from[run] + 500) / 50); count[run, bin] += $2; lines[run, bin]++; if ($4 > wait[run, bin]) wait[run, bin] = $4; if (bin > last[run]) last[run] = bin }
 END {
     printf "<path class=\"move\" d=\"M%d 150H%dV390H%dZM%d 480H%dV720H%dZ\"/>\n", x_of(0), x_of(to[1]), x_of(0), x_of(0), x_of(to[1]), x_of(0)
     for (at = 0; at <= 4; at++) {
-        printf "<path class=\"grid\" d=\"M130 %dH1530M130 %dH1530\"/>\n", rate_y(at * 200), wait_y(at * 200)
-        text(114, rate_y(at * 200) + 9, "end", "soft", at == 0 ? "0" : at * 200 "k")
-        text(114, wait_y(at * 200) + 9, "end", "soft", at * 200)
+        printf "<path class=\"grid\" d=\"M130 %dH1530M130 %dH1530\"/>\n", rate_y(at * 250), wait_y(at * 50)
+        text(114, rate_y(at * 250) + 9, "end", "soft", at == 0 ? "0" : at * 250 "k")
+        text(114, wait_y(at * 50) + 9, "end", "soft", at * 50)
     }
-    for (at = -500; at <= 1400; at += 500) text(x_of(at), 766, "middle", "soft", at == 0 ? "0" : sprintf("%.1f", at / 1000))
+    for (at = -500; at <= 500; at += 500) text(x_of(at), 766, "middle", "soft", at == 0 ? "0" : sprintf("%.1f", at / 1000))
     text(830, 820, "middle", "ink", "seconds since the move was asked for")
     text(130, 44, "start", "ink", "Half of all families move, with half of the jobs that the engine can answer")
     text(130, 136, "start", "soft", "answers a second")

@@ -76,8 +76,18 @@ END {
 most=$(for series in "$folder"/*.series; do tail -n +2 "$series"; done | cut -d ' ' -f 2 | sort -n |
     awk '{ counts[NR] = $1 } END { most = counts[int(NR * 0.95) + 1]; print most <= 3000 ? 3000 : 3000 * int((most + 2999) / 3000) }')
 lefts=(70 430 940 1300) width=330 height=120
+# Each form that has a series takes a row.
+tall=130
+while IFS='|' read -r form names; do
+    for name in $names; do
+        if [ -f "$folder/$name.series" ]; then tall=$((tall + 185)); break; fi
+    done
+done <<< "$rows"
+cat <<END
+<svg xmlns="http://www.w3.org/2000/svg" viewBox="0 0 1720 $tall" width="1032" height="$((tall * 3 / 5))" font-family="system-ui, sans-serif" font-size="18">
+<rect class="back" width="1720" height="$tall"/>
+END
 cat <<'END'
-<svg xmlns="http://www.w3.org/2000/svg" viewBox="0 0 1720 1425" width="1032" height="855" font-family="system-ui, sans-serif" font-size="18">
 <style>
 .back { fill: #fcfcfb } .ink { fill: #0b0b0b } .soft { fill: #52514e }
 .grid { stroke: #e1e0d9; stroke-width: 1.5 } .axis { stroke: #a09f95; stroke-width: 2 }
@@ -89,7 +99,6 @@ cat <<'END'
 .rate { fill: #3987e5 } .band { fill: #d95926 } .wait { stroke: #d95926 } .move { fill: #c3c2b7 }
 }
 </style>
-<rect class="back" width="1720" height="1425"/>
 <path class="rate" d="M70 28h40v14h-40Z"/><text class="ink" x="120" y="42">answers a second, at the left</text>
 <path class="wait" d="M430 35h40"/><text class="ink" x="480" y="42">99 of 100 had waited no longer, at the right</text>
 <path class="band" d="M940 28h40v14h-40Z"/><text class="ink" x="990" y="42">from the median to the longest wait</text>
