@@ -57,3 +57,8 @@ none_named rows named are is = ap (λ (texts : Option (List Text)). unwrap_or te
 pub no_texts : (words : List (Bor Text)) → true ≡ (length words == 0) → texts_of words ≡ []
 no_texts [] none = refl
 no_texts (word ∷ words) none = let empty : suc (length words) ≡ 0 = eqb-true (suc (length words)) 0 (sym none) in absurd (omega (arith, empty))
+
+-- there are some
+pub some_texts : (words : List (Bor Text)) (i : ℕ) → i < length words → texts_of words ≡ [] → ⊥
+some_texts [] i within none = absurd (omega (arith, within))
+some_texts (word ∷ words) i within none = cc

@@ -1,17 +1,17 @@
 -- Which root keys are asked for, and which files hold the plans.
-use Rattle.std.specs.Prelude.{◌≡◌, ◌⊎◌, ◌<◌, ◌^◌, ℕ, List, [], Some, None, map, unwrap_or, codes, Result, Ok, Err}
+use Rattle.std.specs.Prelude.{◌≡◌, ◌≢◌, ◌⊎◌, ◌<◌, ◌^◌, ℕ, List, [], Some, None, map, unwrap_or, codes, Result, Ok, Err}
 use Rattle.std.specs.List.{All}
 use Rattle.std.specs.Str.Parse.{IsNumeral, digits_value, without_leading_plus}
 use Rattle.clap.specs.Walk.{Text, Row, all_of, one_of}
 use Rattle.clap.specs.declared.error.kind.ErrorKind.{ErrorKind}
-use Rattle.clap.specs.declared.error.kind.ErrorKind.TheVariants.{MissingRequiredArgument, ValueValidation, OutOfMemory}
+use Rattle.clap.specs.declared.error.kind.ErrorKind.TheVariants.{MissingRequiredArgument}
 use Rattle.sq_command.specs.declared.clash.Clash.{Clash}
-use Rattle.sq_command.specs.declared.clash.Clash.TheVariants.{BadKey}
+use Rattle.sq_command.specs.declared.clash.Clash.TheVariants.{NoKeys, BadKey, Memory}
 use Rattle.sq_command.specs.declared.line.Plans.{Plans}
 use Rattle.sq_command.specs.declared.line.Line.{Line}
 use Rattle.sq_command.specs.declared.line.Line.TheVariants.{Work, Owner, Demo, Serve, Explain}
 use Rattle.sq_command.specs.declared.owner.TheConstants.{MAX_WIDTH}
-use Rattle.sq_command.specs.Options.{GivenNumberOf, IsNameOf, ArePlansOf, LacksPlan}
+use Rattle.sq_command.specs.Options.{GivenNumberOf, IsNameOf, ArePlansOf, LacksPlan, clash_kind}
 
 -- the words that are to be root keys
 abbrev pub key_words : List Row → List Text
@@ -34,12 +34,19 @@ IsKeyOf word (Err clash) = (clash ≡ BadKey) × (SpellsKey word → ⊥)
 abbrev pub AreKeysOf : List Row → List ℕ → Type 0
 AreKeysOf rows keys = All SpellsKey (key_words rows) × (keys ≡ map spelled_key (key_words rows))
 
--- words are refused because there are none, because one of them spells no key, or because memory
--- runs out
-abbrev pub KeysClash : List Row → ErrorKind → Type 0
-KeysClash rows kind =
-    ((kind ≡ MissingRequiredArgument) × (key_words rows ≡ []))
-    ⊎ (((kind ≡ ValueValidation) × (All SpellsKey (key_words rows) → ⊥)) ⊎ (kind ≡ OutOfMemory))
+-- words are refused: `NoKeys` if there are none, `BadKey` if one of them spells no key, `Memory` if
+-- there are some and memory runs out for them
+abbrev pub IsKeysClash : List Row → Clash → Type 0
+IsKeysClash rows NoKeys = key_words rows ≡ []
+IsKeysClash rows BadKey = All SpellsKey (key_words rows) → ⊥
+IsKeysClash rows Memory = key_words rows ≢ []
+IsKeysClash rows clash = ⊥
+
+-- options are refused, with an error of this kind, because of the keys
+pub record KeysClash (rows : List Row) (kind : ErrorKind) : Type 0 where
+  pub clash : Clash
+  pub refused : IsKeysClash rows clash
+  pub of_kind : kind ≡ clash_kind clash
 
 -- the plans are in the files that are named
 abbrev pub HasPlans : List Row → Plans → Type 0

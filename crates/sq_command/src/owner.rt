@@ -1,10 +1,11 @@
 // The subcommand that writes the owners of root keys.
-ghost use Rattle.std.specs.Prelude.{◌≡◌, ◌≤◌, IfOk, IfSome, false, length, codes};
+ghost use Rattle.std.specs.Prelude.{◌≡◌, ◌≤◌, IfOk, MatchResult, IfSome, false, length, codes};
 ghost use Rattle.clap.specs.Matches.{found_of};
 ghost use Rattle.clap.specs.Walk.{one_of, rule_of, rows_of};
 ghost use Rattle.sq_command.specs.Commands.{HasShape, keys_rule, width_rule, owner_shape, needed_rule};
 ghost use Rattle.sq_command.specs.Options.{Asks, GivenNumberOf};
-ghost use Rattle.sq_command.specs.Owner.{IsKeyOf, AreKeysOf, KeysClash, IsOwnerLine, OwnerClash, HasPlans, PlansClash};
+ghost use Rattle.sq_command.specs.Owner.{IsKeyOf, AreKeysOf, IsKeysClash, IsOwnerLine, OwnerClash};
+ghost use Rattle.sq_command.specs.Owner.{HasPlans, PlansClash};
 ghost use Rattle.sq_command.specs.Line.{LineIsWithin};
 
 use crate::clash::Clash;
@@ -94,10 +95,10 @@ fn both_plans<'a>(options: &ArgMatches<'a>) -> Result<Plans<'a>, Clash>
     }
 }
 
-// The root keys that the words spell, in their order.
+// Returns the root keys that the words spell, in their order.
 fn keys_of(alloc: Global, options: &ArgMatches<'_>) -> Result<Vec<u32>, Clash>
     ensures keys { let rows = rows_of (found_of options.now) in
-        Asks (λ rows keys. AreKeysOf rows keys.items) KeysClash rows result }
+        MatchResult result (λ keys. AreKeysOf rows keys.items) (IsKeysClash rows) }
     ensures some { IfOk result (λ keys. 1 ≤ length keys.items) }
 {
     let Some(words) = options.get_strs("key") else {

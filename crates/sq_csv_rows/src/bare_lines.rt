@@ -1,5 +1,8 @@
 // The lines of a file of rows, without those that are no rows' on purpose.
-ghost use Rattle.std.specs.Prelude.{◌≤◌, ◌<◌, length, None, IfOk};
+ghost use Rattle.std.specs.Prelude.{◌≡◌, ◌≢◌, ◌≤◌, ◌<◌, if◌then◌else◌, [], length, take, None};
+ghost use Rattle.std.specs.Prelude.{IfOk, OnOk, OnErr};
+ghost use Rattle.sq_csv_rows.specs.Bare.{bare_bytes, is_kept, place_at, place_after_all};
+ghost use Rattle.sq_csv_rows.specs.Bare.{line_after};
 
 use crate::record_lines::RecordLines;
 use memchr::memchr;
@@ -50,27 +53,38 @@ impl<'a, R: Read> BareLines<'a, R> {
     // Moves those of `bytes` to the front that are passed on, and returns how many they are. Fails
     // if memory runs out.
     fn keep(&mut self, bytes: &mut [u8]) -> Result<usize, AllocError>
-        ensures { IfOk result (λ kept. kept ≤ length bytes.new) }
+        ensures within { IfOk result (λ kept. kept ≤ length bytes.new) }
+        ensures bare { IfOk result (λ kept.
+            take kept bytes.new ≡ bare_bytes self.old.place bytes.old) }
+        ensures reader { OnOk result (self.new ≡ record self.old {
+          place = place_after_all self.old.place bytes.old;
+          line = line_after self.old.line bytes.old;
+        }) }
     {
         let mut kept: usize = 0;
         let mut at: usize = 0;
         while at < bytes.len() {
             let is_kept = self.enters(bytes[at])?;
-            let end = self.pass(bytes, at);
+            let count = self.pass(&bytes[at..]);
             if is_kept {
                 if kept < at {
-                    bytes.copy_within(at..end, kept);
+                    bytes.copy_within(at..at + count, kept);
                 }
-                kept += end - at;
+                kept += count;
             }
-            at = end;
+            at += count;
         }
         Ok(kept)
     }
 
     // Enters the line that begins with `byte`, unless it was entered before, and returns whether it
-    // is passed on. Records it if it is.
-    fn enters(&mut self, byte: u8) -> Result<bool, AllocError> {
+    // is passed on. Records it if it is. If memory runs out, nothing changes.
+    fn enters(&mut self, byte: u8) -> Result<bool, AllocError>
+        ensures entered { OnOk result
+            (self.new ≡ record self.old { place = place_at self.old.place byte }) }
+        ensures kept { IfOk result (λ kept. kept ≡ is_kept (place_at self.old.place byte)) }
+        ensures unchanged { OnErr result (self.new ≡ self.old) }
+    {
         if self.place == BarePlace::Start {
             self.place = if byte == LINE_END || byte == COMMENT {
                 BarePlace::Skipped
@@ -82,18 +96,25 @@ impl<'a, R: Read> BareLines<'a, R> {
         Ok(self.place == BarePlace::Kept)
     }
 
-    // Goes past those of `bytes` from place `at` on that are of this line, and returns the place
-    // after them.
-    fn pass(&mut self, bytes: &[u8], at: usize) -> usize
-        requires { at < length bytes.now }
-        ensures after { at < result }
+    // Goes past those of `bytes` that are of the line that was entered, and returns how many they
+    // are.
+    fn pass(&mut self, bytes: &[u8]) -> usize
+        requires entered { self.old.place ≢ BarePlace.Start }
+        requires some { 0 < length bytes.now }
+        ensures some { 0 < result }
         ensures within { result ≤ length bytes.now }
+        ensures bare { let piece = take result bytes.now in bare_bytes self.old.place piece
+            ≡ (if is_kept self.old.place then piece else []) }
+        ensures reader { let piece = take result bytes.now in self.new ≡ record self.old {
+          place = place_after_all self.old.place piece;
+          line = line_after self.old.line piece;
+        } }
     {
-        match memchr(LINE_END, &bytes[at..]) {
+        match memchr(LINE_END, bytes) {
             Some(place) => {
                 self.place = BarePlace::Start;
                 self.line = self.line.saturating_add(1);
-                at + place + 1
+                place + 1
             }
             None => bytes.len(),
         }

@@ -109,47 +109,37 @@ module _ {X : Type 0} (becomes : X → ClientCall → X → Type 0) where
       → Adds event old new → ChangesClientEach becomes before (event ∷ []) after → Happens becomes (event ∷ []) old before new after
   one_happens event old before new after adds client = record { jobs = adds_one event old new adds; client = client }
 
-  -- a command of a client was executed
+  -- a command of a client was executed, by one event that is no arrival
+  one_command : (parts : ℕ) (event : Event) (old : OpenJobsValue) (before : X) (new : OpenJobsValue) (after : X)
+      → Adds event old new → ChangesClientEach becomes before (event ∷ []) after → NamesPartition parts event
+      → ((part : ℕ) → arrived_from part (event ∷ []) ≡ []) → are_whole (event ∷ []) ≡ true → DoesCommand parts becomes old before new after
+  one_command parts event old before new after adds client names none whole = record {
+    more = event ∷ [];
+    happens = one_happens event old before new after adds client;
+    named = All-cons (NamesPartition parts) event [] names (All-nil (NamesPartition parts));
+    none_arrived = none;
+    whole = whole;
+  }
+
   pub command_posts : (parts : ℕ) (job : Job) (old : OpenJobsValue) (before between : X) (new : OpenJobsValue) (after : X)
       → IsAsked becomes before (Post job) between → IsOffered parts becomes job old between new after
       → DoesCommand parts becomes old before new after
   command_posts parts job old before between new after asked offered =
       elim offered [
-        | inl posted ↦ record {
-          more = Posts job ∷ [];
-          happens = one_happens (Posts job) old before new after posted.0 (between, asked, posted.1);
-          named = All-cons (NamesPartition parts) (Posts job) [] tt (All-nil (NamesPartition parts));
-          none_arrived = λ part. refl;
-          whole = refl;
-        }
-        | inr refused ↦ record {
-          more = Refuses job refused.0 ∷ [];
-          happens = one_happens (Refuses job refused.0) old before new after refused.2 (after, (between, asked, refused.3), refl);
-          named = All-cons (NamesPartition parts) (Refuses job refused.0) [] refused.1 (All-nil (NamesPartition parts));
-          none_arrived = λ part. refl;
-          whole = refl;
-        }
+        | inl posted ↦ one_command parts (Posts job) old before new after posted.0 (between, asked, posted.1) tt (λ part. refl) refl
+        | inr refused ↦ one_command parts (Refuses job refused.0) old before new after refused.2
+            (after, (between, asked, refused.3), refl) refused.1 (λ part. refl) refl
       ]
 
   pub command_rests : (parts : ℕ) (old : OpenJobsValue) (before : X) (new : OpenJobsValue) (after : X)
       → IsAsked becomes before Rest after → Adds Rests old new → DoesCommand parts becomes old before new after
-  command_rests parts old before new after asked adds = record {
-    more = Rests ∷ [];
-    happens = one_happens Rests old before new after adds (after, asked, refl);
-    named = All-cons (NamesPartition parts) Rests [] tt (All-nil (NamesPartition parts));
-    none_arrived = λ part. refl;
-    whole = refl;
-  }
+  command_rests parts old before new after asked adds =
+      one_command parts Rests old before new after adds (after, asked, refl) tt (λ part. refl) refl
 
   pub command_ends : (parts : ℕ) (old : OpenJobsValue) (before : X) (new : OpenJobsValue) (after : X)
       → IsAsked becomes before End after → Adds Ends old new → DoesCommand parts becomes old before new after
-  command_ends parts old before new after asked adds = record {
-    more = Ends ∷ [];
-    happens = one_happens Ends old before new after adds (after, asked, refl);
-    named = All-cons (NamesPartition parts) Ends [] tt (All-nil (NamesPartition parts));
-    none_arrived = λ part. refl;
-    whole = refl;
-  }
+  command_ends parts old before new after asked adds =
+      one_command parts Ends old before new after adds (after, asked, refl) tt (λ part. refl) refl
 
   pub commands_none : (parts : ℕ) (jobs : OpenJobsValue) (client : X) → DoesCommand parts becomes jobs client jobs client
   commands_none parts jobs client =

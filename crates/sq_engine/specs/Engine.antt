@@ -178,12 +178,14 @@ pub record HasBegunMove (plan : PlanValue) (old new : EngineValue) : Type 0 wher
   pub opening : new.opening ≡ onward_opening old.opening plan
   pub first : new.first ≡ old.first
 
--- why a move to `plan` doesn't begin
+-- why a move to `plan` doesn't begin; memory is the reason only if the move has no fault
 abbrev pub IsNotMoved : PlanValue → NotMoved → EngineValue → EngineValue → Type 0
 IsNotMoved plan unmoved.Moving old new = (new ≡ old) × (rests old ≡ false)
 IsNotMoved plan (unmoved.Plans fault) old new =
     (new ≡ old) × (recon_fault old.opening.new plan old.opening.config.width ≡ Some fault)
-IsNotMoved plan unmoved.Memory old new = KeepsOpening old new × (rests old ≡ true)
+IsNotMoved plan unmoved.Memory old new =
+    KeepsOpening old new × (rests old ≡ true)
+    × (recon_fault old.opening.new plan old.opening.config.width ≡ None)
 
 -- no epoch runs any more, and nothing else changed
 pub record IsPaused (old new : EngineValue) : Type 0 where

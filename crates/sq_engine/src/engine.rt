@@ -284,7 +284,7 @@ impl Engine {
     }
 
     /// Begins a move to `plan`, in its first stage. If rows move or the plans have a fault, nothing
-    /// changes; if memory runs out, at most an epoch has ended.
+    /// changes. It fails with `Memory` only if neither holds; then at most an epoch has ended.
     pub fn move_to<R: Wait>(&mut self, rt: &R, alloc: Global, plan: Plan) -> Result<(), NotMoved>
         ensures at_rest { OnOk result (rests self.old ≡ true) }
         ensures begun { OnOk result (HasBegunMove plan self.old self.new) }

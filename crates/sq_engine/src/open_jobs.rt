@@ -1,6 +1,6 @@
 // The open jobs of an engine, and the history of its events.
-ghost use Rattle.std.specs.Prelude.{◌≡◌, ◌≢◌, ◌↔◌, ◌==◌, ◌++◌, ℕ, [], ◌∷◌, if◌then◌else◌, length};
-ghost use Rattle.std.specs.Prelude.{None, IsTrue, IsSome, IfSome, IfNone, OnOk, IfErr};
+ghost use Rattle.std.specs.Prelude.{◌≡◌, ◌↔◌, ◌==◌, ◌++◌, ℕ, [], ◌∷◌, if◌then◌else◌, length};
+ghost use Rattle.std.specs.Prelude.{None, IsTrue, is_some, IfSome, IfNone, OnOk, IfErr};
 ghost use Rattle.std.specs.Bool.{Decides};
 ghost use Rattle.sq_engine.specs.declared.event.Event.TheVariants.{Posts, Refuses, Answers};
 ghost use Rattle.sq_engine.specs.declared.event.Event.TheVariants.{Drops, Loses, Rests, Ends};
@@ -100,14 +100,14 @@ impl OpenJobs {
         self.is_whole
     }
 
-    /// Opens `job`, with the event that it is posted. If an open job has its id, or memory runs
-    /// out, nothing changes.
+    /// Opens `job`, with the event that it is posted. If an open job has its id, it fails with
+    /// `RepeatedId`, and if memory runs out, with `Memory`; then nothing changes.
     pub(crate) fn open(&mut self, job: Job) -> Result<(), PostFault>
         ensures ok { OnOk result (Adds (Posts job) self.old self.new) }
         ensures unchanged { IfErr result (λ _. self.new ≡ self.old) }
-        ensures repeated { IfErr result (λ fault.
-            (fault ≡ PostFault.RepeatedId) ↔ IsSome (open_job self.old job.txn.id)) }
-        ensures there { IfErr result (λ fault. fault ≢ PostFault.NoSuchPartition) }
+        ensures fault { IfErr result (λ fault. fault
+            ≡ (if is_some (open_job self.old job.txn.id)
+            then PostFault.RepeatedId else PostFault.Memory)) }
     {
         let id = job.txn.id();
         if self.unanswered.contains_key(&id) {

@@ -4,4 +4,3 @@ pub mod Measures
 pub mod Figures
 pub mod SummaryValue
 pub mod Waiting
-pub mod Chart

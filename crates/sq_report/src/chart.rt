@@ -1,6 +1,5 @@
 // The chart of a run.
-ghost use Rattle.std.specs.Prelude.{◌≡◌};
-ghost use Rattle.sq_report.specs.Chart.{scaled};
+ghost use Rattle.std.specs.Prelude.{◌≡◌, ◌+◌, ◌*◌, ◌<◌, ◌≤◌};
 
 use crate::waiting::{WaitCount, most_of};
 use sq_summary::{Moment, PLOT_BOTTOM, PLOT_HEIGHT, PLOT_LEFT, PLOT_WIDTH, StageStart, write_svg};
@@ -97,7 +96,10 @@ fn place_of(at: u64, micros: u64) -> u64 {
 
 // The share of `len` that `part` is of `whole`, rounded down and at most `len`.
 fn scaled(part: u64, whole: u64, len: u64) -> u64
-    ensures { result ≡ scaled part whole len }
+    ensures share { part ≤ whole → result * whole ≤ len * part }
+    ensures rounded { 0 < whole → part ≤ whole → len * part < (result + 1) * whole }
+    ensures most { whole < part → result ≡ len }
+    ensures none { part ≡ 0 → result ≡ 0 }
 {
     let share = u128::from(len) * u128::from(part) / u128::from(whole.max(1));
     share.min(u128::from(len)) as u64

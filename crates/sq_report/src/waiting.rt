@@ -1,6 +1,6 @@
 // How many jobs wait for rows, over time.
 ghost use Rattle.std.specs.Prelude.{◌≡◌, ◌++◌, map, IfOk};
-ghost use Rattle.std.specs.List.Sorted.{IsPermutation};
+ghost use Rattle.std.specs.List.Sorted.{IsPermutation, IsNonDecreasing};
 ghost use Rattle.sq_report.specs.Waiting.{times_within, latest, number_waiting};
 ghost use Rattle.sq_report.specs.Waiting.{most_of, wait_count};
 
@@ -24,9 +24,10 @@ pub(crate) struct WaitCount {
 }
 
 impl WaitTimes {
-    /// All of them, in their order. Fails if memory runs out.
+    /// Returns all of them, in ascending order. Fails if memory runs out.
     pub(crate) fn all(&self, alloc: Global) -> Result<Vec<u64>, AllocError>
-        ensures { IfOk result (λ times. IsPermutation
+        ensures sorted { IfOk result (λ times. IsNonDecreasing times.items) }
+        ensures all { IfOk result (λ times. IsPermutation
             (self.now.begins.items ++ self.now.ends.items ++ self.now.stages.items) times.items) }
     {
         let mut times = Vec::from_slice(alloc, &self.begins)?;

@@ -2,3 +2,4 @@ pub mod Answers
 pub mod Weighing
 pub mod Parts
 pub mod OwnerLines
+pub mod Proposing

@@ -2,3 +2,4 @@ pub mod Cutting
 pub mod Sizes
 pub mod Owners
 pub mod Asked
+pub mod Proposal

@@ -2,6 +2,8 @@
 ghost use Rattle.std.specs.Prelude.{◌≡◌, ◌<◌, ◌≤◌, None};
 ghost use Rattle.sq_ranges.specs.Between.{recon_fault};
 ghost use Rattle.sq_ranges.specs.Refused.{HasFitSizes};
+ghost use Rattle.sq_sizes.specs.Sizes.{in_64_bits, move_size, size_in_64_bits};
+ghost use Rattle.sq_sizes.specs.Proposal.{keys_moved, IsWidthFor, chunk_bytes, IsLimitFor};
 
 use crate::size::Size;
 use sq_ranges::{Config, LOG_LIMIT, MAX_WIDTH, Opening, Recon};
@@ -31,6 +33,11 @@ pub(crate) fn proposal(opening: &Opening) -> Config
     ensures small_width { result.width ≤ MAX_WIDTH }
     ensures few_segments { result.width < MAX_WIDTH
         → recon_fault opening.now.old opening.now.new result.width ≡ None }
+    ensures width { IsWidthFor opening.now result.width }
+    ensures limit { let size = size_in_64_bits (move_size opening.now) in
+        IsLimitFor (chunk_bytes size result.width) result.limit }
+    ensures capacity { result.capacity ≡ CAPACITY }
+    ensures log_limit { result.log_limit ≡ LOG_LIMIT }
     ensures fit { HasFitSizes result }
 {
     let width = width_for(opening);
@@ -48,6 +55,7 @@ fn width_for(opening: &Opening) -> u64
     ensures small_width { result ≤ MAX_WIDTH }
     ensures few_segments { result < MAX_WIDTH
         → recon_fault opening.now.old opening.now.new result ≡ None }
+    ensures width { IsWidthFor opening.now result }
 {
     let (old, new) = (opening.old_plan(), opening.new_plan());
     let mut width = keys_of(opening)
@@ -63,8 +71,10 @@ fn width_for(opening: &Opening) -> u64
     width
 }
 
-// How many root keys move, with rows or without.
-fn keys_of(opening: &Opening) -> u64 {
+// Returns how many root keys move, with rows or without.
+fn keys_of(opening: &Opening) -> u64
+    ensures { result ≡ in_64_bits (keys_moved opening.now.recon) }
+{
     let mut keys: u64 = 0;
     for range in opening.recon().ranges() {
         keys = keys.saturating_add(range.hi.saturating_sub(range.lo));
@@ -74,8 +84,8 @@ fn keys_of(opening: &Opening) -> u64 {
 
 // The bytes in a chunk that are proposed, for leaves of `width` root keys.
 fn limit_for(size: Size, width: u64) -> u64
-    ensures least { LEAST_LIMIT ≤ result }
     ensures most { result ≤ MOST_LIMIT }
+    ensures limit { IsLimitFor (chunk_bytes size width) result }
 {
     let mean = size.bytes.div_ceil(size.families.max(1));
     let share = (size.bytes / CHUNKS_OF_MOVE).min(LARGE_LIMIT);

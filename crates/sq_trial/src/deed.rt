@@ -33,8 +33,6 @@ pub enum Deed {
     Run(u64),
     /// It serves its client until this many jobs are answered.
     ServeUntil(u64),
-    /// It serves its client until this many jobs have come back, since their queue was full.
-    ServeUntilReturned(u64),
     /// It serves its client until nothing moves, one epoch per stage, and some jobs are posted as
     /// each begins. If a number is given, there must be that many stages.
     ServeStages(Option<u64>),

@@ -18,15 +18,6 @@ const AHEAD: u64 = 1_000;
 // missing answers for lost.
 const PATIENCE: u64 = 100_000;
 
-/// What a client waits for before it ends an epoch.
-#[derive(Clone, Copy, Debug)]
-pub(crate) enum Awaited {
-    /// This many of its jobs are answered.
-    Answers(u64),
-    /// This many of its jobs have come back while it was served, since their queue was full.
-    Returns(u64),
-}
-
 /// A client that posts random jobs, and judges what it hears.
 #[derive(Drop)]
 pub(crate) struct RandomClient {
@@ -35,9 +26,8 @@ pub(crate) struct RandomClient {
     hearing: Hearing,
     // A job that came back, to be posted again.
     again: Option<Job>,
-    // How many jobs have come back while it was served.
-    returned: u64,
-    awaited: Awaited,
+    // How many of its jobs are to be answered before it ends an epoch.
+    awaited: u64,
     // How many calls in vain there were since the last answer.
     asked_in_vain: u64,
     // The first thing that was wrong.
@@ -53,8 +43,7 @@ impl RandomClient {
             source: JobSource::new(workload),
             hearing,
             again: None,
-            returned: 0,
-            awaited: Awaited::Answers(0),
+            awaited: 0,
             asked_in_vain: 0,
             failure: None,
         })
@@ -77,18 +66,15 @@ impl RandomClient {
         self.hearing.count()
     }
 
-    /// Sets what it waits for: once it has that, it ends an epoch.
-    pub(crate) fn wait_for(&mut self, awaited: Awaited) {
-        self.awaited = awaited;
+    /// Makes it end an epoch once `answers` of its jobs are answered.
+    pub(crate) fn wait_for(&mut self, answers: u64) {
+        self.awaited = answers;
         self.asked_in_vain = 0;
     }
 
-    /// Returns whether it has what it waits for.
+    /// Returns whether as many of its jobs are answered as it waits for.
     pub(crate) fn has_heard_enough(&self) -> bool {
-        match self.awaited {
-            Awaited::Answers(answers) => self.hearing.count() >= answers,
-            Awaited::Returns(jobs) => self.returned >= jobs,
-        }
+        self.hearing.count() >= self.awaited
     }
 
     /// Fails with the first thing that was wrong so far.
@@ -154,16 +140,9 @@ impl RandomClient {
         Ok(())
     }
 
-    // Returns whether as many jobs wait for an answer as may. There is no limit if jobs should come
-    // back.
+    // Returns whether as many jobs wait for an answer as may.
     fn is_far_ahead(&self) -> bool {
-        match self.awaited {
-            Awaited::Answers(_) => {
-                self.again.is_none()
-                    && self.source.made() >= self.hearing.count().saturating_add(AHEAD)
-            }
-            Awaited::Returns(_) => false,
-        }
+        self.again.is_none() && self.source.made() >= self.hearing.count().saturating_add(AHEAD)
     }
 
     // Its next command. Fails if something is wrong.
@@ -224,7 +203,6 @@ impl Client for RandomClient {
     }
 
     fn take_back(&mut self, job: Job, fault: PostFault) {
-        self.returned = self.returned.saturating_add(1);
         let outcome = self.keep(job, fault);
         self.note(outcome);
     }

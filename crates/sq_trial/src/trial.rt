@@ -2,7 +2,7 @@
 // no function here handles a large one.
 use crate::deed::{Deed, EngineCall};
 use crate::failure::Failure;
-use crate::random_client::{Awaited, RandomClient};
+use crate::random_client::RandomClient;
 
 // More epochs than any deed takes.
 const EPOCHS: u64 = 100_000;
@@ -59,11 +59,10 @@ where
         Deed::GoTo(choice) => call_at_rest(make, tried, client, EngineCall::GoTo(choice)),
         Deed::Post(count) => make(tried.engine, client, EngineCall::Post(count)),
         Deed::Run(turns) => {
-            client.wait_for(Awaited::Answers(u64::MAX));
+            client.wait_for(u64::MAX);
             make(tried.engine, client, EngineCall::Serve(turns))
         }
-        Deed::ServeUntil(answers) => serve_until(make, tried, client, Awaited::Answers(answers)),
-        Deed::ServeUntilReturned(jobs) => serve_until(make, tried, client, Awaited::Returns(jobs)),
+        Deed::ServeUntil(answers) => serve_until(make, tried, client, answers),
         Deed::ServeStages(wanted) => serve_stages(make, tried, client, wanted),
         Deed::ServeToEnd => serve_to_end(make, tried, client),
         Deed::HasPosted(count) => {
@@ -100,19 +99,19 @@ where
     }
 }
 
-// Serves a client until it has what it waits for.
+// Serves a client until `answers` of its jobs are answered.
 fn serve_until<E, F>(
     make: &F,
     tried: Tried<E>,
     client: &mut RandomClient,
-    awaited: Awaited,
+    answers: u64,
 ) -> Result<Tried<E>, Failure>
 where
     E: Drop,
     F: Fn(E, &mut RandomClient, EngineCall) -> Result<Tried<E>, Failure>,
     requires { F.IsAlwaysCallable make.now }
 {
-    client.wait_for(awaited);
+    client.wait_for(answers);
     let mut tried = tried;
     for _epoch in 0..EPOCHS {
         if client.has_heard_enough() {
@@ -136,7 +135,7 @@ where
 {
     let tried = serve_stages(make, tried, client, None)?;
     let jobs = client.jobs();
-    serve_until(make, tried, client, Awaited::Answers(jobs))
+    serve_until(make, tried, client, jobs)
 }
 
 // Serves a client for an epoch.
@@ -164,7 +163,7 @@ where
     F: Fn(E, &mut RandomClient, EngineCall) -> Result<Tried<E>, Failure>,
     requires { F.IsAlwaysCallable make.now }
 {
-    client.wait_for(Awaited::Answers(u64::MAX));
+    client.wait_for(u64::MAX);
     let mut tried = tried;
     let mut stages = 0u64;
     for _stage in 0..EPOCHS {

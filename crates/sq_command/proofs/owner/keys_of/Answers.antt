@@ -1,4 +1,4 @@
-use Rattle.std.proofs.Common.{◌≡◌, ◌∙◌, sym, subst, inl, inr, refl, codes, ℕ, ◌+◌, List, take}
+use Rattle.std.proofs.Common.{◌≡◌, ◌∙◌, sym, subst, codes, ℕ, ◌+◌, List, take}
 use Rattle.std.specs.Borrow.{Bor}
 use Rattle.std.specs.List.{All}
 use Rattle.std.proofs.lemmas.List.{take_all}
@@ -7,7 +7,7 @@ use Rattle.clap.specs.Matches.{found_of}
 use Rattle.clap.specs.Walk.{Text, rows_of}
 use Rattle.clap.proofs.WalkLemmas.{raw_values-rows}
 use Rattle.sq_command.specs.Owner.{SpellsKey, key_words}
-use Rattle.sq_command.proofs.Keys.{SpellBy, texts_of, one_more, one_spells_none, all_told, words_named, none_named, no_texts}
+use Rattle.sq_command.proofs.Keys.{SpellBy, texts_of, one_more, one_spells_none, all_told, words_named, none_named, no_texts, some_texts}
 use Rattle.sq_command.proofs.owner.keys_of.Goals as goal
 use Rattle.sq_command.proofs.owner.keys_of.Goals.{In-Some}
 
@@ -17,18 +17,24 @@ named c = words_named (rows_of (found_of c.args.options.now)) c.get_strs.result 
 
 pub returns-in_default-clause-keys : goal.returns-in_default-clause-keys
 returns-in_default-clause-keys c =
-    inl (refl, none_named (rows_of (found_of c.args.options.now)) c.get_strs.result (c.get_strs.ensures ∙ raw_values-rows (found_of c.args.options.now) (codes "key")) c.in_default.is)
+    none_named (rows_of (found_of c.args.options.now)) c.get_strs.result (c.get_strs.ensures ∙ raw_values-rows (found_of c.args.options.now) (codes "key")) c.in_default.is
 
 pub returns-then-is_empty-clause-keys : goal.returns-then-is_empty-clause-keys
 returns-then-is_empty-clause-keys c =
-    inl (refl, named (goal.at.returns-then-is_empty-clause-keys c).In-Some ∙ no_texts c.in-Some.words.now c.if-is_empty.ensures)
+    named (goal.at.returns-then-is_empty-clause-keys c).In-Some ∙ no_texts c.in-Some.words.now c.if-is_empty.ensures
 
 pub returns-in_err-key-clause-keys : goal.returns-in_err-key-clause-keys
 returns-in_err-key-clause-keys c =
     let clash = c.in_err-key.ensures in
     let p = err_from_is_err_and c.from_residual.result c.from_residual.ensures.1 in
     let told = named (goal.at.returns-in_err-key-clause-keys c).In-Some in
-    rw (p.1, p.2, clash.0) (inr (inl (refl, λ all. one_spells_none c.in-Some.words.now c.loop-word.word-index _ c.loop-word-test.true clash.1 (subst (λ (texts : List Text). All SpellsKey texts) told all))))
+    rw (p.1, p.2, clash.0) (λ all. one_spells_none c.in-Some.words.now c.loop-word.word-index _ c.loop-word-test.true clash.1 (subst (λ (texts : List Text). All SpellsKey texts) told all))
+
+pub returns-in_err-push-clause-keys : goal.returns-in_err-push-clause-keys
+returns-in_err-push-clause-keys c =
+    let p = err_from_is_err_and c.from_residual-in_err-push.result c.from_residual-in_err-push.ensures.1 in
+    let told = named (goal.at.returns-in_err-push-clause-keys c).In-Some in
+    rw (p.1, p.2) (λ none. some_texts c.in-Some.words.now c.loop-word.word-index c.loop-word-test.true (sym told ∙ none))
 
 pub loop-word-preserved : goal.loop-word-preserved
 loop-word-preserved c =
