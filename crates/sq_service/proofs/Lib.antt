@@ -8,3 +8,4 @@ mod Steps
 mod Ended
 pub mod WroteLines
 mod Tallied
+mod Handed

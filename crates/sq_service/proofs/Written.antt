@@ -16,8 +16,8 @@ use Rattle.sq_server.specs.declared.desk.Wish.TheVariants as wish
 use Rattle.sq_server.specs.Saying.{Answered, RowLines, lines_in, rows_told}
 use Rattle.sq_server.specs.Becoming.{ServeDeskValue, Speaks}
 use Rattle.sq_server.specs.Written.{Other, jobs_waiting, WritesEach}
-use Rattle.sq_server.proofs.Desks.{writes_nothing, wish_speaks}
-use Rattle.sq_server.proofs.Epochs.{none_written, writes_then, others_said, others_tell_none}
+use Rattle.sq_server.proofs.Desks.{keeps_learn, writes_nothing, wish_speaks}
+use Rattle.sq_server.proofs.Epochs.{none_written, writes_then, others_said, others_tell_none, others_answer_none}
 use Rattle.sq_service.specs.Rows.{TellsRows}
 use Rattle.sq_service.specs.Events.{ServeEvent, Flushed, EpochServed, MoveEnded, Granted, ChangesEngine, WritesOf, Happens, HappenEach, added, all_added}
 
@@ -29,6 +29,7 @@ speaks_write a b says =
       said = map Other says.others;
       written = λ still.
           subst (Appends a.written b.written) (sym (others_said says.others)) (says.written still);
+      answers = others_answer_none says.others;
       told = λ part. others_tell_none part says.others;
       more = [];
       heard = says.heard ∙ sym (append-nil a.heard);
@@ -36,6 +37,8 @@ speaks_write a b says =
       jobs = λ still part within.
           append-nil (jobs_waiting a.waiting part)
           ∙ ap (λ (w : List (List AskedTxn)). jobs_waiting w part) (sym says.waiting);
+      strict = λ still. says.strict;
+      ended = λ still. keeps_learn a.is_strict a.ended b.ended says.ended;
     }
 
 -- rows
@@ -50,6 +53,7 @@ rows_write engine a b tells =
       goes_on = says.goes_on;
       said = Other (RowLines tells.is.sorted) ∷ Other (Answered (Rows (lines_in tells.lines))) ∷ [];
       written = λ still. subst (Appends a.written b.written) whole (says.written still);
+      answers = refl;
       told = λ part. refl;
       more = [];
       heard = says.heard ∙ sym (append-nil a.heard);
@@ -57,6 +61,8 @@ rows_write engine a b tells =
       jobs = λ still part within.
           append-nil (jobs_waiting a.waiting part)
           ∙ ap (λ (w : List (List AskedTxn)). jobs_waiting w part) (sym says.waiting);
+      strict = λ still. says.strict;
+      ended = λ still. keeps_learn a.is_strict a.ended b.ended says.ended;
     }
 
 same_writes : (a b : ServeDeskValue) → b ≡ a → WritesEach [] a b
@@ -68,11 +74,14 @@ move_writes plan a b writes = record {
   goes_on = writes.goes_on;
   said = writes.said;
   written = writes.written;
+  answers = writes.answers;
   told = writes.told;
   more = writes.more;
   heard = writes.heard;
   count = writes.count;
   jobs = writes.jobs;
+  strict = writes.strict;
+  ended = writes.ended;
 }
 
 -- what is written of a wish
