@@ -113,10 +113,11 @@ handles_through : (more more' : List Fed) (back mid offered : List Job) (a b c :
 handles_through more more' back mid offered a b c one two =
     record {
       goes_on = λ still. one.goes_on (two.goes_on still);
+      writes_on = λ still. one.writes_on (two.writes_on still);
       others = one.others ++ two.others;
       written = λ still.
           both a.written b.written c.written (flat_map other_line one.others) (flat_map other_line two.others)
-          (flat_map other_line (one.others ++ two.others)) (one.written (two.goes_on still)) (two.written still)
+          (flat_map other_line (one.others ++ two.others)) (one.written (two.writes_on still)) (two.written still)
           (sym (flat_map-append other_line one.others two.others));
       kept = one.kept ++ two.kept;
       wishes = λ still.
@@ -170,6 +171,7 @@ pub answers_ended : (fed : Fed) (line : OtherLine) (now : Option InputOutcome) (
 answers_ended fed line now a b says is none learns =
     record {
       goes_on = says.goes_on;
+      writes_on = says.writes_on;
       others = line ∷ [];
       written = λ still.
           subst (λ (bytes : List ℕ). Appends a.written b.written bytes) (sym (append-nil (other_line line))) (says.written still);
@@ -201,6 +203,7 @@ keeps_all : (fed : Fed) (wished : List Wish) (a : ServeDeskValue) → SettlesFed
 keeps_all fed wished a is none =
     record {
       goes_on = λ still. still;
+      writes_on = λ still. still;
       others = [];
       written = λ still. appends_none a.written;
       kept = wished;
@@ -236,6 +239,7 @@ same_handles a b same =
     subst (λ (d : ServeDeskValue). Handles [] [] a [] d) (sym same)
     (record {
       goes_on = λ still. still;
+      writes_on = λ still. still;
       others = [];
       written = λ still. appends_none a.written;
       kept = [];
@@ -255,6 +259,7 @@ ends_whole a b same =
     subst (λ (d : ServeDeskValue). Handles (fed.End end.Whole ∷ []) [] a [] d) (sym same)
     (record {
       goes_on = λ still. still;
+      writes_on = λ still. still;
       others = [];
       written = λ still. appends_none a.written;
       kept = [];
@@ -288,6 +293,7 @@ nothing_hears a b writes =
     handles_unheard [] [] a b writes.heard
     (record {
       goes_on = writes.goes_on;
+      writes_on = writes.writes_on;
       others = [];
       written = writes.written;
       kept = [];
@@ -309,6 +315,7 @@ silent a b same =
     subst (λ (d : ServeDeskValue). Speaks a d) (sym same)
     (record {
       goes_on = λ still. still;
+      writes_on = λ still. still;
       others = [];
       written = λ still. appends_none a.written;
       heard = refl;
@@ -323,6 +330,7 @@ pub writes_nothing : (a b : ServeDeskValue) → WritesBytes [] a b → Speaks a 
 writes_nothing a b writes =
     record {
       goes_on = writes.goes_on;
+      writes_on = writes.writes_on;
       others = [];
       written = writes.written;
       heard = writes.heard;
@@ -337,6 +345,7 @@ pub line_speaks : (line : OtherLine) (a b : ServeDeskValue) → WritesBytes (oth
 line_speaks line a b writes =
     record {
       goes_on = writes.goes_on;
+      writes_on = writes.writes_on;
       others = line ∷ [];
       written = λ still.
           subst (λ (bytes : List ℕ). Appends a.written b.written bytes) (sym (append-nil (other_line line))) (writes.written still);
@@ -348,16 +357,17 @@ line_speaks line a b writes =
     }
 
 -- nothing was written or wished of a job
-pub quiet : (more : List Fed) (back offered : List Job) (a b : ServeDeskValue) → b.standing ≡ a.standing → b.is_strict ≡ a.is_strict → b.ended ≡ a.ended
+pub quiet : (more : List Fed) (back offered : List Job) (a b : ServeDeskValue) → b.has_failed ≡ a.has_failed → b.standing ≡ a.standing → b.is_strict ≡ a.is_strict → b.ended ≡ a.ended
     → b.moving ≡ a.moving → b.written ≡ a.written → b.has_stopped ≡ a.has_stopped
     → b.wishes ≡ a.wishes → length b.waiting ≡ length a.waiting → SettlesEach (length a.waiting) a.moving a.standing more [] []
     → ((part : ℕ) → part < length a.waiting
     → (asked_at a.offered_at part back ++ waiting_at a.waiting part) ++ flat_map (asked_by part) more
     ≡ asked_at b.offered_at part offered ++ waiting_at b.waiting part)
     → Handles more back a offered b
-quiet more back offered a b standing strict ended moving written stopped wishes count settled jobs =
+quiet more back offered a b failed standing strict ended moving written stopped wishes count settled jobs =
     record {
       goes_on = λ still. sym stopped ∙ still;
+      writes_on = λ still. sym failed ∙ still;
       others = [];
       written = λ still.
           subst (λ (known : Option (List ℕ)). Appends a.written known []) (sym written) (appends_none a.written);
@@ -374,13 +384,15 @@ quiet more back offered a b standing strict ended moving written stopped wishes 
     }
 
 -- nothing more can be done
-pub stops : (more : List Fed) (back offered : List Job) (a b : ServeDeskValue) → b.moving ≡ a.moving → b.has_stopped ≡ true → length b.waiting ≡ length a.waiting
-    → Handles more back a offered b
-stops more back offered a b moving stopped count =
+pub stops : (more : List Fed) (back offered : List Job) (a b : ServeDeskValue) → b.has_failed ≡ a.has_failed → b.written ≡ a.written
+    → b.moving ≡ a.moving → b.has_stopped ≡ true → length b.waiting ≡ length a.waiting → Handles more back a offered b
+stops more back offered a b failed written moving stopped count =
     record {
       goes_on = λ still. false-not-true (sym stopped ∙ still);
+      writes_on = λ still. sym failed ∙ still;
       others = [];
-      written = λ still. false-not-true (sym stopped ∙ still);
+      written = λ still.
+          subst (λ (known : Option (List ℕ)). Appends a.written known []) (sym written) (appends_none a.written);
       kept = [];
       wishes = λ still. false-not-true (sym stopped ∙ still);
       settled = λ still. false-not-true (sym stopped ∙ still);
@@ -395,13 +407,13 @@ stops more back offered a b moving stopped count =
 -- the same, where only that changed
 pub stopped_handles : (more : List Fed) (back offered : List Job) (a b : ServeDeskValue) → Stops a b → Handles more back a offered b
 stopped_handles more back offered a b is =
-    stops more back offered a b is.moving is.stopped (ap (λ (w : List (List AskedTxn)). length w) is.waiting)
+    stops more back offered a b is.failed is.written is.moving is.stopped (ap (λ (w : List (List AskedTxn)). length w) is.waiting)
 
 module _ {W : Type 0} (contents : W → Option (List ℕ)) where
   -- a desk with this outlet
   abbrev pub over : Bool → ServeDeskValue → Outlet W → ServeDeskValue
   over lacks_memory desk outlet =
-      record desk { written = contents outlet.writer; has_stopped = lacks_memory || outlet.has_failed }
+      record desk { written = contents outlet.writer; has_failed = outlet.has_failed; has_stopped = lacks_memory || outlet.has_failed }
 
   -- an outlet wrote these bytes
   pub writes_bytes : (bytes : List ℕ) (lacks_memory : Bool) (desk : ServeDeskValue) (old new : Outlet W)
@@ -412,7 +424,8 @@ module _ {W : Type 0} (contents : W → Option (List ℕ)) where
         goes_on = λ still.
             let parts = or_parts lacks_memory new.has_failed still in
             ap (λ (b : Bool). b || old.has_failed) parts.0 ∙ says.goes_on parts.1;
-        written = λ still. says.written (or_parts lacks_memory new.has_failed still).1;
+        writes_on = says.goes_on;
+        written = says.written;
         heard = refl;
         waiting = refl;
         offered_at = refl;
@@ -430,6 +443,7 @@ noted_writes bytes now a noted b is keeps writes =
     let says : WritesBytes bytes (record a { ended = now }) b = subst (λ (d : ServeDeskValue). WritesBytes bytes d b) is writes in
     record {
       goes_on = says.goes_on;
+      writes_on = says.writes_on;
       written = says.written;
       heard = says.heard;
       waiting = says.waiting;
@@ -609,6 +623,7 @@ wish_speaks taken a b is =
     subst (λ (d : ServeDeskValue). Speaks a d) (sym is.rest)
     (record {
       goes_on = λ still. still;
+      writes_on = λ still. still;
       others = [];
       written = λ still. appends_none a.written;
       heard = refl;

@@ -1,5 +1,6 @@
 -- What a desk writes in an epoch.
 use Rattle.std.proofs.Common.{◌≡◌, ⊎_elim, ℕ, ◌<◌, ◌≤◌, ◌==◌, Bool, true, false, if◌then◌else◌, List, [], ◌∷◌, ◌++◌, length, map, refl, sym, ap, subst, ◌∙◌, append_assoc, append-nil, arith}
+use Rattle.std.specs.Prelude.{Option}
 use Rattle.std.specs.List.{flat_map}
 use Rattle.std.specs.Io.KnownBytes.{Appends}
 use Rattle.std.proofs.lemmas.List.{map-append}
@@ -105,6 +106,7 @@ abbrev pub none_written : (a : ServeDeskValue) → WritesEach [] a a
 none_written a =
     record {
       goes_on = λ still. still;
+      writes_on = λ still. still;
       said = [];
       written = λ still. appends_none a.written;
       answers = refl;
@@ -131,10 +133,11 @@ abbrev pub writes_then : (first more : List Event) (a b c : ServeDeskValue) → 
 writes_then first more a b c one two =
     record {
       goes_on = λ still. one.goes_on (two.goes_on still);
+      writes_on = λ still. one.writes_on (two.writes_on still);
       said = one.said ++ two.said;
       written = λ still.
           both a.written b.written c.written (flat_map said_line one.said) (flat_map said_line two.said)
-          (flat_map said_line (one.said ++ two.said)) (one.written (two.goes_on still)) (two.written still)
+          (flat_map said_line (one.said ++ two.said)) (one.written (two.writes_on still)) (two.written still)
           (sym (flat_map-append said_line one.said two.said));
       answers =
           flat_map-append receipt_said one.said two.said
@@ -229,6 +232,7 @@ writes_once event progress offered a b settles unanswered none hears =
     let is = hears.handles in
     record {
       goes_on = is.goes_on;
+      writes_on = is.writes_on;
       said = map Other is.others;
       written = λ still.
           subst (Appends a.written b.written) (sym (others_said is.others)) (is.written still);
@@ -269,6 +273,7 @@ answers_once part receipt a b did =
     record {
       writes = record {
         goes_on = writes.goes_on;
+        writes_on = writes.writes_on;
         said = OfReceipt part receipt ∷ [];
         written = λ still.
             subst (Appends a.written b.written) (sym (append-nil (receipt_line receipt))) (writes.written still);
@@ -299,6 +304,7 @@ untold_once event a b same settles unanswered none is =
     (record {
       writes = record {
         goes_on = λ still. still;
+        writes_on = λ still. still;
         said = [];
         written = λ still. appends_none a.written;
         answers = sym unanswered;
@@ -335,11 +341,12 @@ refused_once job why number progress a b c offers says settles answers =
     record {
       writes = record {
         goes_on = λ still. is.goes_on (says.goes_on still);
+        writes_on = λ still. is.writes_on (says.writes_on still);
         said = map Other (is.others ++ line ∷ []);
         written = λ still.
             subst (Appends a.written c.written) (sym (others_said (is.others ++ line ∷ [])))
             (both a.written b.written c.written (flat_map other_line is.others) (other_line line)
-            (flat_map other_line (is.others ++ line ∷ [])) (is.written (says.goes_on still)) (says.written still)
+            (flat_map other_line (is.others ++ line ∷ [])) (is.written (says.writes_on still)) (says.written still)
             (ap (λ (l : List ℕ). flat_map other_line is.others ++ l) (sym (append-nil (other_line line)))
             ∙ sym (flat_map-append other_line is.others (line ∷ []))));
         answers = others_answer_none (is.others ++ line ∷ []);
@@ -380,13 +387,18 @@ refused_once job why number progress a b c offers says settles answers =
 stopped_once : (job : Job) (why : PostFault) (progress : StageProgress) (a b c : ServeDeskValue) → Hears [] (with_stage progress a) (job ∷ []) b
     → Stops b c → AnswersEach (Refuses job why ∷ []) a c
 stopped_once job why progress a b c offers is =
+    let others = offers.handles.others in
     record {
       writes = record {
         goes_on = λ still. false-not-true (sym is.stopped ∙ still);
-        said = [];
-        written = λ still. false-not-true (sym is.stopped ∙ still);
-        answers = refl;
-        told = λ part. refl;
+        writes_on = λ still. offers.handles.writes_on (sym is.failed ∙ still);
+        said = map Other others;
+        written = λ still.
+            subst (Appends a.written c.written) (sym (others_said others))
+            (subst (λ (known : Option (List ℕ)). Appends a.written known (flat_map other_line others)) (sym is.written)
+            (offers.handles.written (sym is.failed ∙ still)));
+        answers = others_answer_none others;
+        told = λ part. others_tell_none part others;
         more = offers.more;
         heard = is.heard ∙ offers.heard;
         count = ap (λ (w : List (List AskedTxn)). length w) is.waiting ∙ offers.handles.count;

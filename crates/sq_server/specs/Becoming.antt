@@ -33,13 +33,14 @@ use Rattle.sq_server.specs.Saying.{OtherLine, other_line}
 use Rattle.sq_server.specs.Settling.{Standing, CountsAnswer, line_wish, refusal_of, IsStatus, SettlesEach}
 use Rattle.sq_server.specs.Sides.{waiting_at}
 
--- a desk: what its writer holds, if that is known; whether nothing more can be done; what was
--- handed on to it; for each partition the jobs that wait, with the places of their lines; the place
+-- a desk: what its writer holds, if that is known; whether a write failed; whether nothing more can
+-- be done, for that or for want of memory; what was handed on to it; for each partition the jobs that wait, with the places of their lines; the place
 -- of the line of the job that was offered last; the wishes of lines that are to be fulfilled
 -- between epochs; the progress of a move; what it tells of; whether its input is strict; and how
 -- that ended, once no more lines are taken
 pub record ServeDeskValue : Type 0 where
   pub written : Option (List ℕ)
+  pub has_failed : Bool
   pub has_stopped : Bool
   pub heard : List Fed
   pub waiting : List (List AskedTxn)
@@ -54,6 +55,7 @@ abbrev pub desk_value : {W : Type 0} → (W → Option (List ℕ)) → ServeDesk
 desk_value contents desk =
     record {
       written = contents desk.outlet.writer;
+      has_failed = desk.outlet.has_failed;
       has_stopped = desk.lacks_memory || desk.outlet.has_failed;
       heard = received desk.feed;
       waiting = desk.sides;
@@ -71,6 +73,7 @@ abbrev pub new_desk : {W : Type 0} → (W → Option (List ℕ)) → Outlet W �
 new_desk contents outlet heard waiting plan strict =
     record {
       written = contents outlet.writer;
+      has_failed = outlet.has_failed;
       has_stopped = outlet.has_failed;
       heard = heard;
       waiting = waiting;
@@ -105,14 +108,15 @@ jobs_for part jobs = filter (λ job. job.part == part) jobs
 abbrev pub asked_at : LinePlace → ℕ → List Job → List AskedTxn
 asked_at place part jobs = map (λ (job : Job). record { place = place; txn = job.txn }) (jobs_for part jobs)
 
--- `more` was handed on, and the jobs `back` were returned: unless nothing more can be done, each
--- line that was handed on is settled, by a line that was written or a wish that is kept, and no
--- other line was written; and for each partition the jobs that were returned, those that waited,
+-- `more` was handed on, and the jobs `back` were returned: other lines were written, unless a write
+-- failed; unless nothing more can be done, each line that was handed on is settled, by one of them
+-- or a wish that is kept, and no other line was written; and for each partition the jobs that were returned, those that waited,
 -- and those that were asked for are, in this order, those that were offered and those that wait
 pub record Handles (more : List Fed) (back : List Job) (old : ServeDeskValue) (offered : List Job) (new : ServeDeskValue) : Type 0 where
   pub goes_on : new.has_stopped ≡ false → old.has_stopped ≡ false
+  pub writes_on : new.has_failed ≡ false → old.has_failed ≡ false
   pub others : List OtherLine
-  pub written : new.has_stopped ≡ false → Appends old.written new.written (flat_map other_line others)
+  pub written : new.has_failed ≡ false → Appends old.written new.written (flat_map other_line others)
   pub kept : List Wish
   pub wishes : new.has_stopped ≡ false → new.wishes ≡ old.wishes ++ kept
   pub settled : new.has_stopped ≡ false → SettlesEach (length old.waiting) old.moving old.standing more others kept
@@ -134,8 +138,9 @@ pub record Hears (back : List Job) (old : ServeDeskValue) (offered : List Job) (
 -- other lines were written, and no job, line or answer was taken
 pub record Speaks (old new : ServeDeskValue) : Type 0 where
   pub goes_on : new.has_stopped ≡ false → old.has_stopped ≡ false
+  pub writes_on : new.has_failed ≡ false → old.has_failed ≡ false
   pub others : List OtherLine
-  pub written : new.has_stopped ≡ false → Appends old.written new.written (flat_map other_line others)
+  pub written : new.has_failed ≡ false → Appends old.written new.written (flat_map other_line others)
   pub heard : new.heard ≡ old.heard
   pub waiting : new.waiting ≡ old.waiting
   pub answered : new.standing.answered ≡ old.standing.answered
@@ -145,7 +150,8 @@ pub record Speaks (old new : ServeDeskValue) : Type 0 where
 -- these bytes were written, and nothing else changed, but that a strict input may have ended
 pub record WritesBytes (bytes : List ℕ) (old new : ServeDeskValue) : Type 0 where
   pub goes_on : new.has_stopped ≡ false → old.has_stopped ≡ false
-  pub written : new.has_stopped ≡ false → Appends old.written new.written bytes
+  pub writes_on : new.has_failed ≡ false → old.has_failed ≡ false
+  pub written : new.has_failed ≡ false → Appends old.written new.written bytes
   pub heard : new.heard ≡ old.heard
   pub waiting : new.waiting ≡ old.waiting
   pub offered_at : new.offered_at ≡ old.offered_at
@@ -160,9 +166,11 @@ abbrev pub WritesReceipt : ReceiptValue → ServeDeskValue → ServeDeskValue �
 WritesReceipt receipt old new =
     (counted : Standing) × CountsAnswer old.standing counted × WritesBytes (receipt_line receipt) (record old { standing = counted }) new
 
--- nothing more can be done
+-- nothing more can be done, and nothing was written
 pub record Stops (old new : ServeDeskValue) : Type 0 where
   pub stopped : new.has_stopped ≡ true
+  pub failed : new.has_failed ≡ old.has_failed
+  pub written : new.written ≡ old.written
   pub heard : new.heard ≡ old.heard
   pub waiting : new.waiting ≡ old.waiting
   pub moving : new.moving ≡ old.moving

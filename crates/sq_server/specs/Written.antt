@@ -85,8 +85,9 @@ jobs_asked part more = as_jobs part (flat_map (asked_by part) more)
 -- else nothing more can be done
 pub record WritesEach (events : List Event) (old new : ServeDeskValue) : Type 0 where
   pub goes_on : new.has_stopped ≡ false → old.has_stopped ≡ false
+  pub writes_on : new.has_failed ≡ false → old.has_failed ≡ false
   pub said : List SaidLine
-  pub written : new.has_stopped ≡ false → Appends old.written new.written (flat_map said_line said)
+  pub written : new.has_failed ≡ false → Appends old.written new.written (flat_map said_line said)
   pub answers : receipts_said said ≡ answers_in events
   pub told : (part : ℕ) → told_from part said ≡ given_from part events
   pub more : List Fed

@@ -31,8 +31,9 @@ text_then : (first second : List ℕ) (a b c : ServeDeskValue) → WritesText fi
 text_then first second a b c one two =
     record {
       goes_on = λ still. one.goes_on (two.goes_on still);
+      writes_on = λ still. one.writes_on (two.writes_on still);
       written = λ still.
-          both a.written b.written c.written first second (first ++ second) (one.written (two.goes_on still)) (two.written still) refl;
+          both a.written b.written c.written first second (first ++ second) (one.written (two.writes_on still)) (two.written still) refl;
       wishes = two.wishes ∙ one.wishes;
     }
 

@@ -39,10 +39,11 @@ pub speaks_then : (a b c : ServeDeskValue) → Speaks a b → Speaks b c → Spe
 speaks_then a b c one two =
     record {
       goes_on = λ still. one.goes_on (two.goes_on still);
+      writes_on = λ still. one.writes_on (two.writes_on still);
       others = one.others ++ two.others;
       written = λ still.
           both a.written b.written c.written (flat_map other_line one.others) (flat_map other_line two.others)
-          (flat_map other_line (one.others ++ two.others)) (one.written (two.goes_on still)) (two.written still)
+          (flat_map other_line (one.others ++ two.others)) (one.written (two.writes_on still)) (two.written still)
           (sym (flat_map-append other_line one.others two.others));
       heard = two.heard ∙ one.heard;
       waiting = two.waiting ∙ one.waiting;

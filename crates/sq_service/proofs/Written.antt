@@ -26,6 +26,7 @@ pub speaks_write : (a b : ServeDeskValue) → Speaks a b → WritesEach [] a b
 speaks_write a b says =
     record {
       goes_on = says.goes_on;
+      writes_on = says.writes_on;
       said = map Other says.others;
       written = λ still.
           subst (Appends a.written b.written) (sym (others_said says.others)) (says.written still);
@@ -51,6 +52,7 @@ rows_write engine a b tells =
     ∙ ap (λ (l : List ℕ). flat_map root_lines tells.is.sorted ++ l) (sym (append-nil count)) in
     record {
       goes_on = says.goes_on;
+      writes_on = says.writes_on;
       said = Other (RowLines tells.is.sorted) ∷ Other (Answered (Rows (lines_in tells.lines))) ∷ [];
       written = λ still. subst (Appends a.written b.written) whole (says.written still);
       answers = refl;
@@ -72,6 +74,7 @@ same_writes a b same = subst (WritesEach [] a) (sym same) (none_written a)
 pub move_writes : (plan : PlanValue) (a b : ServeDeskValue) → WritesEach [] a b → WritesEach (MovesTo plan ∷ []) a b
 move_writes plan a b writes = record {
   goes_on = writes.goes_on;
+  writes_on = writes.writes_on;
   said = writes.said;
   written = writes.written;
   answers = writes.answers;

@@ -78,9 +78,9 @@ module _ {W : Type 0} (strict : Bool) (saves : List ℕ → List ℕ → Bool �
   -- what the desk of an engine wrote, and then the line of its ending
   served_wrote : (o : OpeningValue) (ending : ServeEnding) (first last end : Outlet W) (text : List ℕ)
       → EngineServes saves contents o (first_desk strict contents first o.new) ending last
-      → IsLineOfEnding ending text → Appends (contents last.writer) (contents end.writer) text
+      → IsLineOfEnding ending text → last.has_failed ≡ false → Appends (contents last.writer) (contents end.writer) text
       → Service strict saves ending (contents first.writer) (contents end.writer)
-  served_wrote o ending first last end text serves is told =
+  served_wrote o ending first last end text serves is whole told =
       let before = first_desk strict contents first o.new in
       let ended = serves.ended.ended in
       let after = serves.ended.after in
@@ -111,18 +111,19 @@ module _ {W : Type 0} (strict : Bool) (saves : List ℕ → List ℕ → Bool �
             took_input saves strict (unlimited o) ending serves.engine before serves.last after refl refl refl serves.served ended;
         text = text;
         is = is;
-        written = λ still.
+        written =
             let wrote : Appends (contents first.writer) (contents last.writer) all =
-            subst (λ (now : Option (List ℕ)). Appends (contents first.writer) now all) (sym serves.ended.written) (writes.written still) in
+            subst (λ (now : Option (List ℕ)). Appends (contents first.writer) now all) (sym serves.ended.written)
+            (writes.written (sym serves.ended.failed ∙ whole)) in
             both (contents first.writer) (contents last.writer) (contents end.writer) all text (all ++ text) wrote told refl;
       }
 
   ended_wrote : (ending : ServeEnding) (first last end : Outlet W) (text : List ℕ) → ServesSome strict saves contents first ending last
-      → IsLineOfEnding ending text → Appends (contents last.writer) (contents end.writer) text
+      → IsLineOfEnding ending text → last.has_failed ≡ false → Appends (contents last.writer) (contents end.writer) text
       → Service strict saves ending (contents first.writer) (contents end.writer) ⊎ OnlyEnds ending (contents first.writer) (contents end.writer)
-  ended_wrote ending first last end text some is told =
+  ended_wrote ending first last end text some is whole told =
       ⊎_elim
-      (λ served. inl (served_wrote served.0 ending first last end text served.1 is told))
+      (λ served. inl (served_wrote served.0 ending first last end text served.1 is whole told))
       (λ none.
       inr (
         none.0,
@@ -150,7 +151,7 @@ module _ {W : Type 0} (strict : Bool) (saves : List ℕ → List ℕ → Bool �
       (λ so.
       subst (λ (e : ServeEnding). Serves strict saves (contents s.first.writer) (contents s.end.writer) e) so.1
       (serves_any s.ending (contents s.first.writer) (contents s.end.writer)
-      (ended_wrote s.ending s.first s.last s.end s.tells.text s.served s.tells.is (s.tells.written so.0))))
+      (ended_wrote s.ending s.first s.last s.end s.tells.text s.served s.tells.is (s.tells.goes_on so.0) (s.tells.written so.0))))
       (λ failed.
       subst (λ (e : ServeEnding). Serves strict saves (contents s.first.writer) (contents s.end.writer) e) (sym failed) tt)
       (told_so told s.end.has_failed s.ending s.tells.told_is)))

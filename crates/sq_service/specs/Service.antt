@@ -25,7 +25,7 @@ pub record HasEndedWithOutlet {W : Type 0} (saves : List ℕ → List ℕ → Bo
   pub after : ServeDeskValue
   pub ended : HasEndedServing saves engine before ending last after
   pub written : contents outlet.writer ≡ after.written
-  pub stopped : after.has_stopped ≡ false → outlet.has_failed ≡ false
+  pub failed : outlet.has_failed ≡ after.has_failed
 
 -- a desk for the partitions of a plan that is in force, to which nothing was handed on yet, and
 -- which has written what an outlet holds
@@ -119,9 +119,9 @@ TookInput strict heard Memory = Unit {0}
 TookInput strict heard Threads = Unit {0}
 TookInput strict heard Unwritten = Unit {0}
 
--- an engine was served from its opening to its ending; unless its desk stopped, what a writer holds
--- grew by the line of each answer, once, in the order in which they came, by other lines, and last by
--- the line of the ending
+-- an engine was served from its opening to its ending, and what a writer holds grew by the line of
+-- each answer, once, in the order in which they came, by other lines, and last by the line of the
+-- ending
 pub record Service (strict : Bool) (saves : List ℕ → List ℕ → Bool → Type 0) (ending : ServeEnding) (old new : Option (List ℕ)) : Type 0 where
   pub opening : OpeningValue
   pub engine : EngineValue
@@ -137,7 +137,7 @@ pub record Service (strict : Bool) (saves : List ℕ → List ℕ → Bool → T
   pub took : TookInput strict after.heard ending
   pub text : List ℕ
   pub is : IsLineOfEnding ending text
-  pub written : after.has_stopped ≡ false → Appends old new (flat_map said_line served.writes.said ++ text)
+  pub written : Appends old new (flat_map said_line served.writes.said ++ text)
 
 -- nothing was served, and just the line of the ending was written
 abbrev pub OnlyEnds : ServeEnding → Option (List ℕ) → Option (List ℕ) → Type 0

@@ -23,7 +23,8 @@ use Rattle.sq_service.specs.Rows.{AnswersRows}
 -- just this text was written, and the same wishes are kept
 pub record WritesText (text : List ℕ) (old new : ServeDeskValue) : Type 0 where
   pub goes_on : new.has_stopped ≡ false → old.has_stopped ≡ false
-  pub written : new.has_stopped ≡ false → Appends old.written new.written text
+  pub writes_on : new.has_failed ≡ false → old.has_failed ≡ false
+  pub written : new.has_failed ≡ false → Appends old.written new.written text
   pub wishes : new.wishes ≡ old.wishes
 
 -- a desk has a move with this number of segments recorded

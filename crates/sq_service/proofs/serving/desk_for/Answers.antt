@@ -1,5 +1,6 @@
 use Rattle.std.proofs.Common.{ℕ, List, [], ◌∙◌, ap}
 use Rattle.std.specs.Prelude.{replicate}
+use Rattle.rtrb.specs.Ring.{received}
 use Rattle.sq_plan.specs.PlanValue.{PlanValue}
 use Rattle.sq_server.specs.declared.feed.Fed.{Fed}
 use Rattle.sq_server.specs.declared.desk.AskedTxn.{AskedTxn}
@@ -10,11 +11,10 @@ pub returns-in-Ok-new-clause-desk : goal.returns-in-Ok-new-clause-desk
 returns-in-Ok-new-clause-desk g c =
     let no_jobs : ℕ → List (List AskedTxn) = λ n. replicate n [] in
     let plan = c.args.plan.now in
-    let strict = c.args.config.is_strict in
-    let with_sides : List (List AskedTxn) → ServeDeskValue = λ sides. new_desk g.W.Write.contents c.args.outlet _ sides _ strict in
-    let with_plan : PlanValue → ServeDeskValue = λ p. new_desk g.W.Write.contents c.args.outlet _ (no_jobs plan.parts) p strict in
-    let with_heard : List Fed → ServeDeskValue = λ heard. new_desk g.W.Write.contents c.args.outlet heard (no_jobs plan.parts) plan strict in
+    let desk : List Fed → List (List AskedTxn) → PlanValue → ServeDeskValue =
+    λ heard sides plan. new_desk g.W.Write.contents c.args.outlet heard sides plan c.args.config.is_strict in
+    let heard = received c.args.lines.feed in
     c.new-in-Ok-new.ensures.value
-    ∙ ap with_sides (c.in-Ok-new.ensures ∙ ap no_jobs c.parts-parts.ensures.parts)
-    ∙ ap with_plan c.in-Ok.ensures
-    ∙ ap with_heard c.requires
+    ∙ ap (λ (sides : List (List AskedTxn)). desk heard sides c.in-Ok.text) (c.in-Ok-new.ensures ∙ ap no_jobs c.parts-parts.ensures.parts)
+    ∙ ap (λ (p : PlanValue). desk heard (no_jobs plan.parts) p) c.in-Ok.ensures
+    ∙ ap (λ (h : List Fed). desk h (no_jobs plan.parts) plan) c.requires
