@@ -100,9 +100,9 @@ long_is_some : (most : ℕ) (pieces : List PieceValue) → BeginLong most pieces
 long_is_some most [] begins none = begins
 long_is_some most (piece ∷ pieces) begins none = cc
 
-breaks_so : (end : FeedEnd) (rest : List PieceValue) → (fault : ℕ) × (place : LinePlace) × (fed.End end ≡ fed.End (end.Broken fault place))
-    → (rest ≡ [] → ⊥) → EndsAt end rest
-breaks_so end rest breaks some =
+breaks_so : (last : FeedEnd) (rest : List PieceValue) → (fault : ℕ) × (place : LinePlace) × (fed.End last ≡ fed.End (end.Broken fault place))
+    → (rest ≡ [] → ⊥) → EndsAt last rest
+breaks_so last rest breaks some =
     subst (λ (e : FeedEnd). EndsAt e rest) (sym (ap end_in breaks.2)) some
 
 -- and tells how

@@ -27,7 +27,8 @@ use Rattle.sq_service.proofs.Ended.{sound_closes}
 -- the commits that a sound ending counts are those of the lines that were written
 counts_commits : (o : OpeningValue) (ending : ServeEnding) (last : EngineValue) (said : List SaidLine)
     → receipts_said said ≡ answers_in last.jobs.events → SoundAsPlanned o ending last → CountsCommits ending said
-counts_commits o (Sound families committed input) last said all sound few =
+counts_commits o (Sound families committed input) last said all sound =
+    λ few.
     let same : commits_in (receipts_said said) ≡ commits_in (answers_in last.jobs.events) =
     ap (λ (receipts : List ReceiptValue). commits_in receipts) all in
     sound.commits (subst (λ (n : ℕ). n < 2 ^ 64) same few) ∙ sym same

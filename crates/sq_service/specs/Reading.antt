@@ -32,17 +32,17 @@ AsksFor line (fed.End end) = ⊥
 
 -- nothing more is read
 abbrev pub BreaksOff : Fed → Type 0
-BreaksOff fed = (fault : ℕ) × (place : LinePlace) × (fed ≡ fed.End (end.Broken fault place))
+BreaksOff last = (fault : ℕ) × (place : LinePlace) × (last ≡ fed.End (end.Broken fault place))
 
 -- what is handed on for what comes next of an input
 abbrev pub IsFedOf : Next → List ℕ → Fed → Type 0
-IsFedOf next.Line piece fed = AsksFor piece fed
-IsFedOf next.Rest piece fed = AsksFor piece fed
-IsFedOf next.End piece fed = fed ≡ fed.End end.Whole
-IsFedOf next.Failed piece fed = BreaksOff fed
-IsFedOf next.Long piece fed = BreaksOff fed
-IsFedOf next.TooMany piece fed = BreaksOff fed
-IsFedOf next.Unread piece fed = BreaksOff fed
+IsFedOf next.Line piece given = AsksFor piece given
+IsFedOf next.Rest piece given = AsksFor piece given
+IsFedOf next.End piece given = given ≡ fed.End end.Whole
+IsFedOf next.Failed piece given = BreaksOff given
+IsFedOf next.Long piece given = BreaksOff given
+IsFedOf next.TooMany piece given = BreaksOff given
+IsFedOf next.Unread piece given = BreaksOff given
 
 -- for each of these pieces, in their order, what its line asks was handed on
 abbrev pub AsksEach : List PieceValue → List Fed → Type 0
