@@ -8,4 +8,3 @@ mod Steps
 mod Ended
 pub mod WroteLines
 mod Tallied
-mod Handed

@@ -1,8 +1,6 @@
 -- What a reader makes of the lines after a header.
-use Rattle.std.specs.Prelude.{◌≡◌, ℕ, List, [], ◌∷◌, ◌++◌, Result, Ok, Err}
+use Rattle.std.specs.Prelude.{◌≡◌, ℕ, List, Result, Ok, Err}
 use Rattle.sq_schema.specs.declared.schema.TheConstants.{MAX_TABLES}
-use Rattle.sq_lines.specs.Pieces.{PieceValue, Line, Rest, Failed, Endless, TooMany}
-use Rattle.sq_lines.specs.Coming.{LinesValue, Leaves}
 use Rattle.sq_lines.specs.declared.reader.Next.{Next}
 use Rattle.sq_lines.specs.declared.reader.Next.TheVariants as next
 use Rattle.sq_serve.specs.declared.line_place.LinePlace.{LinePlace}
@@ -13,10 +11,7 @@ use Rattle.sq_serve.specs.FaultyLines.{job_id_of, IsTextOf}
 use Rattle.sq_serve.specs.ServeLines.{serve_line_of, IsServeLine}
 use Rattle.sq_server.specs.declared.feed.Fed.{Fed}
 use Rattle.sq_server.specs.declared.feed.Fed.TheVariants as fed
-use Rattle.sq_server.specs.declared.feed.InputEnd.{InputEnd}
 use Rattle.sq_server.specs.declared.feed.InputEnd.TheVariants as end
-use Rattle.sq_service.specs.declared.reading.PortionEnd.{PortionEnd}
-use Rattle.sq_service.specs.declared.reading.PortionEnd.TheVariants as portion
 
 -- a line is read as `wanted`, unless memory ran out; if it has a fault, the id of its job and its
 -- text are kept
@@ -43,34 +38,3 @@ IsFedOf next.Failed piece given = BreaksOff given
 IsFedOf next.Long piece given = BreaksOff given
 IsFedOf next.TooMany piece given = BreaksOff given
 IsFedOf next.Unread piece given = BreaksOff given
-
--- for each of these pieces, in their order, what its line asks was handed on
-abbrev pub AsksEach : List PieceValue → List Fed → Type 0
-AsksEach [] [] = Unit {0}
-AsksEach [] (fed ∷ given) = ⊥
-AsksEach (piece ∷ pieces) [] = ⊥
-AsksEach (Line number bytes ∷ pieces) (fed ∷ given) = AsksFor bytes fed × AsksEach pieces given
-AsksEach (Rest number bytes ∷ pieces) (fed ∷ given) = AsksFor bytes fed × AsksEach pieces given
-AsksEach (Failed number bytes ∷ pieces) (fed ∷ given) = ⊥
-AsksEach (Endless number bytes ∷ pieces) (fed ∷ given) = ⊥
-AsksEach (TooMany ∷ pieces) (fed ∷ given) = ⊥
-
--- an input ends whole if nothing more comes, and broken if more would come
-abbrev pub EndsAt : InputEnd → List PieceValue → Type 0
-EndsAt end.Whole left = left ≡ []
-EndsAt (end.Broken fault place) left = left ≡ [] → ⊥
-EndsAt end.Memory left = Unit {0}
-
--- lines were handed on, one after another, up to the end of an input: of all that can come, these
--- are the first pieces, and it ends so after them
-pub record HandsOnAll (old new : LinesValue) (before after : List Fed) (end : InputEnd) : Type 0 where
-  pub given : List Fed
-  pub sent : after ≡ before ++ given
-  pub pieces : List PieceValue
-  pub asks : AsksEach pieces given
-  pub came : Leaves old new (λ all left. (rest : List PieceValue) × (all ≡ pieces ++ rest) × EndsAt end rest)
-
--- the same, where a portion of the input ends so
-abbrev pub HandsOnUpTo : LinesValue → LinesValue → List Fed → List Fed → PortionEnd → Type 0
-HandsOnUpTo old new before after (portion.Lines end) = HandsOnAll old new before after end
-HandsOnUpTo old new before after (portion.Header opening) = ⊥

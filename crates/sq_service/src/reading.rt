@@ -1,8 +1,4 @@
 // The reader of an engine's input.
-ghost use Rattle.std.specs.Prelude.{IfSome};
-ghost use Rattle.rtrb.specs.Ring.{sent};
-ghost use Rattle.sq_service.specs.Reading.{HandsOnUpTo};
-
 use crate::asking::fed_of;
 use crate::feeds::{Feeds, Refused};
 use crate::plan_line::{header_start, line_at, on_later_line, on_one_line, unread_line};
@@ -246,32 +242,25 @@ fn read_only_lines<R: Wait, I: Read + Drop, P: LinePlaces + Drop>(
     }
 }
 
-// Hands on what lines ask, each once and in their order, and returns how they end; `None` if nobody
-// takes what is handed on. `number` is that of the first line of their portion.
+// Hands on what lines ask, and returns how they end; `None` if nobody takes what is handed on.
+// `number` is that of the first line of their portion.
 fn read_lines<R: Wait, I: Read + Drop, P: LinePlaces + Drop>(
     rt: &R,
     alloc: Global,
     feeds: &mut Feeds<P>,
     number: u64,
     lines: &mut LineReader<I>,
-) -> Option<PortionEnd>
-    ensures { IfSome result
-        (HandsOnUpTo lines.old lines.new (sent feeds.old.lines) (sent feeds.new.lines)) }
-{
+) -> Option<PortionEnd> {
     for _ in rt.forever() {
         let line = next_number(number, lines);
         let next = lines.next_read(MAX_UNENDED);
         match fed_of(alloc, next, feeds.place(line), lines.piece()) {
             Fed::End(end) => return Some(PortionEnd::Lines(end)),
-            asked => {
-                if !feeds.hand_on(rt, asked) {
+            line => {
+                if !feeds.hand_on(rt, line) {
                     return None;
                 }
             }
-        }
-        // Nothing comes after the bytes after the last line end.
-        if next == Next::Rest {
-            return Some(PortionEnd::Lines(InputEnd::Whole));
         }
     }
     unreachable!()
