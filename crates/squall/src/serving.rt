@@ -141,7 +141,7 @@ where
     T::Reader: Send + 'static,
     W: Write + Drop,
     requires { serving.config.pumps ≤ MAX_PUMPS }
-    ensures { EndsEngine serving.config.is_strict
+    ensures { EndsEngine serving.entry.config.is_strict
         (W.contents writer) (W.contents result.0) result.1 }
 {
     let typed = PlansWatched::new(*rt, rt.reader(), None);
@@ -206,7 +206,7 @@ where
     I: Read + Send + Drop + 'static,
     W: Write + Drop,
     requires { serving.config.pumps ≤ MAX_PUMPS }
-    ensures { EndsEngine serving.config.is_strict
+    ensures { EndsEngine serving.entry.config.is_strict
         (W.contents writer) (W.contents result.0) result.1 }
 {
     let Some(files) = serving.input.files else {
@@ -247,7 +247,7 @@ where
     I: Read + Send + Drop + 'static,
     W: Write + Drop,
     requires { serving.config.pumps ≤ MAX_PUMPS }
-    ensures { EndsEngine serving.config.is_strict
+    ensures { EndsEngine serving.entry.config.is_strict
         (W.contents writer) (W.contents result.0) result.1 }
 {
     let (writer, ending) = serve(rt, rt.alloc(), text, places, writer, serving.config, watch);
