@@ -12,6 +12,17 @@ use Rattle.sq_server.specs.declared.feed.InputEnd.TheVariants as end
 use Rattle.sq_server.specs.declared.desk.TheConstants.{LOST_CALLS}
 use Rattle.sq_server.specs.Settling.{unanswered_jobs}
 
+-- the wish, if it is that of a line
+abbrev pub asked_wish : Option Wish → Option Wish
+asked_wish (Some (wish.Move asked)) = Some (wish.Move asked)
+asked_wish (Some (wish.Rows asked)) = Some (wish.Rows asked)
+asked_wish (Some wish.Close) = None
+asked_wish None = None
+
+-- the first of two, if one is that of a line
+abbrev pub asked_first : Option Wish → Option Wish → Option Wish
+asked_first first second = option_or (asked_wish first) (asked_wish second)
+
 module _ {W : Type 0} where
   -- each job has its answer; or none waits to be posted, and there was no work in so many calls
   -- that the open ones count as lost
@@ -24,9 +35,9 @@ module _ {W : Type 0} where
   abbrev pub is_done : ServeDesk W → Bool
   is_done desk = is_some desk.end && is_none desk.moving && expects_nothing desk
 
-  -- why the epoch should end: for what was asked for, or else to close once all is done
+  -- why the epoch should end: for what a line wishes, or else to close once all is done
   abbrev pub wish_of : ServeDesk W → Option Wish
-  wish_of desk = option_or desk.wish (then_some (is_done desk) wish.Close)
+  wish_of desk = option_or (asked_first desk.wish desk.next_wish) (then_some (is_done desk) wish.Close)
 
 abbrev pub is_move : Option Wish → Bool
 is_move (Some (wish.Move asked)) = true

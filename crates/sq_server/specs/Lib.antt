@@ -2,6 +2,7 @@ pub mod Receipts
 pub mod Sides
 pub mod Ending
 pub mod Saying
+pub mod InputEnds
 pub mod Settling
 pub mod Closing
 pub mod Becoming

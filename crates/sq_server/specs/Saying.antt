@@ -3,6 +3,8 @@ use Rattle.std.specs.Prelude.{◌≡◌, ◌==◌, ◌+◌, ◌<◌, ◌^◌, fa
 use Rattle.std.specs.List.{flat_map}
 use Rattle.std.specs.Io.KnownBytes.{Appends}
 use Rattle.sq_schema.specs.Family.{FamilyValue}
+use Rattle.sq_plan.specs.PlanValue.{PlanValue}
+use Rattle.sq_plan.specs.PlanText.{plan_text}
 use Rattle.sq_text.specs.Texts.{refused_line}
 use Rattle.sq_results.specs.RowLines.{root_lines}
 use Rattle.sq_serve.specs.declared.serve_answer.ServeAnswer.{ServeAnswer}
@@ -32,12 +34,12 @@ CountsOneMore old new = old + 1 < 2 ^ 64 → new ≡ old + 1
 pub data OtherLine : Type 0 where
   Answered : (answer : ServeAnswer) → OtherLine
   Refused : (number : ℕ) → OtherLine
-  PlanTold : (text : List ℕ) → OtherLine
+  PlanTold : (plan : PlanValue) → OtherLine
   RowLines : (families : List FamilyValue) → OtherLine
 
 -- its bytes
 abbrev pub other_line : OtherLine → List ℕ
 other_line (Answered answer) = serve_answer_line answer
 other_line (Refused number) = refused_line number
-other_line (PlanTold text) = plan_line text
+other_line (PlanTold plan) = plan_line (plan_text plan)
 other_line (RowLines families) = flat_map root_lines families

@@ -2,6 +2,7 @@
 -- that it keeps.
 use Rattle.std.specs.Prelude.{◌≡◌, ◌⊎◌, ℕ, ◌-◌, ◌+◌, ◌<◌, ◌≤◌, ◌^◌, ◌==◌, if◌then◌else◌, List, [], ◌∷◌, ◌++◌, Option, Some, None, Ok, Err}
 use Rattle.sq_schema.specs.TxnValue.{TxnValue}
+use Rattle.sq_plan.specs.PlanValue.{PlanValue}
 use Rattle.sq_plan.specs.Fault.{plan_fault_number}
 use Rattle.sq_serve.specs.declared.serve_answer.ServeAnswer.{ServeAnswer}
 use Rattle.sq_serve.specs.declared.serve_answer.ServeAnswer.TheVariants.{Fault, Folded, AtRest, Progress}
@@ -19,7 +20,7 @@ use Rattle.sq_server.specs.declared.desk.Wish.TheVariants as wish
 use Rattle.sq_server.specs.declared.feed.Fed.{Fed}
 use Rattle.sq_server.specs.declared.feed.Fed.TheVariants as fed
 use Rattle.sq_server.specs.declared.feed.InputEnd.TheVariants as end
-use Rattle.sq_server.specs.Saying.{OtherLine, Answered, Refused, PlanTold}
+use Rattle.sq_server.specs.Saying.{CountsOneMore, OtherLine, Answered, Refused, PlanTold}
 
 -- a wish, if it comes from a line
 abbrev pub line_wish : Option Wish → List Wish
@@ -27,6 +28,16 @@ line_wish (Some (wish.Move asked)) = wish.Move asked ∷ []
 line_wish (Some (wish.Rows asked)) = wish.Rows asked ∷ []
 line_wish (Some wish.Close) = []
 line_wish None = []
+
+-- what a desk tells of: the plan in force, and how many answers it was given
+pub record Standing : Type 0 where
+  pub plan : PlanValue
+  pub answered : ℕ
+
+-- one more answer was given, unless 64 bits can't count them
+pub record CountsAnswer (old new : Standing) : Type 0 where
+  pub plan : new.plan ≡ old.plan
+  pub answered : CountsOneMore old.answered new.answered
 
 -- how many jobs have no answer: those that are posted and not answered, and those that wait
 abbrev pub unanswered_jobs : JobCounts → ℕ → ℕ
@@ -61,31 +72,31 @@ AnswersFault place id (Txn fault) lines = lines ≡ Answered (Fault (serve_fault
 AnswersFault place id (Plan fault) lines = (lines ≡ Refused 217 ∷ []) ⊎ (lines ≡ Refused (plan_fault_number fault) ∷ [])
 AnswersFault place id Memory lines = ⊥
 
--- the line that answers what a line asks, or the wish that is kept, with a move's progress as it
--- is; a job of an existing partition gets no line
-abbrev pub SettlesAsked : ℕ → Option MoveProgress → LinePlace → ServeLine → List OtherLine → List Wish → Type 0
-SettlesAsked parts moving place (asks.Job part txn) lines kept =
+-- the line that answers what a line asks, or the wish that is kept, with a move's progress and the
+-- standing as they are; a job of an existing partition gets no line
+abbrev pub SettlesAsked : ℕ → Option MoveProgress → Standing → LinePlace → ServeLine → List OtherLine → List Wish → Type 0
+SettlesAsked parts moving standing place (asks.Job part txn) lines kept =
     (part < parts → lines ≡ []) × (parts ≤ part → lines ≡ Answered (refusal_of 219 place txn) ∷ []) × (kept ≡ [])
-SettlesAsked parts moving place (asks.Move plan) lines kept = IsKeptOrRefused (wish.Move (record { place = place; plan = plan })) lines kept
-SettlesAsked parts moving place asks.Fold lines kept =
-    (answers : ℕ) × (lines ≡ Answered (Folded answers) ∷ []) × (kept ≡ [])
-SettlesAsked parts moving place asks.Rows lines kept = IsKeptOrRefused (wish.Rows (record { place = place; file = None })) lines kept
-SettlesAsked parts moving place (asks.RowsTo file) lines kept = IsKeptOrRefused (wish.Rows (record { place = place; file = Some file })) lines kept
-SettlesAsked parts moving place asks.Status lines kept =
+SettlesAsked parts moving standing place (asks.Move plan) lines kept = IsKeptOrRefused (wish.Move (record { place = place; plan = plan })) lines kept
+SettlesAsked parts moving standing place asks.Fold lines kept =
+    (lines ≡ Answered (Folded standing.answered) ∷ []) × (kept ≡ [])
+SettlesAsked parts moving standing place asks.Rows lines kept = IsKeptOrRefused (wish.Rows (record { place = place; file = None })) lines kept
+SettlesAsked parts moving standing place (asks.RowsTo file) lines kept = IsKeptOrRefused (wish.Rows (record { place = place; file = Some file })) lines kept
+SettlesAsked parts moving standing place asks.Status lines kept =
     (unanswered : ℕ) × (lines ≡ Answered (told_status moving unanswered) ∷ []) × (kept ≡ [])
-SettlesAsked parts moving place asks.Plan lines kept = (text : List ℕ) × (lines ≡ PlanTold text ∷ []) × (kept ≡ [])
+SettlesAsked parts moving standing place asks.Plan lines kept = (lines ≡ PlanTold standing.plan ∷ []) × (kept ≡ [])
 
 -- the same of what was handed on
-abbrev pub SettlesFed : ℕ → Option MoveProgress → Fed → List OtherLine → List Wish → Type 0
-SettlesFed parts moving (fed.Line place (Ok asks)) lines kept = SettlesAsked parts moving place asks lines kept
-SettlesFed parts moving (fed.Line place (Err faulty)) lines kept = AnswersFault place faulty.id faulty.fault lines × (kept ≡ [])
-SettlesFed parts moving (fed.End end.Whole) lines kept = (lines ≡ []) × (kept ≡ [])
-SettlesFed parts moving (fed.End (end.Broken fault place)) lines kept = (lines ≡ Answered (Fault fault place.line None) ∷ []) × (kept ≡ [])
-SettlesFed parts moving (fed.End end.Memory) lines kept = ⊥
+abbrev pub SettlesFed : ℕ → Option MoveProgress → Standing → Fed → List OtherLine → List Wish → Type 0
+SettlesFed parts moving standing (fed.Line place (Ok asks)) lines kept = SettlesAsked parts moving standing place asks lines kept
+SettlesFed parts moving standing (fed.Line place (Err faulty)) lines kept = AnswersFault place faulty.id faulty.fault lines × (kept ≡ [])
+SettlesFed parts moving standing (fed.End end.Whole) lines kept = (lines ≡ []) × (kept ≡ [])
+SettlesFed parts moving standing (fed.End (end.Broken fault place)) lines kept = (lines ≡ Answered (Fault fault place.line None) ∷ []) × (kept ≡ [])
+SettlesFed parts moving standing (fed.End end.Memory) lines kept = ⊥
 
 -- the same of all that was handed on, in its order
-abbrev pub SettlesEach : ℕ → Option MoveProgress → List Fed → List OtherLine → List Wish → Type 0
-SettlesEach parts moving [] lines kept = (lines ≡ []) × (kept ≡ [])
-SettlesEach parts moving (fed ∷ more) lines kept =
+abbrev pub SettlesEach : ℕ → Option MoveProgress → Standing → List Fed → List OtherLine → List Wish → Type 0
+SettlesEach parts moving standing [] lines kept = (lines ≡ []) × (kept ≡ [])
+SettlesEach parts moving standing (fed ∷ more) lines kept =
     (now : List OtherLine) × (wished : List Wish) × (later : List OtherLine) × (still : List Wish)
-    × SettlesFed parts moving fed now wished × SettlesEach parts moving more later still × (lines ≡ now ++ later) × (kept ≡ wished ++ still)
+    × SettlesFed parts moving standing fed now wished × SettlesEach parts moving standing more later still × (lines ≡ now ++ later) × (kept ≡ wished ++ still)

@@ -11,7 +11,7 @@ use Rattle.sq_serve.specs.declared.line_place.LinePlace.{LinePlace}
 use Rattle.sq_engine.specs.declared.event.Event.{Event}
 use Rattle.sq_engine.specs.declared.event.Event.TheVariants.{Posts, Refuses, Answers, Drops, Loses, Rests, Ends, MovesTo}
 use Rattle.sq_engine.specs.declared.serving.EpochEnd.{EpochEnd}
-use Rattle.sq_engine.specs.Events.{given_from}
+use Rattle.sq_engine.specs.Events.{answers_in, given_from}
 use Rattle.sq_engine.specs.Values.{EngineValue}
 use Rattle.sq_engine.specs.Serving.{AllArrive}
 use Rattle.sq_engine.specs.Engine.{AddsEpoch}
@@ -22,7 +22,8 @@ use Rattle.sq_server.specs.declared.desk.MoveProgress.{MoveProgress}
 use Rattle.sq_server.specs.declared.desk.Wish.{Wish}
 use Rattle.sq_server.specs.Saying.{OtherLine, Answered, other_line}
 use Rattle.sq_server.specs.Sides.{waiting_at}
-use Rattle.sq_server.specs.Settling.{refusal_of, SettlesEach}
+use Rattle.sq_server.specs.InputEnds.{LearnsEnd}
+use Rattle.sq_server.specs.Settling.{Standing, CountsAnswer, refusal_of, SettlesEach}
 use Rattle.sq_server.specs.Becoming.{ServeDeskValue, asked_by, jobs_for}
 
 -- a line that was written: of a receipt of a partition, or another line
@@ -78,14 +79,16 @@ jobs_waiting waiting part = as_jobs part (waiting_at waiting part)
 abbrev pub jobs_asked : ℕ → List Fed → List Job
 jobs_asked part more = as_jobs part (flat_map (asked_by part) more)
 
--- in these events a desk wrote the line of each answer that it was given, once, those of each
--- partition in their order, and other lines; and for each partition the jobs that waited, and those
+-- in these events a desk wrote the line of each answer that it was given, once, in the order of
+-- the events, and other lines; and for each partition the jobs that waited, and those
 -- that were asked for, are in this order those that were posted or refused, and those that wait; or
 -- else nothing more can be done
 pub record WritesEach (events : List Event) (old new : ServeDeskValue) : Type 0 where
   pub goes_on : new.has_stopped ≡ false → old.has_stopped ≡ false
+  pub writes_on : new.has_failed ≡ false → old.has_failed ≡ false
   pub said : List SaidLine
-  pub written : new.has_stopped ≡ false → Appends old.written new.written (flat_map said_line said)
+  pub written : new.has_failed ≡ false → Appends old.written new.written (flat_map said_line said)
+  pub answers : receipts_said said ≡ answers_in events
   pub told : (part : ℕ) → told_from part said ≡ given_from part events
   pub more : List Fed
   pub heard : new.heard ≡ old.heard ++ more
@@ -93,6 +96,8 @@ pub record WritesEach (events : List Event) (old new : ServeDeskValue) : Type 0 
   pub jobs : new.has_stopped ≡ false → (part : ℕ) → part < length old.waiting
       → jobs_waiting old.waiting part ++ jobs_asked part more
       ≡ jobs_for part (settled_in events) ++ jobs_waiting new.waiting part
+  pub strict : new.has_stopped ≡ false → new.is_strict ≡ old.is_strict
+  pub ended : new.has_stopped ≡ false → LearnsEnd old.is_strict more old.ended new.ended
 
 abbrev pub other_said : SaidLine → List OtherLine
 other_said (OfReceipt part receipt) = []
@@ -125,34 +130,34 @@ AnswersReturned parts job fault.RepeatedId lines = (place : LinePlace) × (lines
 AnswersReturned parts job fault.Memory lines = ⊥
 
 -- what was heard is settled, for some progress of a move
-abbrev pub SettlesHeard : ℕ → Settlement → Type 0
-SettlesHeard parts all = (moving : Option MoveProgress) × SettlesEach parts moving all.heard all.lines all.kept
+abbrev pub SettlesHeard : ℕ → Standing → Settlement → Type 0
+SettlesHeard parts standing all = (moving : Option MoveProgress) × SettlesEach parts moving standing all.heard all.lines all.kept
 
 -- what was heard is settled, and then the job that isn't posted
-pub record SettlesReturned (parts : ℕ) (job : Job) (why : PostFault) (all : Settlement) : Type 0 where
+pub record SettlesReturned (parts : ℕ) (standing : Standing) (job : Job) (why : PostFault) (all : Settlement) : Type 0 where
   pub own : List OtherLine
-  pub settled : SettlesHeard parts (record all { lines = own })
+  pub settled : SettlesHeard parts standing (record all { lines = own })
   pub refusal : List OtherLine
   pub answers : AnswersReturned parts job why refusal
   pub lines : all.lines ≡ own ++ refusal
 
--- what an event settles
-abbrev pub SettlesEvent : ℕ → Event → Settlement → Type 0
-SettlesEvent parts (Answers part receipt) all = all ≡ settles_nothing
-SettlesEvent parts (Drops part receipt) all = all ≡ settles_nothing
-SettlesEvent parts Loses all = all ≡ settles_nothing
-SettlesEvent parts (MovesTo plan) all = all ≡ settles_nothing
-SettlesEvent parts (Posts job) all = SettlesHeard parts all
-SettlesEvent parts (Refuses job why) all = SettlesReturned parts job why all
-SettlesEvent parts Rests all = SettlesHeard parts all
-SettlesEvent parts Ends all = SettlesHeard parts all
+-- what an event settles: an answer counts for what a desk tells of
+abbrev pub SettlesEvent : ℕ → Standing → Event → Settlement → Standing → Type 0
+SettlesEvent parts old (Answers part receipt) all new = (all ≡ settles_nothing) × CountsAnswer old new
+SettlesEvent parts old (Drops part receipt) all new = (all ≡ settles_nothing) × (new ≡ old)
+SettlesEvent parts old Loses all new = (all ≡ settles_nothing) × (new ≡ old)
+SettlesEvent parts old (MovesTo plan) all new = (all ≡ settles_nothing) × (new ≡ old)
+SettlesEvent parts old (Posts job) all new = SettlesHeard parts old all × (new ≡ old)
+SettlesEvent parts old (Refuses job why) all new = SettlesReturned parts old job why all × (new ≡ old)
+SettlesEvent parts old Rests all new = SettlesHeard parts old all × (new ≡ old)
+SettlesEvent parts old Ends all new = SettlesHeard parts old all × (new ≡ old)
 
 -- what events settle, one after another
-abbrev pub SettlesAll : ℕ → List Event → Settlement → Type 0
-SettlesAll parts [] all = all ≡ settles_nothing
-SettlesAll parts (event ∷ events) all =
-    (now : Settlement) × (later : Settlement)
-    × SettlesEvent parts event now × SettlesAll parts events later × (all ≡ settled_both now later)
+abbrev pub SettlesAll : ℕ → Standing → List Event → Settlement → Standing → Type 0
+SettlesAll parts first [] all last = (all ≡ settles_nothing) × (last ≡ first)
+SettlesAll parts first (event ∷ events) all last =
+    (now : Settlement) × (later : Settlement) × (next : Standing)
+    × SettlesEvent parts first event now next × SettlesAll parts next events later last × (all ≡ settled_both now later)
 
 -- in these events a desk wrote what it was given, and each line that it heard is settled: by
 -- exactly one line that was written, by a job, or by a wish that is kept; each job that was refused
@@ -162,7 +167,7 @@ pub record AnswersEach (events : List Event) (old new : ServeDeskValue) : Type 0
   pub kept : List Wish
   pub wishes : new.has_stopped ≡ false → new.wishes ≡ old.wishes ++ kept
   pub settled : new.has_stopped ≡ false
-      → SettlesAll (length old.waiting) events (record { heard = writes.more; lines = others_in writes.said; kept = kept })
+      → SettlesAll (length old.waiting) old.standing events (record { heard = writes.more; lines = others_in writes.said; kept = kept }) new.standing
 
 -- in an epoch that began with these nodes a desk wrote the answers that arrived of them
 pub record ServesEpoch (events : List Event) (nodes : List NodeState) (before after : ServeDeskValue) : Type 0 where

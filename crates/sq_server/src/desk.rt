@@ -1,7 +1,8 @@
 // The desk of an engine: it connects input lines with epochs.
 ghost use Rattle.std.specs.Prelude.{◌≡◌, ◌⊎◌, ◌||◌, ℕ, true, false, [], ◌∷◌, ◌++◌, ◌<◌, ◌≤◌, ◌^◌};
 ghost use Rattle.std.specs.Prelude.{length, IsTrue, Ok, Err, Some, None, IfSome, IfNone, MatchOption};
-ghost use Rattle.std.specs.Prelude.{string_bytes, sum_by, is_some, if◌then◌else◌, ◌==◌};
+ghost use Rattle.std.specs.Prelude.{sum_by, is_some, if◌then◌else◌, ◌==◌};
+ghost use Rattle.sq_plan.specs.PlanText.{plan_text};
 ghost use Rattle.rtrb.specs.Ring.{received};
 ghost use Rattle.sq_text.specs.Texts.{refused_line};
 ghost use Rattle.sq_serve.specs.declared.serve_line.ServeLine.TheVariants as asks;
@@ -15,12 +16,15 @@ ghost use Rattle.sq_server.specs.Becoming.{AnswersRefusal, WaitsOrHasNoPartition
 ghost use Rattle.sq_server.specs.Becoming.{Stops, with_stage, job_list, offered_by};
 ghost use Rattle.sq_server.specs.Settling.{line_wish, refusal_of, IsStatus, unanswered_jobs};
 ghost use Rattle.sq_server.specs.Saying.{rows_told, CountsOneMore};
-ghost use Rattle.sq_server.specs.Closing.{expects_nothing, is_done, wish_of, moves, KnowsWhole};
+ghost use Rattle.sq_server.specs.InputEnds.{KeepsEnd};
+ghost use Rattle.sq_server.specs.Closing.{expects_nothing, is_done, asked_wish, asked_first};
+ghost use Rattle.sq_server.specs.Closing.{wish_of, moves, KnowsWhole};
 
 use crate::bell::Bell;
 use crate::ending::{InputOutcome, ServeEnding};
 use crate::feed::{Fed, InputEnd};
 use crate::outlet::Outlet;
+use crate::plan_text::PlanText;
 use crate::sides::SideQueues;
 use crate::txn_words::txn_words;
 use rtrb::Consumer;
@@ -137,8 +141,8 @@ pub struct ServeDesk<W: Write + Drop> {
     pub config: DeskConfig,
     /// The progress of the move; `None` at rest.
     pub moving: Option<MoveProgress>,
-    /// The text of the plan in force.
-    pub plan: String,
+    /// The plan in force.
+    pub plan: PlanText,
     /// Why the running epoch should end, if a line or the desk asked for that, and why the next one
     /// should. Closing isn't stored here: [`ServeDesk::take_wish`] returns it once all is done.
     pub wish: Option<Wish>,
@@ -160,18 +164,18 @@ const NOWHERE: LinePlace = LinePlace {
 
 impl<W: Write + Drop> ServeDesk<W> {
     /// A desk that takes its lines from `feed`, writes to `outlet`, and keeps waiting jobs in
-    /// `sides`; `plan` is the text of the plan in force.
+    /// `sides`; `plan` is the plan in force.
     pub fn new(
         feed: Consumer<Fed>,
         bell: Arc<Bell, Global>,
         outlet: Outlet<W>,
         sides: SideQueues<AskedTxn>,
-        plan: String,
+        plan: PlanText,
         config: DeskConfig,
     ) -> ServeDesk<W>
         ensures outlet { result.outlet ≡ outlet }
         ensures value { desk_value W.contents result
-            ≡ new_desk W.contents outlet (received feed) sides }
+            ≡ new_desk W.contents outlet (received feed) sides plan config.is_strict }
     {
         ServeDesk {
             feed,
@@ -227,7 +231,7 @@ impl<W: Write + Drop> ServeDesk<W> {
     pub fn has_wish(&self) -> bool
         ensures { result ≡ is_some (wish_of self.now) }
     {
-        self.wish.is_some() || self.is_done()
+        is_asked(&self.wish) || is_asked(&self.next_wish) || self.is_done()
     }
 
     /// Takes the reason for the epoch's end; it is [`Wish::Close`] if there is no other and all is
@@ -238,9 +242,23 @@ impl<W: Write + Drop> ServeDesk<W> {
         ensures wish { result ≡ wish_of self.old }
     {
         let close = self.is_done().then_some(Wish::Close);
-        let wish = self.wish.take().or(close);
-        self.wish = self.next_wish.take();
-        wish
+        self.take_asked_wish().or(close)
+    }
+
+    // Takes the first wish of a line, if there is one.
+    fn take_asked_wish(&mut self) -> Option<Wish>
+        ensures takes { TakesWish result (desk_value W.contents self.old)
+            (desk_value W.contents self.new) }
+        ensures none { IfNone result ((desk_value W.contents self.old).wishes ≡ []) }
+        ensures wish { result ≡ asked_first self.old.wish self.old.next_wish }
+    {
+        match asked(self.wish.take()) {
+            Some(wish) => {
+                self.wish = self.next_wish.take();
+                Some(wish)
+            }
+            None => asked(self.next_wish.take()),
+        }
     }
 
     /// Flushes what was written.
@@ -682,7 +700,9 @@ impl<W: Write + Drop> ServeDesk<W> {
     // Counts a refused or faulty line, and reports it to `watch`; this is the only place that does.
     // A strict input ends here.
     fn note_refusal<V: ServeWatch>(&mut self, watch: &V, refusal: LineRefusal<'_>)
-        ensures value { desk_value W.contents self.new ≡ desk_value W.contents self.old }
+        ensures value { desk_value W.contents self.new
+            ≡ record (desk_value W.contents self.old) { ended = self.new.end } }
+        ensures keeps { KeepsEnd self.old.config.is_strict self.old.end self.new.end }
         ensures outlet { self.new.outlet ≡ self.old.outlet }
         ensures ends { self.new.end ≡ (if self.old.config.is_strict
             then Some (outcome_refused self.old.end) else self.old.end) }
@@ -715,7 +735,7 @@ impl<W: Write + Drop> ServeDesk<W> {
 
     // Writes the plan in force.
     fn say_plan(&mut self)
-        ensures { WritesBytes (plan_line (string_bytes self.old.plan))
+        ensures { WritesBytes (plan_line (plan_text self.old.plan))
             (desk_value W.contents self.old) (desk_value W.contents self.new) }
     {
         self.outlet.say_plan(self.plan.as_str());
@@ -865,6 +885,23 @@ impl<W: Write + Drop> ServeDesk<W> {
             Err(_) => self.lacks_memory = true,
         }
     }
+}
+
+// The wish, if it is that of a line.
+fn asked(wish: Option<Wish>) -> Option<Wish>
+    ensures { result ≡ asked_wish wish }
+{
+    match wish {
+        Some(Wish::Close) | None => None,
+        wish => wish,
+    }
+}
+
+// Returns whether the wish is that of a line.
+fn is_asked(wish: &Option<Wish>) -> bool
+    ensures { result ≡ is_some (asked_wish wish.now) }
+{
+    matches!(wish, Some(Wish::Move(_) | Wish::Rows(_)))
 }
 
 // The refusal of a line whose text isn't kept.

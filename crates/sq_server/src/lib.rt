@@ -11,6 +11,7 @@ mod feed;
 pub mod laws;
 mod marks;
 mod outlet;
+mod plan_text;
 mod sides;
 mod txn_words;
 
@@ -24,4 +25,5 @@ pub use epoch::run_at_desk;
 pub use feed::{FEED_ROOM, Fed, InputEnd, give, wait_for};
 pub use marks::EpochMarks;
 pub use outlet::Outlet;
+pub use plan_text::PlanText;
 pub use sides::{SIDE_ROOM, SideQueues};

@@ -19,19 +19,21 @@ use Rattle.sq_serve.specs.ServeAnswers.{serve_answer_line}
 use Rattle.sq_server.specs.declared.desk.MoveProgress.{MoveProgress}
 use Rattle.sq_server.specs.declared.desk.Wish.{Wish}
 use Rattle.sq_server.specs.declared.ending.ServeEnding.{ServeEnding}
+use Rattle.sq_server.specs.Settling.{Standing}
 use Rattle.sq_server.specs.Saying.{Answered, Refused, lines_in}
 use Rattle.sq_server.specs.Becoming.{ServeDeskValue, Speaks, WritesBytes, TakesWish}
 use Rattle.sq_server.proofs.Desks.{line_speaks}
 use Rattle.sq_service.specs.Rows.{saved_line, not_ended_line}
-use Rattle.sq_service.specs.Wishes.{WritesText, IsUnderWay, segments_in, EndsMove, TellsMove, RefusesMove, AnswersMove, AnswersWish, AnswersTaken}
+use Rattle.sq_service.specs.Wishes.{WritesText, TakesEffect, IsUnderWay, segments_in, EndsMove, TellsMove, RefusesMove, AnswersMove, AnswersWish, AnswersTaken}
 
 -- a text, and then another one
 text_then : (first second : List ℕ) (a b c : ServeDeskValue) → WritesText first a b → WritesText second b c → WritesText (first ++ second) a c
 text_then first second a b c one two =
     record {
       goes_on = λ still. one.goes_on (two.goes_on still);
+      writes_on = λ still. one.writes_on (two.writes_on still);
       written = λ still.
-          both a.written b.written c.written first second (first ++ second) (one.written (two.goes_on still)) (two.written still) refl;
+          both a.written b.written c.written first second (first ++ second) (one.written (two.writes_on still)) (two.written still) refl;
       wishes = two.wishes ∙ one.wishes;
     }
 
@@ -46,9 +48,9 @@ same_segments desk one other is also =
 pub move_over : {A : Type 0} (result : Result A ServeEnding) (engine : EngineValue) (progress : MoveProgress) (a b : ServeDeskValue)
     → a.moving ≡ Some progress → rests engine ≡ true
     → IfOk result (λ done. WritesText (serve_answer_line (Moved progress.segments)) a b) → IfOk result (λ done. b.moving ≡ None)
-    → IfOk result (λ done. EndsMove engine a b)
-move_over (Ok done) engine progress a b is still says none = inl (progress.segments, (progress, is, refl), still, none, says)
-move_over (Err ending) engine progress a b is still says none = tt
+    → IfOk result (λ done. TakesEffect engine a b) → IfOk result (λ done. EndsMove engine a b)
+move_over (Ok done) engine progress a b is still says none plan = inl (progress.segments, (progress, is, refl), still, none, plan, says)
+move_over (Err ending) engine progress a b is still says none plan = tt
 
 some_is_none : (progress : MoveProgress) → Some progress ≡ None → ⊥
 some_is_none progress e = cc
@@ -62,34 +64,36 @@ rows_move engine desk moves = inr ((λ segments is. moves), refl)
 
 -- a move begins, and is over at once or not
 pub move_told : (engine : EngineValue) (segments : ℕ) (a b c : ServeDeskValue) → segments ≡ segments_in engine → IsUnderWay segments b
-    → WritesText (serve_answer_line (Moving segments)) a b → EndsMove engine b c → TellsMove engine a c
-move_told engine segments a b c all is begins ends =
+    → b.standing ≡ a.standing → WritesText (serve_answer_line (Moving segments)) a b → EndsMove engine b c → TellsMove engine a c
+move_told engine segments a b c all is stands begins ends =
     let known : IsUnderWay (segments_in engine) b = subst (λ (n : ℕ). IsUnderWay n b) all is in
     let begun : WritesText (serve_answer_line (Moving (segments_in engine))) a b =
     subst (λ (n : ℕ). WritesText (serve_answer_line (Moving n)) a b) all begins in
     ⊎_elim
     (λ over.
     let moved : WritesText (serve_answer_line (Moved (segments_in engine))) b c =
-    subst (λ (n : ℕ). WritesText (serve_answer_line (Moved n)) b c) (same_segments b over.0 (segments_in engine) over.1 known) over.4 in
+    subst (λ (n : ℕ). WritesText (serve_answer_line (Moved n)) b c) (same_segments b over.0 (segments_in engine) over.1 known) over.5 in
     inl (
       over.2,
       over.3,
+      subst (λ (s : Standing). c.standing ≡ record s { plan = engine.opening.new }) stands over.4,
       text_then (serve_answer_line (Moving (segments_in engine))) (serve_answer_line (Moved (segments_in engine))) a b c begun moved,
     ))
     (λ on.
     inr (
       on.0 (segments_in engine) known,
       subst (λ (d : ServeDeskValue). IsUnderWay (segments_in engine) d) (sym on.1) known,
+      ap (λ (d : ServeDeskValue). d.standing) on.1 ∙ stands,
       subst (λ (d : ServeDeskValue). WritesText (serve_answer_line (Moving (segments_in engine))) a d) (sym on.1) begun,
     ))
     ends
 
 -- the same, unless there is no memory to say that it is over
 pub move_told_if : {A : Type 0} (result : Result A ServeEnding) (engine : EngineValue) (segments : ℕ) (a b c : ServeDeskValue)
-    → segments ≡ segments_in engine → IsUnderWay segments b → WritesText (serve_answer_line (Moving segments)) a b
+    → segments ≡ segments_in engine → IsUnderWay segments b → b.standing ≡ a.standing → WritesText (serve_answer_line (Moving segments)) a b
     → IfOk result (λ done. EndsMove engine b c) → OnOk result (TellsMove engine a c)
-move_told_if (Ok done) engine segments a b c all is begins ends = move_told engine segments a b c all is begins ends
-move_told_if (Err ending) engine segments a b c all is begins ends = tt
+move_told_if (Ok done) engine segments a b c all is stands begins ends = move_told engine segments a b c all is stands begins ends
+move_told_if (Err ending) engine segments a b c all is stands begins ends = tt
 
 -- a line that asks for a move is answered: the move begins, or it is refused
 pub move_answered : {A : Type 0} (plan : PlanValue) (old : EngineValue) (before : ServeDeskValue) (result : Result A ServeEnding)
@@ -113,10 +117,8 @@ stays_silent (Err ending) a = tt
 
 -- the plan of a move has a fault
 pub fault_of_move : (number : ℕ) (fault : ReconFault) (a b : ServeDeskValue) → number ≡ recon_fault_number fault
-    → WritesBytes (refused_line number) a b → WritesText (refused_line (recon_fault_number fault)) a b
-fault_of_move number fault a b is says =
-    subst (λ (n : ℕ). WritesText (refused_line n) a b) is
-    (record { goes_on = says.goes_on; written = says.written; wishes = says.wishes })
+    → WritesBytes (refused_line number) a b → WritesBytes (refused_line (recon_fault_number fault)) a b
+fault_of_move number fault a b is says = subst (λ (n : ℕ). WritesBytes (refused_line n) a b) is says
 
 -- a fault by its number and the place of its line
 pub fault_told : (number wanted : ℕ) (at place : LinePlace) (id : Option ℕ) (a b : ServeDeskValue) → number ≡ wanted → at ≡ place → id ≡ None

@@ -3,16 +3,15 @@ use Rattle.std.proofs.Common.{⊎_elim, inl, inr, ℕ, Bool, List, sym, subst}
 use Rattle.std.specs.Prelude.{Option}
 use Rattle.sq_ranges.specs.OpeningValue.{OpeningValue}
 use Rattle.sq_server.specs.declared.ending.ServeEnding.{ServeEnding}
-use Rattle.sq_server.specs.declared.feed.Fed.{Fed}
 use Rattle.sq_server.specs.declared.outlet.Outlet.{Outlet}
 use Rattle.sq_service.specs.Service.{first_desk, ServesNone, ServesOpening, ServesSome}
 
-module _ {W : Type 0} (saves : List ℕ → List ℕ → Bool → Type 0) (contents : W → Option (List ℕ)) where
+module _ {W : Type 0} (strict : Bool) (saves : List ℕ → List ℕ → Bool → Type 0) (contents : W → Option (List ℕ)) where
   -- an engine with some opening was served, or there was no memory for it
-  pub opening_serves_some : (o : OpeningValue) (heard : List Fed) (outlet : Outlet W) (ending : ServeEnding) (new : Outlet W)
-      → ServesOpening saves contents o (first_desk contents outlet heard o.new.parts) outlet ending new → ServesSome saves contents outlet ending new
-  opening_serves_some o heard outlet ending new serves =
+  pub opening_serves_some : (o : OpeningValue) (outlet : Outlet W) (ending : ServeEnding) (new : Outlet W)
+      → ServesOpening saves contents o (first_desk strict contents outlet o.new) outlet ending new → ServesSome strict saves contents outlet ending new
+  opening_serves_some o outlet ending new serves =
       ⊎_elim
-      (λ served. inl (o, heard, served))
+      (λ served. inl (o, served))
       (λ none. inr (subst ServesNone (sym none.0) tt, none.1))
       serves

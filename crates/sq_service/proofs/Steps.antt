@@ -1,6 +1,6 @@
 -- What a step of an engine that is served gives.
 use Rattle.std.proofs.Common.{◌≡◌, ◌⊎◌, ⊎_elim, inl, inr, ℕ, Bool, true, false, true≢false, List, [], ◌∷◌, ◌++◌, refl, sym, ap, subst, ◌∙◌}
-use Rattle.std.specs.Prelude.{Result, Ok, Err, IfOk, IfErr, OnOk, OnErr, Some, IsSome, is_err}
+use Rattle.std.specs.Prelude.{Result, Ok, Err, IfOk, IfErr, OnOk, OnErr, Option, Some, IsSome, is_err, unwrap_or}
 use Rattle.std.specs.List.{flat_map}
 use Rattle.std.proofs.lemmas.Grind.{flat_map-append}
 use Rattle.sq_text.proofs.Appending.{both}
@@ -20,9 +20,12 @@ use Rattle.sq_server.specs.declared.desk.AskedMove.{AskedMove}
 use Rattle.sq_server.specs.declared.desk.Wish.{Wish}
 use Rattle.sq_server.specs.declared.desk.Wish.TheVariants as wish
 use Rattle.sq_server.specs.declared.ending.ServeEnding.{ServeEnding}
-use Rattle.sq_server.specs.declared.ending.ServeEnding.TheVariants.{Memory}
+use Rattle.sq_server.specs.declared.ending.ServeEnding.TheVariants.{Sound, Unsound, NoHeader, Memory, Threads, Unwritten}
+use Rattle.sq_server.specs.declared.ending.InputOutcome.{InputOutcome}
+use Rattle.sq_server.specs.declared.ending.InputOutcome.TheVariants.{Broken}
 use Rattle.sq_server.specs.Becoming.{ServeDeskValue, Speaks, TakesWish}
 use Rattle.sq_server.specs.Ending.{EndsStopped}
+use Rattle.sq_server.specs.InputEnds.{KnowsEnd}
 use Rattle.sq_server.specs.Saying.{other_line}
 use Rattle.sq_server.specs.Written.{EpochIsWritten}
 use Rattle.sq_server.proofs.Desks.{silent, wish_speaks}
@@ -36,13 +39,19 @@ pub speaks_then : (a b c : ServeDeskValue) → Speaks a b → Speaks b c → Spe
 speaks_then a b c one two =
     record {
       goes_on = λ still. one.goes_on (two.goes_on still);
+      writes_on = λ still. one.writes_on (two.writes_on still);
       others = one.others ++ two.others;
       written = λ still.
           both a.written b.written c.written (flat_map other_line one.others) (flat_map other_line two.others)
-          (flat_map other_line (one.others ++ two.others)) (one.written (two.goes_on still)) (two.written still)
+          (flat_map other_line (one.others ++ two.others)) (one.written (two.writes_on still)) (two.written still)
           (sym (flat_map-append other_line one.others two.others));
       heard = two.heard ∙ one.heard;
       waiting = two.waiting ∙ one.waiting;
+      answered = two.answered ∙ one.answered;
+      strict = two.strict ∙ one.strict;
+      ended = λ heard knows.
+          subst (λ (s : Bool). KnowsEnd s heard c.ended) one.strict
+          (two.ended heard (subst (λ (s : Bool). KnowsEnd s heard b.ended) (sym one.strict) (one.ended heard knows)));
     }
 
 -- an engine that is the same, or that kept its opening, has only gone on by itself
@@ -101,11 +110,22 @@ epoch_gives desk (Err lack) (Err ending) old before new after written keeps same
 pub closed_lends : (old new : EngineValue) → HasClosed old new → IsSome (rows_in new)
 closed_lends old new closed = subst (λ (at : AtValue). IsSome (rows_at at)) (sym closed.ends.at) refl
 
+-- how the input ended is what the desk recorded
+ends_with : (ended : Option InputOutcome) (input : InputOutcome) (last : EngineValue) (ending : ServeEnding) → input ≡ unwrap_or ended Broken
+    → ClosedEndsBy last (Some input) ending → ClosedEndsBy last ended ending
+ends_with ended input last (Sound families committed told) is by = (by.0, by.1, by.2 ∙ is)
+ends_with ended input last (Unsound defect) is by = by
+ends_with ended input last (NoHeader fault) is by = by
+ends_with ended input last Memory is by = by
+ends_with ended input last Threads is by = by
+ends_with ended input last Unwritten is by = by
+
 -- an engine was closed at a desk, or memory ran out
-pub closes_with : (ending : ServeEnding) (old last : EngineValue) (desk : ServeDeskValue) → IsCleared desk
-    → (HasClosed old last × ClosedEndsBy last ending) ⊎ ((ending ≡ Memory) × Keeps old last) → ClosesWith ending old last desk
-closes_with ending old last desk cleared by =
-    ⊎_elim (λ closed. inl (closed.0, closed.1, cleared)) (λ memory. inr (inr memory)) by
+pub closes_with : (ending : ServeEnding) (old last : EngineValue) (desk : ServeDeskValue) (input : InputOutcome) → IsCleared desk
+    → input ≡ unwrap_or desk.ended Broken
+    → (HasClosed old last × ClosedEndsBy last (Some input) ending) ⊎ ((ending ≡ Memory) × Keeps old last) → ClosesWith ending old last desk
+closes_with ending old last desk input cleared is by =
+    ⊎_elim (λ closed. inl (closed.0, ends_with desk.ended input last ending is closed.1, cleared)) (λ memory. inr (inr memory)) by
 
 -- a wish to move rows, and one to close
 pub move_grants : {A : Type 0} (asked : AskedMove) (old : EngineValue) (before : ServeDeskValue) (result : Result A ServeEnding)

@@ -16,8 +16,8 @@ use Rattle.sq_server.specs.declared.desk.Wish.TheVariants as wish
 use Rattle.sq_server.specs.Saying.{Answered, RowLines, lines_in, rows_told}
 use Rattle.sq_server.specs.Becoming.{ServeDeskValue, Speaks}
 use Rattle.sq_server.specs.Written.{Other, jobs_waiting, WritesEach}
-use Rattle.sq_server.proofs.Desks.{writes_nothing, wish_speaks}
-use Rattle.sq_server.proofs.Epochs.{none_written, writes_then, others_said, others_tell_none}
+use Rattle.sq_server.proofs.Desks.{keeps_learn, writes_nothing, wish_speaks}
+use Rattle.sq_server.proofs.Epochs.{none_written, writes_then, others_said, others_tell_none, others_answer_none}
 use Rattle.sq_service.specs.Rows.{TellsRows}
 use Rattle.sq_service.specs.Events.{ServeEvent, Flushed, EpochServed, MoveEnded, Granted, ChangesEngine, WritesOf, Happens, HappenEach, added, all_added}
 
@@ -26,9 +26,11 @@ pub speaks_write : (a b : ServeDeskValue) → Speaks a b → WritesEach [] a b
 speaks_write a b says =
     record {
       goes_on = says.goes_on;
+      writes_on = says.writes_on;
       said = map Other says.others;
       written = λ still.
           subst (Appends a.written b.written) (sym (others_said says.others)) (says.written still);
+      answers = others_answer_none says.others;
       told = λ part. others_tell_none part says.others;
       more = [];
       heard = says.heard ∙ sym (append-nil a.heard);
@@ -36,6 +38,8 @@ speaks_write a b says =
       jobs = λ still part within.
           append-nil (jobs_waiting a.waiting part)
           ∙ ap (λ (w : List (List AskedTxn)). jobs_waiting w part) (sym says.waiting);
+      strict = λ still. says.strict;
+      ended = λ still. keeps_learn a.is_strict a.ended b.ended says.ended;
     }
 
 -- rows
@@ -48,8 +52,10 @@ rows_write engine a b tells =
     ∙ ap (λ (l : List ℕ). flat_map root_lines tells.is.sorted ++ l) (sym (append-nil count)) in
     record {
       goes_on = says.goes_on;
+      writes_on = says.writes_on;
       said = Other (RowLines tells.is.sorted) ∷ Other (Answered (Rows (lines_in tells.lines))) ∷ [];
       written = λ still. subst (Appends a.written b.written) whole (says.written still);
+      answers = refl;
       told = λ part. refl;
       more = [];
       heard = says.heard ∙ sym (append-nil a.heard);
@@ -57,6 +63,8 @@ rows_write engine a b tells =
       jobs = λ still part within.
           append-nil (jobs_waiting a.waiting part)
           ∙ ap (λ (w : List (List AskedTxn)). jobs_waiting w part) (sym says.waiting);
+      strict = λ still. says.strict;
+      ended = λ still. keeps_learn a.is_strict a.ended b.ended says.ended;
     }
 
 same_writes : (a b : ServeDeskValue) → b ≡ a → WritesEach [] a b
@@ -66,13 +74,17 @@ same_writes a b same = subst (WritesEach [] a) (sym same) (none_written a)
 pub move_writes : (plan : PlanValue) (a b : ServeDeskValue) → WritesEach [] a b → WritesEach (MovesTo plan ∷ []) a b
 move_writes plan a b writes = record {
   goes_on = writes.goes_on;
+  writes_on = writes.writes_on;
   said = writes.said;
   written = writes.written;
+  answers = writes.answers;
   told = writes.told;
   more = writes.more;
   heard = writes.heard;
   count = writes.count;
   jobs = writes.jobs;
+  strict = writes.strict;
+  ended = writes.ended;
 }
 
 -- what is written of a wish

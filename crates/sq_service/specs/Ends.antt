@@ -1,5 +1,5 @@
 -- How an engine that is served ends.
-use Rattle.std.specs.Prelude.{◌≡◌, ◌⊎◌, ◌^◌, ◌<◌, ◌==◌, ℕ, true, false, Bool, not, List, length, sum_by, count_by, Some}
+use Rattle.std.specs.Prelude.{◌≡◌, ◌⊎◌, ◌^◌, ◌<◌, ◌==◌, ℕ, true, false, Bool, not, List, length, sum_by, count_by, Option, Some, unwrap_or}
 use Rattle.sq_schema.specs.Family.{rows_of}
 use Rattle.sq_audit.specs.declared.verdict.Verdict.TheVariants as verdict
 use Rattle.sq_audit.specs.declared.verdict.Defect.TheVariants.{ReceiptUnknown}
@@ -12,6 +12,8 @@ use Rattle.sq_engine.specs.Engine.{Keeps, HasBegunMove, HasClosed, rows_in, verd
 use Rattle.sq_engine.specs.Ending.{logged_in}
 use Rattle.sq_server.specs.declared.desk.AskedMove.{AskedMove}
 use Rattle.sq_server.specs.declared.desk.Wish.TheVariants as wish
+use Rattle.sq_server.specs.declared.ending.InputOutcome.{InputOutcome}
+use Rattle.sq_server.specs.declared.ending.InputOutcome.TheVariants.{Broken}
 use Rattle.sq_server.specs.declared.ending.ServeEnding.{ServeEnding}
 use Rattle.sq_server.specs.declared.ending.ServeEnding.TheVariants.{Sound, Unsound, NoHeader, Memory, Threads, Unwritten}
 use Rattle.sq_server.specs.Becoming.{ServeDeskValue, Speaks, TakesWish}
@@ -42,15 +44,15 @@ abbrev pub HasTotals : EngineValue → ℕ → ℕ → Type 0
 HasTotals engine families committed =
     (stores : List StoreValue) × (rows_in engine ≡ Some stores) × AreTotals stores families committed
 
--- the ending of a closed engine, by the verdict on it
-abbrev pub ClosedEndsBy : EngineValue → ServeEnding → Type 0
-ClosedEndsBy closed (Sound families committed input) =
-    (verdict_on closed.jobs ≡ verdict.Sound) × HasTotals closed families committed
-ClosedEndsBy closed (Unsound defect) = verdict_on closed.jobs ≡ verdict.Unsound defect
-ClosedEndsBy closed (NoHeader fault) = ⊥
-ClosedEndsBy closed Memory = ⊥
-ClosedEndsBy closed Threads = ⊥
-ClosedEndsBy closed Unwritten = ⊥
+-- the ending of a closed engine, by the verdict on it, and by how its input ended
+abbrev pub ClosedEndsBy : EngineValue → Option InputOutcome → ServeEnding → Type 0
+ClosedEndsBy closed ended (Sound families committed input) =
+    (verdict_on closed.jobs ≡ verdict.Sound) × HasTotals closed families committed × (input ≡ unwrap_or ended Broken)
+ClosedEndsBy closed ended (Unsound defect) = verdict_on closed.jobs ≡ verdict.Unsound defect
+ClosedEndsBy closed ended (NoHeader fault) = ⊥
+ClosedEndsBy closed ended Memory = ⊥
+ClosedEndsBy closed ended Threads = ⊥
+ClosedEndsBy closed ended Unwritten = ⊥
 
 -- a desk hasn't stopped, so all that it had to write is written; and no job waits
 pub record IsCleared (desk : ServeDeskValue) : Type 0 where
@@ -62,7 +64,7 @@ pub record EndsClosed (ending : ServeEnding) (old : EngineValue) (before : Serve
   pub takes : TakesWish (Some wish.Close) before after
   pub cleared : IsCleared after
   pub closed : HasClosed old last
-  pub ends : ClosedEndsBy last ending
+  pub ends : ClosedEndsBy last after.ended ending
 
 -- an epoch ended an engine: a thread, memory or a receipt was missing, or a receipt was no open job's
 pub record EndsInEpoch (ending : ServeEnding) (old : EngineValue) (before : ServeDeskValue) (last : EngineValue) (after : ServeDeskValue) : Type 0 where
@@ -100,6 +102,6 @@ pub record HasEndedServing (saves : List ℕ → List ℕ → Bool → Type 0) (
 -- how a desk without jobs that wait ends an engine: it closes it, has stopped, or memory ran out
 abbrev pub ClosesWith : ServeEnding → EngineValue → EngineValue → ServeDeskValue → Type 0
 ClosesWith ending old last desk =
-    (HasClosed old last × ClosedEndsBy last ending × IsCleared desk)
+    (HasClosed old last × ClosedEndsBy last desk.ended ending × IsCleared desk)
     ⊎ (EndsStopped ending × (last ≡ old) × (desk.has_stopped ≡ true))
     ⊎ ((ending ≡ Memory) × Keeps old last)

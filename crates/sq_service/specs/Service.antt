@@ -1,22 +1,22 @@
 -- An engine that is served from its opening to its end.
-use Rattle.std.specs.Prelude.{◌≡◌, ◌⊎◌, false, ℕ, Bool, List, [], ◌++◌, replicate, Option}
+use Rattle.std.specs.Prelude.{◌≡◌, ◌⊎◌, false, ℕ, ◌^◌, ◌<◌, Bool, List, [], ◌++◌, replicate, Option, None, Some}
 use Rattle.std.specs.List.{flat_map}
 use Rattle.std.specs.Io.KnownBytes.{Appends}
+use Rattle.sq_plan.specs.PlanValue.{PlanValue}
 use Rattle.sq_ranges.specs.OpeningValue.{OpeningValue, unlimited}
 use Rattle.sq_engine.specs.Values.{EngineValue}
 use Rattle.sq_engine.specs.Engine.{HasOpened}
-use Rattle.sq_live.specs.declared.outcome.LiveOutcome.TheVariants as outcome
-use Rattle.sq_live.specs.Outcome.{outcome_line}
+use Rattle.sq_engine.specs.Ending.{commits_in}
 use Rattle.sq_server.specs.declared.ending.ServeEnding.{ServeEnding}
 use Rattle.sq_server.specs.declared.ending.ServeEnding.TheVariants.{Sound, Unsound, NoHeader, Memory, Threads, Unwritten}
-use Rattle.sq_server.specs.declared.ending.InputOutcome.{InputOutcome}
 use Rattle.sq_server.specs.declared.feed.Fed.{Fed}
 use Rattle.sq_server.specs.declared.outlet.Outlet.{Outlet}
 use Rattle.sq_server.specs.Becoming.{ServeDeskValue, new_desk}
-use Rattle.sq_server.specs.Written.{WritesEach, said_line}
+use Rattle.sq_server.specs.InputEnds.{KnowsEnd}
+use Rattle.sq_server.specs.Written.{SaidLine, receipts_said, said_line}
 use Rattle.sq_service.specs.Ends.{HasEndedServing}
 use Rattle.sq_service.specs.Planned.{IsServedFrom, EndsServingSoundly}
-use Rattle.sq_service.specs.Telling.{TellsEnding}
+use Rattle.sq_service.specs.Telling.{IsLineOfEnding, TellsEnding}
 
 -- an engine was served until it ended with `ending`, is `last` then, and the outlet holds what its
 -- desk wrote by then
@@ -25,13 +25,13 @@ pub record HasEndedWithOutlet {W : Type 0} (saves : List ℕ → List ℕ → Bo
   pub after : ServeDeskValue
   pub ended : HasEndedServing saves engine before ending last after
   pub written : contents outlet.writer ≡ after.written
-  pub stopped : after.has_stopped ≡ false → outlet.has_failed ≡ false
+  pub failed : outlet.has_failed ≡ after.has_failed
 
--- a desk for `parts` partitions, to which `heard` is handed on, and which has written what an
--- outlet holds
-abbrev pub first_desk : {W : Type 0} → (W → Option (List ℕ)) → Outlet W → List Fed → ℕ → ServeDeskValue
-first_desk contents outlet heard parts =
-    new_desk contents outlet heard (replicate parts [])
+-- a desk for the partitions of a plan that is in force, to which nothing was handed on yet, and
+-- which has written what an outlet holds
+abbrev pub first_desk : {W : Type 0} → Bool → (W → Option (List ℕ)) → Outlet W → PlanValue → ServeDeskValue
+first_desk strict contents outlet plan =
+    new_desk contents outlet [] (replicate plan.parts []) plan strict
 
 -- if the engine ends sound, it has answered all and ends as planned, with these totals
 abbrev pub SoundAsPlanned : OpeningValue → ServeEnding → EngineValue → Type 0
@@ -69,45 +69,82 @@ ServesNone (Unsound defect) = ⊥
 ServesNone Unwritten = ⊥
 
 -- an engine with some opening was served, or none was
-abbrev pub ServesSome : {W : Type 0} → (List ℕ → List ℕ → Bool → Type 0) → (W → Option (List ℕ)) → Outlet W → ServeEnding → Outlet W → Type 0
-ServesSome saves contents outlet ending new =
-    ((o : OpeningValue) × (heard : List Fed) × EngineServes saves contents o (first_desk contents outlet heard o.new.parts) ending new)
+abbrev pub ServesSome : {W : Type 0} → Bool → (List ℕ → List ℕ → Bool → Type 0) → (W → Option (List ℕ)) → Outlet W → ServeEnding → Outlet W → Type 0
+ServesSome strict saves contents outlet ending new =
+    ((o : OpeningValue) × EngineServes saves contents o (first_desk strict contents outlet o.new) ending new)
     ⊎ (ServesNone ending × (new ≡ outlet))
 
 -- what a writer holds grew by what an engine with some opening wrote, if one was served, and by the
 -- line of its ending
-pub record ServesWriter {W : Type 0} (saves : List ℕ → List ℕ → Bool → Type 0) (contents : W → Option (List ℕ)) (old new : W) (told : ServeEnding) : Type 0 where
+pub record ServesWriter {W : Type 0} (strict : Bool) (saves : List ℕ → List ℕ → Bool → Type 0) (contents : W → Option (List ℕ)) (old new : W) (told : ServeEnding) : Type 0 where
   pub first : Outlet W
   pub first_writer : first.writer ≡ old
   pub ending : ServeEnding
   pub last : Outlet W
-  pub served : ServesSome saves contents first ending last
+  pub served : ServesSome strict saves contents first ending last
   pub end : Outlet W
   pub tells : TellsEnding contents last ending end told
   pub end_writer : end.writer ≡ new
 
--- an engine was served from its opening on, and ended sound with these totals, closed where
--- planned: no answer is missing, and no job waits; what a writer holds grew by the line of each
--- answer, once, those of each partition in their order, by other lines, and last by the line of
--- this ending
-pub record SoundService (saves : List ℕ → List ℕ → Bool → Type 0) (families committed : ℕ) (input : InputOutcome) (old new : Option (List ℕ)) : Type 0 where
+-- a desk as it begins: it has written nothing but `old`, nothing was handed on to it, no job waits,
+-- no move is under way, and the plan of the opening is in force
+pub record Begins (strict : Bool) (o : OpeningValue) (old : Option (List ℕ)) (desk : ServeDeskValue) : Type 0 where
+  pub written : desk.written ≡ old
+  pub none_heard : desk.heard ≡ []
+  pub none_waits : desk.waiting ≡ replicate o.new.parts []
+  pub none_wished : desk.wishes ≡ []
+  pub rests : desk.moving ≡ None
+  pub standing : desk.standing ≡ record { plan = o.new; answered = 0 }
+  pub strict_is : desk.is_strict ≡ strict
+  pub goes_on : desk.ended ≡ None
+
+-- the number of commits in the line of a sound ending is that of the lines `commit` before it, if
+-- 64 bits count them
+abbrev pub CountsCommits : ServeEnding → List SaidLine → Type 0
+CountsCommits (Sound families committed input) said =
+    commits_in (receipts_said said) < 2 ^ 64 → committed ≡ commits_in (receipts_said said)
+CountsCommits (Unsound defect) said = Unit {0}
+CountsCommits (NoHeader fault) said = Unit {0}
+CountsCommits Memory said = Unit {0}
+CountsCommits Threads said = Unit {0}
+CountsCommits Unwritten said = Unit {0}
+
+-- the input was taken as far as a sound ending reports: to its end, which was handed on; up to a
+-- line that broke it; or, if it is strict, up to a refused line
+abbrev pub TookInput : Bool → List Fed → ServeEnding → Type 0
+TookInput strict heard (Sound families committed input) = KnowsEnd strict heard (Some input)
+TookInput strict heard (Unsound defect) = Unit {0}
+TookInput strict heard (NoHeader fault) = Unit {0}
+TookInput strict heard Memory = Unit {0}
+TookInput strict heard Threads = Unit {0}
+TookInput strict heard Unwritten = Unit {0}
+
+-- an engine was served from its opening to its ending, and what a writer holds grew by the line of
+-- each answer, once, in the order in which they came, by other lines, and last by the line of the
+-- ending
+pub record Service (strict : Bool) (saves : List ℕ → List ℕ → Bool → Type 0) (ending : ServeEnding) (old new : Option (List ℕ)) : Type 0 where
   pub opening : OpeningValue
   pub engine : EngineValue
   pub opened : HasOpened opening engine
   pub before : ServeDeskValue
-  pub none_waited : before.waiting ≡ replicate opening.new.parts []
+  pub begins : Begins strict opening old before
   pub last : EngineValue
   pub after : ServeDeskValue
-  pub ended : HasEndedServing saves engine before (Sound families committed input) last after
-  pub ends : EndsServingSoundly opening families committed last
-  pub writes : WritesEach last.jobs.events before after
-  pub written : Appends old new (flat_map said_line writes.said ++ outcome_line (outcome.Sound families committed))
+  pub ended : HasEndedServing saves engine before ending last after
+  pub served : IsServedFrom opening before last after
+  pub sound : SoundAsPlanned opening ending last
+  pub counts : CountsCommits ending served.writes.said
+  pub took : TookInput strict after.heard ending
+  pub text : List ℕ
+  pub is : IsLineOfEnding ending text
+  pub written : Appends old new (flat_map said_line served.writes.said ++ text)
 
--- a sound ending means a sound service
-abbrev pub ServesSoundly : (List ℕ → List ℕ → Bool → Type 0) → Option (List ℕ) → Option (List ℕ) → ServeEnding → Type 0
-ServesSoundly saves old new (Sound families committed input) = SoundService saves families committed input old new
-ServesSoundly saves old new (Unsound defect) = Unit {0}
-ServesSoundly saves old new (NoHeader fault) = Unit {0}
-ServesSoundly saves old new Memory = Unit {0}
-ServesSoundly saves old new Threads = Unit {0}
-ServesSoundly saves old new Unwritten = Unit {0}
+-- nothing was served, and just the line of the ending was written
+abbrev pub OnlyEnds : ServeEnding → Option (List ℕ) → Option (List ℕ) → Type 0
+OnlyEnds ending old new = ServesNone ending × (text : List ℕ) × IsLineOfEnding ending text × Appends old new text
+
+-- an engine was served or not, until it ended as is told; if a write failed, its own ending isn't
+-- told
+abbrev pub Serves : Bool → (List ℕ → List ℕ → Bool → Type 0) → Option (List ℕ) → Option (List ℕ) → ServeEnding → Type 0
+Serves strict saves old new Unwritten = Unit {0}
+Serves strict saves old new ending = Service strict saves ending old new ⊎ OnlyEnds ending old new

@@ -17,13 +17,14 @@ use Rattle.sq_server.specs.declared.desk.MoveProgress.{MoveProgress}
 use Rattle.sq_server.specs.declared.desk.Wish.{Wish}
 use Rattle.sq_server.specs.declared.desk.Wish.TheVariants as wish
 use Rattle.sq_server.specs.declared.ending.ServeEnding.{ServeEnding}
-use Rattle.sq_server.specs.Becoming.{ServeDeskValue, TakesWish}
+use Rattle.sq_server.specs.Becoming.{ServeDeskValue, WritesBytes, TakesWish}
 use Rattle.sq_service.specs.Rows.{AnswersRows}
 
 -- just this text was written, and the same wishes are kept
 pub record WritesText (text : List ℕ) (old new : ServeDeskValue) : Type 0 where
   pub goes_on : new.has_stopped ≡ false → old.has_stopped ≡ false
-  pub written : new.has_stopped ≡ false → Appends old.written new.written text
+  pub writes_on : new.has_failed ≡ false → old.has_failed ≡ false
+  pub written : new.has_failed ≡ false → Appends old.written new.written text
   pub wishes : new.wishes ≡ old.wishes
 
 -- a desk has a move with this number of segments recorded
@@ -34,12 +35,16 @@ IsUnderWay segments desk = (progress : MoveProgress) × (desk.moving ≡ Some pr
 abbrev pub segments_in : EngineValue → ℕ
 segments_in engine = length engine.opening.recon.segments
 
--- a move that is over is answered by the one line that it is done; or no move is over, and nothing
--- was written
+-- the plan that rows went to is in force
+abbrev pub TakesEffect : EngineValue → ServeDeskValue → ServeDeskValue → Type 0
+TakesEffect engine before after = after.standing ≡ record before.standing { plan = engine.opening.new }
+
+-- a move that is over is answered by the one line that it is done, and its plan is in force; or no
+-- move is over, and nothing was written
 abbrev pub EndsMove : EngineValue → ServeDeskValue → ServeDeskValue → Type 0
 EndsMove engine before after =
     ((segments : ℕ) × IsUnderWay segments before × (rests engine ≡ true) × (after.moving ≡ None)
-    × WritesText (serve_answer_line (Moved segments)) before after)
+    × TakesEffect engine before after × WritesText (serve_answer_line (Moved segments)) before after)
     ⊎ (((segments : ℕ) → IsUnderWay segments before → rests engine ≡ false) × (after ≡ before))
 
 -- the line that the move of an engine begins was written, and after it, if nothing moves, the line
@@ -47,13 +52,14 @@ EndsMove engine before after =
 abbrev pub TellsMove : EngineValue → ServeDeskValue → ServeDeskValue → Type 0
 TellsMove engine before after =
     let segments = segments_in engine in
-    ((rests engine ≡ true) × (after.moving ≡ None)
+    ((rests engine ≡ true) × (after.moving ≡ None) × TakesEffect engine before after
     × WritesText (serve_answer_line (Moving segments) ++ serve_answer_line (Moved segments)) before after)
-    ⊎ ((rests engine ≡ false) × IsUnderWay segments after × WritesText (serve_answer_line (Moving segments)) before after)
+    ⊎ ((rests engine ≡ false) × IsUnderWay segments after × (after.standing ≡ before.standing)
+    × WritesText (serve_answer_line (Moving segments)) before after)
 
 -- a move is refused for just one reason, a fault of its plan, and one line reports that
 abbrev pub RefusesMove : NotMoved → ServeDeskValue → ServeDeskValue → Type 0
-RefusesMove (moved.Plans fault) before after = WritesText (refused_line (recon_fault_number fault)) before after
+RefusesMove (moved.Plans fault) before after = WritesBytes (refused_line (recon_fault_number fault)) before after
 RefusesMove moved.Moving before after = ⊥
 RefusesMove moved.Memory before after = ⊥
 
@@ -63,7 +69,7 @@ abbrev pub AnswersMove : PlanValue → EngineValue → ServeDeskValue → Engine
 AnswersMove plan old before new after =
     ((new.opening ≡ onward_opening old.opening plan) × TellsMove new before after)
     ⊎ ((fault : ReconFault) × (recon_fault old.opening.new plan old.opening.config.width ≡ Some fault)
-    × WritesText (refused_line (recon_fault_number fault)) before after)
+    × WritesBytes (refused_line (recon_fault_number fault)) before after)
 
 -- a wish is answered: by one line, or by rows
 abbrev pub AnswersWish : (List ℕ → List ℕ → Bool → Type 0) → Wish → EngineValue → ServeDeskValue → EngineValue → ServeDeskValue → Type 0

@@ -1,8 +1,9 @@
 // What the lines after a header ask.
-ghost use Rattle.std.specs.Prelude.{Ok};
+ghost use Rattle.std.specs.Prelude.{◌≡◌, ℕ, Ok};
 ghost use Rattle.sq_schema.specs.declared.schema.TheConstants.{MAX_TABLES};
 ghost use Rattle.sq_serve.specs.ServeLines.{serve_line_of, IsServeLine};
-ghost use Rattle.sq_service.specs.Reading.{IsAskedBy};
+ghost use Rattle.sq_service.specs.Reading.{IsAskedBy, IsFedOf};
+ghost use Rattle.sq_server.specs.declared.feed.InputEnd.TheVariants.{Broken};
 
 use sq_lines::Next;
 use sq_schema::Schema;
@@ -12,7 +13,9 @@ use sq_text::InputFault;
 use std::alloc::{AllocError, Global};
 
 /// What is handed on for the next piece of an input; `place` is where its line is.
-pub(crate) fn fed_of(alloc: Global, next: Next, place: LinePlace, piece: &[u8]) -> Fed {
+pub(crate) fn fed_of(alloc: Global, next: Next, place: LinePlace, piece: &[u8]) -> Fed
+    ensures { IsFedOf next piece.now result }
+{
     match next {
         Next::Line | Next::Rest => Fed::Line {
             place,
@@ -55,7 +58,9 @@ fn shared(asks: ServeLine) -> Result<ServeLine, ServeFault>
 }
 
 // The end of an input after the fault of a line, after which nothing is read.
-fn broken(fault: InputFault, place: LinePlace) -> InputEnd {
+fn broken(fault: InputFault, place: LinePlace) -> InputEnd
+    ensures { (number : ℕ) × (result ≡ Broken number place) }
+{
     InputEnd::Broken {
         fault: fault.number(),
         place,

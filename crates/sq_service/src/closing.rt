@@ -1,5 +1,5 @@
 // How an engine that is served is closed.
-ghost use Rattle.std.specs.Prelude.{◌≡◌, ◌⊎◌, ◌^◌, ◌<◌, length, sum_by, OnOk, IfErr, IsSome};
+ghost use Rattle.std.specs.Prelude.{◌≡◌, ◌⊎◌, ◌^◌, ◌<◌, length, sum_by, OnOk, IfErr, Some, IsSome};
 ghost use Rattle.sq_engine.specs.Engine.{Keeps, HasClosed, rows_in, verdict_on};
 ghost use Rattle.sq_server.specs.declared.ending.ServeEnding.TheVariants.{Memory};
 ghost use Rattle.sq_server.specs.Becoming.{desk_value};
@@ -53,7 +53,7 @@ fn close_unless_stopped<T: Wait, W: Write + Drop>(
 
 // Closes an engine whose input ended with `input`, and returns how it ends.
 fn close<T: Wait>(rt: &T, alloc: Global, engine: &mut Engine, input: InputOutcome) -> ServeEnding
-    ensures { (HasClosed engine.old engine.new × ClosedEndsBy engine.new result)
+    ensures { (HasClosed engine.old engine.new × ClosedEndsBy engine.new (Some input) result)
         ⊎ ((result ≡ Memory) × Keeps engine.old engine.new) }
 {
     match engine.close(rt, alloc) {
@@ -66,7 +66,7 @@ fn close<T: Wait>(rt: &T, alloc: Global, engine: &mut Engine, input: InputOutcom
 fn judge_closed(engine: &Engine, verdict: Verdict, input: InputOutcome) -> ServeEnding
     requires verdict { verdict ≡ verdict_on engine.now.jobs }
     requires rows { IsSome (rows_in engine.now) }
-    ensures { ClosedEndsBy engine.now result }
+    ensures { ClosedEndsBy engine.now (Some input) result }
 {
     match verdict {
         Verdict::Sound => {

@@ -1,4 +1,8 @@
 // What the reader of an engine's input hands on, and over which rings.
+ghost use Rattle.std.specs.Prelude.{◌≡◌, [], ◌∷◌, ◌++◌};
+ghost use Rattle.std.specs.Bool.{OnTrue};
+ghost use Rattle.rtrb.specs.Ring.{sent};
+
 use rtrb::Producer;
 use sq_ranges::Opening;
 use sq_serve::{FaultyHeader, HeaderFault, HeaderLine, LinePlace, LinePlaces};
@@ -54,7 +58,9 @@ impl<P: LinePlaces + Drop> Feeds<P> {
     }
 
     /// Hands on what a line asks, or how the input ends. Returns whether anybody takes it.
-    pub(crate) fn hand_on<R: Wait>(&mut self, rt: &R, fed: Fed) -> bool {
+    pub(crate) fn hand_on<R: Wait>(&mut self, rt: &R, fed: Fed) -> bool
+        ensures { OnTrue result (sent self.new.lines ≡ sent self.old.lines ++ fed ∷ []) }
+    {
         give(rt, &mut self.lines, &self.bell, fed)
     }
 

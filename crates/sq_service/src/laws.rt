@@ -1,6 +1,6 @@
 //! Laws about engines that were served. The functions do nothing: each states a law, which the
 //! checker proves.
-ghost use Rattle.std.specs.Prelude.{◌≡◌, ◌++◌, List};
+ghost use Rattle.std.specs.Prelude.{◌≡◌, ◌++◌, Bool, List};
 ghost use Rattle.sq_ranges.specs.Prelude.{OpeningValue};
 ghost use Rattle.sq_engine.specs.Values.{EngineValue};
 ghost use Rattle.sq_server.specs.declared.ending.ServeEnding.{ServeEnding};
@@ -8,7 +8,7 @@ ghost use Rattle.sq_server.specs.Becoming.{ServeDeskValue};
 ghost use Rattle.sq_server.specs.Written.{WritesEach};
 ghost use Rattle.sq_service.specs.Events.{ServeEvent, HappenEach, all_added};
 ghost use Rattle.sq_service.specs.Planned.{IsServedAndClosed, EndsServingAsPlanned};
-ghost use Rattle.sq_service.specs.Service.{ServesWriter, ServesSoundly};
+ghost use Rattle.sq_service.specs.Service.{ServesWriter, Serves};
 
 use sq_serve::ServeWatch;
 use std::io::Write;
@@ -31,10 +31,11 @@ pub fn a_service_writes_each_answer<V: ServeWatch>()
         → WritesEach (all_added events) before after }
 {}
 
-/// If an engine that was served ends sound, then it was closed where planned, each answer of each
-/// epoch was given and is written, no job waits, and the line of its ending is the last.
+/// Whatever the ending that is told of an engine, each answer that it gave is written, once, unless
+/// its desk stopped, and the line of the ending is the last. If it is sound, the engine was closed
+/// where planned, no job is open or waits, and the line counts the commits that were written.
 pub fn a_sound_service_writes_all<W: Write, V: ServeWatch>()
-    ensures { (watch : V) (old new : W) (ending : ServeEnding)
-        → ServesWriter (V.Saves watch) W.contents old new ending
-        → ServesSoundly (V.Saves watch) (W.contents old) (W.contents new) ending }
+    ensures { (watch : V) (strict : Bool) (old new : W) (ending : ServeEnding)
+        → ServesWriter strict (V.Saves watch) W.contents old new ending
+        → Serves strict (V.Saves watch) (W.contents old) (W.contents new) ending }
 {}

@@ -5,12 +5,13 @@ ghost use Rattle.sq_serve.specs.ServeAnswers.{serve_answer_line};
 ghost use Rattle.sq_server.specs.Becoming.{desk_value, Speaks};
 ghost use Rattle.sq_server.specs.declared.ending.ServeEnding.TheVariants.{Memory};
 ghost use Rattle.sq_service.specs.Steps.{MovesOrLacksMemory};
-ghost use Rattle.sq_service.specs.Wishes.{WritesText, EndsMove, TellsMove, RefusesMove, AnswersMove};
+ghost use Rattle.sq_service.specs.Wishes.{WritesText, TakesEffect, EndsMove};
+ghost use Rattle.sq_service.specs.Wishes.{TellsMove, RefusesMove, AnswersMove};
 
 use crate::telling::{tell_moved, tell_moving, unread_refusal};
 use sq_engine::{Engine, NotMoved};
 use sq_serve::{LinePlace, RefusedMove, ServeMark, ServeWatch};
-use sq_server::{AskedMove, MoveProgress, ServeDesk, ServeEnding};
+use sq_server::{AskedMove, MoveProgress, PlanText, ServeDesk, ServeEnding};
 use std::alloc::{AllocError, Global};
 use std::io::Write;
 use std::sync::Wait;
@@ -155,9 +156,11 @@ fn end_move<W: Write + Drop>(
     ensures line { IfOk result (λ done. WritesText (serve_answer_line (Moved segments))
         (desk_value W.contents desk.old) (desk_value W.contents desk.new)) }
     ensures moving { IfOk result (λ done. desk.new.moving ≡ None) }
+    ensures plan { IfOk result (λ done. TakesEffect engine.now (desk_value W.contents desk.old)
+        (desk_value W.contents desk.new)) }
     ensures memory { IfErr result (λ ending. ending ≡ Memory) }
 {
-    match engine.opening().new_plan().write() {
+    match PlanText::of(engine.opening().new_plan()) {
         Ok(plan) => {
             tell_moved(desk, plan, segments);
             Ok(())

@@ -1,5 +1,5 @@
 // An engine behind a pipe.
-ghost use Rattle.std.specs.Prelude.{◌≡◌, ◌≤◌, IfOk, IfErr};
+ghost use Rattle.std.specs.Prelude.{◌≡◌, ◌≤◌, [], IfOk, IfErr};
 ghost use Rattle.rtrb.specs.Ring.{received};
 ghost use Rattle.sq_pull.specs.declared.numbers.TheConstants.{MAX_PUMPS};
 ghost use Rattle.sq_server.specs.Becoming.{desk_value};
@@ -16,7 +16,8 @@ use sq_plan::Plan;
 use sq_ranges::Opening;
 use sq_serve::{LinePlaces, ServeWatch};
 use sq_server::{
-    Bell, DeskConfig, FEED_ROOM, Fed, Outlet, ServeDesk, ServeEnding, SideQueues, wait_for,
+    Bell, DeskConfig, FEED_ROOM, Fed, Outlet, PlanText, ServeDesk, ServeEnding, SideQueues,
+    wait_for,
 };
 use std::alloc::{AllocError, Global};
 use std::io::{Read, Write};
@@ -65,7 +66,8 @@ where
     W: Write + Drop,
     V: ServeWatch,
     requires { config.pumps ≤ MAX_PUMPS }
-    ensures { ServesWriter (V.Saves watch.now) W.contents writer result.0 result.1 }
+    ensures { ServesWriter config.is_strict (V.Saves watch.now) W.contents
+        writer result.0 result.1 }
 {
     let outlet = Outlet::new(writer);
     let (outlet, ending) = read_and_answer(rt, alloc, input, places, outlet, config, watch);
@@ -90,7 +92,8 @@ where
     W: Write + Drop,
     V: ServeWatch,
     requires { config.pumps ≤ MAX_PUMPS }
-    ensures { ServesSome (V.Saves watch.now) W.contents outlet result.1 result.0 }
+    ensures { ServesSome config.is_strict (V.Saves watch.now) W.contents
+        outlet result.1 result.0 }
 {
     match start_reader(rt, alloc, input, places) {
         Ok(handed) => await_header(rt, alloc, handed, outlet, config, watch),
@@ -105,7 +108,8 @@ where
     T: Threads + Wait + Sync + Copy + Send + 'static,
     I: Read + Send + Drop + 'static,
     P: LinePlaces + Send + Drop + 'static,
-    ensures { IfErr result EndsForWant }
+    ensures unheard { IfOk result (λ handed. received handed.lines.feed ≡ []) }
+    ensures want { IfErr result EndsForWant }
 {
     let Ok((feeds, handed)) = open_rings(alloc, places) else {
         return Err(ServeEnding::Memory);
@@ -124,7 +128,9 @@ where
 fn open_rings<P: LinePlaces + Drop>(
     alloc: Global,
     places: P,
-) -> Result<(Feeds<P>, Handed), AllocError> {
+) -> Result<(Feeds<P>, Handed), AllocError>
+    ensures { IfOk result (λ rings. received rings.1.lines.feed ≡ []) }
+{
     let (header_end, header) = RingBuffer::new(alloc, 1)?;
     let (lines_end, feed) = RingBuffer::new(alloc, FEED_ROOM)?;
     let bell = Arc::new(alloc, Bell::new())?;
@@ -147,8 +153,10 @@ fn await_header<T: Threads + Wait + Sync, W: Write + Drop, V: ServeWatch>(
     config: ServeConfig,
     watch: &V,
 ) -> (Outlet<W>, ServeEnding)
-    requires { config.pumps ≤ MAX_PUMPS }
-    ensures { ServesSome (V.Saves watch.now) W.contents outlet result.1 result.0 }
+    requires unheard { received handed.lines.feed ≡ [] }
+    requires pumps { config.pumps ≤ MAX_PUMPS }
+    ensures { ServesSome config.is_strict (V.Saves watch.now) W.contents
+        outlet result.1 result.0 }
 {
     let Handed { mut header, lines } = handed;
     let read = wait_for(rt, &mut header);
@@ -172,8 +180,10 @@ fn open_or_refuse<T: Threads + Wait + Sync, W: Write + Drop, V: ServeWatch>(
     config: ServeConfig,
     watch: &V,
 ) -> (Outlet<W>, ServeEnding)
-    requires { config.pumps ≤ MAX_PUMPS }
-    ensures { ServesSome (V.Saves watch.now) W.contents outlet result.1 result.0 }
+    requires unheard { received lines.feed ≡ [] }
+    requires pumps { config.pumps ≤ MAX_PUMPS }
+    ensures { ServesSome config.is_strict (V.Saves watch.now) W.contents
+        outlet result.1 result.0 }
 {
     match header {
         Ok(opening) => open_desk(rt, alloc, opening, lines, outlet, config, watch),
@@ -196,9 +206,10 @@ fn open_desk<T: Threads + Wait + Sync, W: Write + Drop, V: ServeWatch>(
     config: ServeConfig,
     watch: &V,
 ) -> (Outlet<W>, ServeEnding)
-    requires { config.pumps ≤ MAX_PUMPS }
+    requires unheard { received lines.feed ≡ [] }
+    requires pumps { config.pumps ≤ MAX_PUMPS }
     ensures { ServesOpening (V.Saves watch.now) W.contents opening
-        (first_desk W.contents outlet (received lines.feed) opening.new.parts)
+        (first_desk config.is_strict W.contents outlet opening.new)
         outlet result.1 result.0 }
 {
     match desk_for(alloc, opening.new_plan(), lines, outlet, config) {
@@ -215,12 +226,13 @@ fn desk_for<W: Write + Drop>(
     outlet: Outlet<W>,
     config: ServeConfig,
 ) -> Result<ServeDesk<W>, Outlet<W>>
+    requires { received lines.feed ≡ [] }
     ensures desk { IfOk result (λ desk. desk_value W.contents desk
-        ≡ first_desk W.contents outlet (received lines.feed) plan.now.parts) }
+        ≡ first_desk config.is_strict W.contents outlet plan.now) }
     ensures outlet { IfOk result (λ desk. desk.outlet ≡ outlet) }
     ensures returned { IfErr result (λ back. back ≡ outlet) }
 {
-    let Ok(text) = plan.write() else {
+    let Ok(text) = PlanText::of(plan) else {
         return Err(outlet);
     };
     let config = DeskConfig {

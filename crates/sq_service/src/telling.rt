@@ -9,7 +9,7 @@ ghost use Rattle.sq_service.specs.Wishes.{WritesText};
 use sq_live::LiveOutcome;
 use sq_schema::OUT_OF_MEMORY;
 use sq_serve::{HeaderFault, LinePlace, LineRefusal, ServeAnswer};
-use sq_server::{MoveProgress, Outlet, ServeDesk, ServeEnding};
+use sq_server::{MoveProgress, Outlet, PlanText, ServeDesk, ServeEnding};
 use std::io::Write;
 
 /// Writes that a move with this progress begins, and records it.
@@ -18,18 +18,22 @@ pub(crate) fn tell_moving<W: Write + Drop>(desk: &mut ServeDesk<W>, progress: Mo
     ensures line { WritesText (serve_answer_line (Moving progress.segments))
         (desk_value W.contents desk.old) (desk_value W.contents desk.new) }
     ensures moving { desk.new.moving ≡ Some progress }
+    ensures standing { (desk_value W.contents desk.new).standing
+        ≡ (desk_value W.contents desk.old).standing }
 {
     let segments = progress.segments;
     desk.say(ServeAnswer::Moving { segments });
     desk.moving = Some(progress);
 }
 
-/// Writes that a move of `segments` segments is done, and records its plan, whose text is `plan`.
-pub(crate) fn tell_moved<W: Write + Drop>(desk: &mut ServeDesk<W>, plan: String, segments: u64)
+/// Writes that a move of `segments` segments is done, and records its plan.
+pub(crate) fn tell_moved<W: Write + Drop>(desk: &mut ServeDesk<W>, plan: PlanText, segments: u64)
     ensures speaks { Speaks (desk_value W.contents desk.old) (desk_value W.contents desk.new) }
     ensures line { WritesText (serve_answer_line (Moved segments))
         (desk_value W.contents desk.old) (desk_value W.contents desk.new) }
     ensures moving { desk.new.moving ≡ None }
+    ensures plan { (desk_value W.contents desk.new).standing
+        ≡ record (desk_value W.contents desk.old).standing { plan = plan } }
 {
     desk.plan = plan;
     desk.moving = None;

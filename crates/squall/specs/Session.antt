@@ -23,7 +23,7 @@ use Rattle.sq_live.specs.declared.ending.LiveEnding.{LiveEnding}
 use Rattle.sq_live.specs.Live.{RunsLive, ending_status}
 use Rattle.sq_server.specs.declared.ending.ServeEnding.{ServeEnding}
 use Rattle.sq_server.specs.Ending.{serve_status}
-use Rattle.sq_service.specs.Service.{ServesSoundly}
+use Rattle.sq_service.specs.Service.{Serves}
 use Rattle.sq_explain.specs.Meanings.{Explains}
 use Rattle.sq_command.specs.declared.line.Plans.{Plans}
 use Rattle.sq_command.specs.declared.line.Form.{Form}
@@ -129,11 +129,12 @@ EndsOwners keys width before now status =
 abbrev pub SavesAny : List ℕ → List ℕ → Bool → Type 0
 SavesAny = λ name text saved. Unit {0}
 
--- the status is that of some ending of an engine, and if that ending is sound, so was the service;
--- or it is 2, if a file can't be read or written, or memory ran out
-abbrev pub EndsEngine : Option (List ℕ) → Option (List ℕ) → ℕ → Type 0
-EndsEngine before now status =
-    ((ending : ServeEnding) × ServesSoundly SavesAny before now ending × (status ≡ serve_status ending)) ⊎ (status ≡ 2)
+-- an engine was served or not, until an ending with this status, or 2 if a report can't be written;
+-- or nothing was written, and the status is 2, since a file can't be read or memory ran out
+abbrev pub EndsEngine : Bool → Option (List ℕ) → Option (List ℕ) → ℕ → Type 0
+EndsEngine strict before now status =
+    ((ending : ServeEnding) × Serves strict SavesAny before now ending × ((status ≡ serve_status ending) ⊎ (status ≡ 2)))
+    ⊎ ((now ≡ before) × (status ≡ 2))
 
 -- what a line asks for was done with the text that was read, or that of the files, unless a file
 -- can't be read, and ended with this status
@@ -141,7 +142,7 @@ abbrev pub EndsLine : Line → Option (List ℕ) → Option (List ℕ) → Optio
 EndsLine (Work task input) known before now status = EndsMain task input.plans input.file known before now status
 EndsLine (Owner keys plans width) known before now status = EndsOwners keys.items width before now status
 EndsLine (Demo demo folder) known before now status = (status ≡ 0) ⊎ (status ≡ 2)
-EndsLine (Serve pumps strict files file reports) known before now status = EndsEngine before now status
+EndsLine (Serve pumps strict files file reports) known before now status = EndsEngine strict before now status
 EndsLine (Explain number) known before now status = EndsAs (Explains number before now) explain_status status
 
 -- the words have no fault, and what their subcommand asks for ended with this status

@@ -96,7 +96,7 @@ where
     T::Reader: Send + 'static,
     W: Write + Drop,
     requires { config.pumps ≤ MAX_PUMPS }
-    ensures { EndsEngine (W.contents writer) (W.contents result.0) result.1 }
+    ensures { EndsEngine config.is_strict (W.contents writer) (W.contents result.0) result.1 }
 {
     let watch = match EngineWatch::new(rt, input) {
         Ok(watch) => watch,
@@ -141,7 +141,8 @@ where
     T::Reader: Send + 'static,
     W: Write + Drop,
     requires { serving.config.pumps ≤ MAX_PUMPS }
-    ensures { EndsEngine (W.contents writer) (W.contents result.0) result.1 }
+    ensures { EndsEngine serving.entry.config.is_strict
+        (W.contents writer) (W.contents result.0) result.1 }
 {
     let typed = PlansWatched::new(*rt, rt.reader(), None);
     let Some(name) = serving.input.file else {
@@ -205,7 +206,8 @@ where
     I: Read + Send + Drop + 'static,
     W: Write + Drop,
     requires { serving.config.pumps ≤ MAX_PUMPS }
-    ensures { EndsEngine (W.contents writer) (W.contents result.0) result.1 }
+    ensures { EndsEngine serving.entry.config.is_strict
+        (W.contents writer) (W.contents result.0) result.1 }
 {
     let Some(files) = serving.input.files else {
         let places = TextPlaces {
@@ -245,7 +247,8 @@ where
     I: Read + Send + Drop + 'static,
     W: Write + Drop,
     requires { serving.config.pumps ≤ MAX_PUMPS }
-    ensures { EndsEngine (W.contents writer) (W.contents result.0) result.1 }
+    ensures { EndsEngine serving.entry.config.is_strict
+        (W.contents writer) (W.contents result.0) result.1 }
 {
     let (writer, ending) = serve(rt, rt.alloc(), text, places, writer, serving.config, watch);
     explain_engine(rt, ending, serving, watch.take_faulty());

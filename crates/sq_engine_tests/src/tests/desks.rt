@@ -2,12 +2,14 @@
 use rtrb::{Producer, RingBuffer};
 use sq_audit::Job;
 use sq_engine::{Command, PostFault, StageProgress};
+use sq_plan::Plan;
 use sq_schema::{MAX_TABLES, Schema};
 use sq_serve::{
     FaultyLine, LinePlace, LineRefusal, LineSource, ServeMark, ServeWatch, read_serve_line,
 };
 use sq_server::{
-    Bell, DeskConfig, Fed, InputEnd, InputOutcome, MoveProgress, Outlet, ServeDesk, SideQueues,
+    Bell, DeskConfig, Fed, InputEnd, InputOutcome, MoveProgress, Outlet, PlanText, ServeDesk,
+    SideQueues,
 };
 use std::alloc::Global;
 use std::cell::Cell;
@@ -19,6 +21,9 @@ use std::test::Fail;
 const CALLS_TOO_FEW: u64 = 50_000;
 
 const CALLS_ENOUGH: u64 = 90_000;
+
+// A plan of two partitions.
+const PLAN: &[u8] = br#"{"version":1,"partitions":2,"ranges":[[0,4294967296,0]]}"#;
 
 // A line that asks for a job.
 const JOB: &str = "txn 1 41 7 get 0 0";
@@ -77,7 +82,8 @@ enum Act {
 
 fn desk_at(alloc: Global, is_strict: bool) -> Result<Served, Fail> {
     let bell = Arc::new(alloc, Bell::new())?;
-    let plan = String::from_str(alloc, "{}")?;
+    let plan = Plan::read(alloc, PLAN).ok().ok_or("it is a plan")?;
+    let plan = PlanText::of(&plan)?;
     let sides = SideQueues::new(alloc, 2)?;
     let (feed, lines) = RingBuffer::new(alloc, 8)?;
     let config = DeskConfig { is_strict };

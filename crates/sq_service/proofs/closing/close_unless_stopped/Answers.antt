@@ -8,5 +8,5 @@ returns-in-Some g c = inr (inl (c.in-Some.ensures.stopped, refl, c.in-Some.ensur
 
 pub returns-in-None : goal.returns-in-None
 returns-in-None g c =
-    closes_with c.close.result c.args.engine.now c.close.new.engine (desk_value g.W.Write.contents c.args.desk.now)
-    (record { still = c.in-None.ensures.goes_on; none_waits = c.requires }) c.close.ensures
+    closes_with c.close.result c.args.engine.now c.close.new.engine (desk_value g.W.Write.contents c.args.desk.now) c.unwrap_or-input.result
+    (record { still = c.in-None.ensures.goes_on; none_waits = c.requires }) c.unwrap_or-input.ensures c.close.ensures

@@ -8,7 +8,7 @@ pub returns-then-is_at_rest-clause-ends : goal.returns-then-is_at_rest-clause-en
 returns-then-is_at_rest-clause-ends g c =
     let dv = desk_value g.W.Write.contents in
     move_over c.end_move.result c.args.engine.now c.args.progress (dv c.args.desk.now) (dv c.end_move.new.desk) c.requires
-    (sym c.is_at_rest.ensures ∙ c.if-is_at_rest.true) c.end_move.ensures.line c.end_move.ensures.moving
+    (sym c.is_at_rest.ensures ∙ c.if-is_at_rest.true) c.end_move.ensures.line c.end_move.ensures.moving c.end_move.ensures.plan
 
 pub returns-else-is_at_rest-clause-speaks : goal.returns-else-is_at_rest-clause-speaks
 returns-else-is_at_rest-clause-speaks g c =

@@ -18,4 +18,4 @@ returns-clause-tells g c =
     let moves = c.recon.ensures.recon ∙ ap (λ (o : OpeningValue). o.recon) opens in
     let segments = c.segments.ensures.segments ∙ ap (λ (r : ReconValue). r.segments) moves in
     move_told_if c.note_rest.result c.args.engine.now _ (dv c.args.desk.now) (dv c.tell_moving.new.desk) (dv c.note_rest.new.desk)
-    (ap length segments) (_, c.tell_moving.ensures.moving, refl) c.tell_moving.ensures.line c.note_rest.ensures.ends
+    (ap length segments) (_, c.tell_moving.ensures.moving, refl) c.tell_moving.ensures.standing c.tell_moving.ensures.line c.note_rest.ensures.ends

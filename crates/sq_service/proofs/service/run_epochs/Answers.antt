@@ -1,6 +1,5 @@
-use Rattle.std.proofs.Common.{subst, ap, ◌∙◌}
+use Rattle.std.proofs.Common.{subst, ap}
 use Rattle.std.specs.Prelude.{Result}
-use Rattle.std.proofs.lemmas.Bool.{or_parts}
 use Rattle.sq_server.specs.declared.ending.ServeEnding.{ServeEnding}
 use Rattle.sq_server.specs.declared.outlet.Outlet.{Outlet}
 use Rattle.sq_server.specs.Becoming.{desk_value}
@@ -34,7 +33,5 @@ returns-in-Err g c =
           c.loop.invariant
           (subst (λ (r : Result _ ServeEnding). StepGives saves c.loop.engine (dv c.loop.desk) r step.new.engine (dv last)) c.in-Err.is step.ensures);
       written = ap (λ (o : Outlet _). g.W.Write.contents o.writer) c.into_outlet.ensures;
-      stopped = λ still.
-          ap (λ (o : Outlet _). o.has_failed) c.into_outlet.ensures
-          ∙ (or_parts last.lacks_memory last.outlet.has_failed still).1;
+      failed = ap (λ (o : Outlet _). o.has_failed) c.into_outlet.ensures;
     }

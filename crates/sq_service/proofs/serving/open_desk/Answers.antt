@@ -1,5 +1,4 @@
 use Rattle.std.proofs.Common.{subst}
-use Rattle.rtrb.specs.Ring.{received}
 use Rattle.sq_plan.specs.PlanValue.{PlanValue}
 use Rattle.sq_server.specs.declared.outlet.Outlet.{Outlet}
 use Rattle.sq_server.specs.Becoming.{ServeDeskValue, desk_value}
@@ -9,10 +8,11 @@ use Rattle.sq_service.proofs.serving.open_desk.Goals as goal
 pub returns-in-Ok : goal.returns-in-Ok
 returns-in-Ok g c =
     let contents = g.W.Write.contents in
+    let saves = g.V.ServeWatch.Saves c.args.watch.now in
     let desk = c.in-Ok.desk in
     let came = c.open_engine.result in
-    let first : PlanValue → ServeDeskValue = λ plan. first_desk contents c.args.outlet (received c.args.lines.feed) plan.parts in
-    subst (λ (plan : PlanValue). ServesOpening (g.V.ServeWatch.Saves c.args.watch.now) contents c.args.opening (first plan) c.args.outlet came.1 came.0) c.new_plan.ensures.plan
-    (subst (λ (d : ServeDeskValue). ServesOpening (g.V.ServeWatch.Saves c.args.watch.now) contents c.args.opening d c.args.outlet came.1 came.0) c.in-Ok.ensures.desk
-    (subst (λ (o : Outlet _). ServesOpening (g.V.ServeWatch.Saves c.args.watch.now) contents c.args.opening (desk_value contents desk) o came.1 came.0) c.in-Ok.ensures.outlet
+    let first : PlanValue → ServeDeskValue = λ plan. first_desk c.args.config.is_strict contents c.args.outlet plan in
+    subst (λ (plan : PlanValue). ServesOpening saves contents c.args.opening (first plan) c.args.outlet came.1 came.0) c.new_plan.ensures.plan
+    (subst (λ (d : ServeDeskValue). ServesOpening saves contents c.args.opening d c.args.outlet came.1 came.0) c.in-Ok.ensures.desk
+    (subst (λ (o : Outlet _). ServesOpening saves contents c.args.opening (desk_value contents desk) o came.1 came.0) c.in-Ok.ensures.outlet
     c.open_engine.ensures))

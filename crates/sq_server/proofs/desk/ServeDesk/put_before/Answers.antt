@@ -14,10 +14,10 @@ returns-in-Ok g c =
     let changes : ChangesAt c.args.job.part (asked ∷ waiting_at was c.args.job.part) was now =
     subst (λ (part : ℕ). ChangesAt part (asked ∷ waiting_at was part) was now) at c.in-Ok.ensures.ok in
     handles_unheard (c.args.job ∷ []) [] _ _ refl
-    (quiet [] (c.args.job ∷ []) [] _ _ refl refl refl refl changes.count (refl, refl)
+    (quiet [] (c.args.job ∷ []) [] _ _ refl refl refl refl refl refl refl refl changes.count (refl, refl)
     (λ part within. put_back_keeps place c.args.job was now changes part))
 
 pub returns-in-Err : goal.returns-in-Err
 returns-in-Err g c =
     handles_unheard (c.args.job ∷ []) [] _ _ refl
-    (stops [] (c.args.job ∷ []) [] _ _ refl refl (ap (λ (w : List (List AskedTxn)). length w) c.in-Err.ensures.err))
+    (stops [] (c.args.job ∷ []) [] _ _ refl refl refl refl (ap (λ (w : List (List AskedTxn)). length w) c.in-Err.ensures.err))

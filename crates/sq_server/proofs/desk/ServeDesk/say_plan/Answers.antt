@@ -10,5 +10,5 @@ returns g c =
     let contents = g.W.Write.contents in
     let before = desk_value contents was in
     let after = over contents was.lacks_memory before c.say_plan.new.self in
-    subst (λ (text : List ℕ). WritesBytes (plan_line text) before after) c.as_str.ensures.value
+    subst (λ (text : List ℕ). WritesBytes (plan_line text) before after) c.as_str.ensures
     (writes_bytes contents (plan_line c.as_str.result.now) was.lacks_memory before was.outlet c.say_plan.new.self c.say_plan.ensures)

@@ -1,5 +1,5 @@
 use Rattle.std.proofs.Common.{inl, inr, refl}
-use Rattle.std.specs.Prelude.{Ok, Some, None, string_bytes, sum_by, length}
+use Rattle.std.specs.Prelude.{Ok, Some, None, sum_by, length}
 use Rattle.sq_text.specs.Texts.{refused_line}
 use Rattle.sq_serve.specs.declared.serve_answer.ServeAnswer.TheVariants.{Folded}
 use Rattle.sq_serve.specs.declared.serve_line.ServeLine.TheVariants as asks
@@ -22,7 +22,7 @@ pub returns-in-Fold-clause-handles : goal.returns-in-Fold-clause-handles
 returns-in-Fold-clause-handles g c =
     let answers = c.args.self.now.counts.answered in
     rw c.in-Fold.is
-    (answers_one (fed.Line c.args.place (Ok asks.Fold)) (Answered (Folded answers)) _ _ c.say_folded.ensures (answers, refl, refl) (λ part within. refl))
+    (answers_one (fed.Line c.args.place (Ok asks.Fold)) (Answered (Folded answers)) _ _ c.say_folded.ensures (refl, refl) (λ part within. refl))
 
 pub returns-in-Rows-clause-heard : goal.returns-in-Rows-clause-heard
 returns-in-Rows-clause-heard g c = wish_unheard (wish.Rows (record { place = c.args.place; file = None })) (refused_line 217) _ _ c.want_at_rest-in-Rows.ensures.either
@@ -51,6 +51,6 @@ returns-in-Status-clause-handles g c =
 
 pub returns-in-Plan-clause-handles : goal.returns-in-Plan-clause-handles
 returns-in-Plan-clause-handles g c =
-    let text = string_bytes c.args.self.now.plan in
+    let plan = c.args.self.now.plan in
     rw c.in-Plan.is
-    (answers_one (fed.Line c.args.place (Ok asks.Plan)) (PlanTold text) _ _ c.say_plan.ensures (text, refl, refl) (λ part within. refl))
+    (answers_one (fed.Line c.args.place (Ok asks.Plan)) (PlanTold plan) _ _ c.say_plan.ensures (refl, refl) (λ part within. refl))

@@ -18,6 +18,6 @@ returns-clause-handles g c =
     ∙ none_waits (waiting_at was c.from.result)
     (λ some. false-not-true (sym (c.has_jobs.ensures.1 some) ∙ c.if-has_jobs.false)) in
     subst (λ (at : ℕ). Handles more [] desk (record { part = at; txn = c.args.txn } ∷ []) now) (sym c.new.ensures)
-    (quiet more [] (record { part = c.args.at; txn = c.args.txn } ∷ []) desk now refl refl refl refl refl
-    (job_settled (length was) desk.moving c.args.at c.args.place c.args.txn c.requires)
+    (quiet more [] (record { part = c.args.at; txn = c.args.txn } ∷ []) desk now refl refl refl refl refl refl refl refl refl
+    (job_settled (length was) desk.moving desk.standing c.args.at c.args.place c.args.txn c.requires)
     (λ part within. offers_at_once c.args.place c.args.txn c.args.at was none part))

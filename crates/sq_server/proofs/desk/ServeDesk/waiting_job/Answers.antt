@@ -12,7 +12,7 @@ returns-in-Some g c =
     let asked = c.in-Some.asked in
     let takes : TakesFirst c.in-Some.part asked was now = c.in-Some.ensures in
     handles_unheard [] _ _ _ refl
-    (quiet [] [] _ _ _ refl refl refl refl takes.changes.count (refl, refl)
+    (quiet [] [] _ _ _ refl refl refl refl refl refl refl refl takes.changes.count (refl, refl)
     (λ part within.
     subst (λ (at : ℕ). waiting_at was part ++ [] ≡ asked_at asked.place part (record { part = at; txn = asked.txn } ∷ []) ++ waiting_at now part)
     (sym c.new.ensures) (take_keeps asked c.in-Some.part was now takes part)))
