@@ -1,8 +1,8 @@
 -- The short intervals of an engine's service.
 use Rattle.std.specs.Prelude.{◌≡◌, ◌⊎◌, ℕ, ◌+◌, List, [], ◌∷◌, ◌++◌, length, sum_by}
 use Rattle.sq_summary.specs.Spreads.{IsSpreadOf}
-use Rattle.sq_serve.specs.declared.watch.ServeMark.{ServeMark}
-use Rattle.sq_serve.specs.declared.watch.ServeMark.TheVariants.{JobAnswered}
+use Rattle.sq_serving.specs.declared.watch.ServeMark.{ServeMark}
+use Rattle.sq_serving.specs.declared.watch.ServeMark.TheVariants.{JobAnswered}
 use Rattle.sq_serve_report.specs.declared.tallies.MovedTally.{MovedTally}
 use Rattle.sq_serve_report.specs.declared.intervals.IntervalFigures.{IntervalFigures}
 use Rattle.sq_serve_report.specs.declared.intervals.Intervals.{Intervals}

@@ -1,7 +1,7 @@
 -- The moves of an engine that is served.
 use Rattle.std.specs.Prelude.{◌≡◌, ℕ, List, [], ◌∷◌, ◌++◌, Option, Some, None, option_map}
-use Rattle.sq_serve.specs.declared.watch.ServeMark.{ServeMark}
-use Rattle.sq_serve.specs.declared.watch.ServeMark.TheVariants.{MoveBegins, MoveEnds}
+use Rattle.sq_serving.specs.declared.watch.ServeMark.{ServeMark}
+use Rattle.sq_serving.specs.declared.watch.ServeMark.TheVariants.{MoveBegins, MoveEnds}
 use Rattle.sq_serve_report.specs.Tallies.{answers_noted, moved_noted}
 use Rattle.sq_serve_report.specs.declared.moves.MoveTally.{MoveTally}
 use Rattle.sq_serve_report.specs.declared.moves.MoveRecord.{MoveRecord}

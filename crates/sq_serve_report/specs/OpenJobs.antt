@@ -3,8 +3,8 @@ use Rattle.std.specs.Prelude.{◌≡◌, ◌≢◌, ℕ, ◌-◌, Some, None, na
 use Rattle.std.specs.declared.hash.FoldHasher.{FoldHasher}
 use Rattle.std.specs.declared.hash.BuildHasherDefault.{BuildHasherDefault}
 use Rattle.std.specs.HashMap.{get, HashMap}
-use Rattle.sq_serve.specs.declared.watch.ServeMark.{ServeMark}
-use Rattle.sq_serve.specs.declared.watch.ServeMark.TheVariants.{JobOffered, JobAnswered}
+use Rattle.sq_serving.specs.declared.watch.ServeMark.{ServeMark}
+use Rattle.sq_serving.specs.declared.watch.ServeMark.TheVariants.{JobOffered, JobAnswered}
 
 -- the time at which each job was offered first, by its id
 abbrev pub OfferTimes : Type 0

@@ -1,7 +1,7 @@
 -- The counts of an engine that is served.
 use Rattle.std.specs.Prelude.{ℕ, ◌+◌, ◌-◌, ◌^◌, Bool, true, false, Option, Some, None, min, max}
-use Rattle.sq_serve.specs.declared.watch.ServeMark.{ServeMark}
-use Rattle.sq_serve.specs.declared.watch.ServeMark.TheVariants.{EpochBegins, EpochEnds, FamiliesMoved, JobAnswered}
+use Rattle.sq_serving.specs.declared.watch.ServeMark.{ServeMark}
+use Rattle.sq_serving.specs.declared.watch.ServeMark.TheVariants.{EpochBegins, EpochEnds, FamiliesMoved, JobAnswered}
 use Rattle.sq_serve_report.specs.declared.tallies.AnswerTally.{AnswerTally}
 use Rattle.sq_serve_report.specs.declared.tallies.MovedTally.{MovedTally}
 use Rattle.sq_serve_report.specs.declared.tallies.EpochTally.{EpochTally}

@@ -4,7 +4,7 @@ ghost use Rattle.sq_serve_report.specs.Intervals.{answers_in, answers_recorded, 
 ghost use Rattle.sq_serve_report.specs.Intervals.{EndsInterval};
 
 use crate::tallies::MovedTally;
-use sq_serve::ServeMark;
+use sq_serving::ServeMark;
 use sq_summary::{Spread, spread_of};
 use std::alloc::{AllocError, Global};
 use std::mem;

@@ -4,7 +4,7 @@ ghost use Rattle.sq_serve_report.specs.Moves.{move_begun, move_noted, EndsMove, 
 ghost use Rattle.sq_serve_report.specs.Moves.{NotesMove};
 
 use crate::tallies::{AnswerTally, MovedTally};
-use sq_serve::ServeMark;
+use sq_serving::ServeMark;
 use std::alloc::{AllocError, Global};
 
 /// What was done while rows moved.

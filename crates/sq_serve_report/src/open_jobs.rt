@@ -2,7 +2,7 @@
 ghost use Rattle.std.specs.Prelude.{◌≡◌, OnOk};
 ghost use Rattle.sq_serve_report.specs.OpenJobs.{waited, HasOfferTime, NotesOffer};
 
-use sq_serve::ServeMark;
+use sq_serving::ServeMark;
 use std::alloc::{AllocError, Global};
 use std::collections::HashMap;
 

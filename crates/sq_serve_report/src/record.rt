@@ -10,7 +10,7 @@ use crate::intervals::Intervals;
 use crate::moves::MoveRecord;
 use crate::open_jobs::OpenJobs;
 use crate::tallies::{AnswerTally, EpochTally};
-use sq_serve::ServeMark;
+use sq_serving::ServeMark;
 use sq_summary::write_engine_svg;
 use std::alloc::{AllocError, Global};
 use std::io;

@@ -3,7 +3,7 @@ ghost use Rattle.std.specs.Prelude.{◌≡◌};
 ghost use Rattle.sq_serve_report.specs.Tallies.{answer_counted, answers_noted, moved_noted};
 ghost use Rattle.sq_serve_report.specs.Tallies.{epoch_begun, epoch_ended, epochs_noted};
 
-use sq_serve::ServeMark;
+use sq_serving::ServeMark;
 
 /// How many jobs were answered, and the longest wait of one. A count stays at the largest 64-bit
 /// number if it doesn't fit.

@@ -21,9 +21,9 @@ use Rattle.sq_picture.specs.Json.{TellsAsJson}
 use Rattle.sq_picture.specs.Pictures.{IsPicture}
 use Rattle.sq_live.specs.declared.ending.LiveEnding.{LiveEnding}
 use Rattle.sq_live.specs.Live.{RunsLive, ending_status}
-use Rattle.sq_server.specs.declared.ending.ServeEnding.{ServeEnding}
-use Rattle.sq_server.specs.Ending.{serve_status}
-use Rattle.sq_service.specs.Service.{Serves}
+use Rattle.sq_serving.specs.declared.ending.ServeEnding.{ServeEnding}
+use Rattle.sq_serving.specs.Ending.{serve_status}
+use Rattle.sq_serving.specs.Service.{Serves}
 use Rattle.sq_explain.specs.Meanings.{Explains}
 use Rattle.sq_command.specs.declared.line.Plans.{Plans}
 use Rattle.sq_command.specs.declared.line.Form.{Form}

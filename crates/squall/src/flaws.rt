@@ -14,7 +14,7 @@ use sq_plan::{Plan, PlanFault};
 use sq_ranges::{OpeningFault, ReconFault};
 use sq_row_lines::NO_ROW;
 use sq_schema::{MAX_TABLES, RowFault, Schema, TxnFault};
-use sq_serve::{FaultyHeader, HeaderLine, LineRefusal, RefusedMove, ServeFault, read_serve_line};
+use sq_serving::{FaultyHeader, HeaderLine, LineRefusal, RefusedMove, ServeFault, read_serve_line};
 use sq_text::{InputFault, InputLine, LocatedFault, Meaning};
 use std::alloc::Global;
 use std::fmt;

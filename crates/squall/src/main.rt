@@ -44,7 +44,7 @@ use sq_inputs::{Inserting, Recalling};
 use sq_live::Watch;
 use sq_outputs::PipeEnd;
 use sq_row_lines::RowLines;
-use sq_service::ServeConfig;
+use sq_serving::ServeConfig;
 use sq_world::ScriptManner;
 use std::cell::Cell;
 use std::convert::AsStr;

@@ -3,7 +3,7 @@ use crate::flaws::{tell_misfit_of_move, tell_misfit_of_refused};
 use crate::serving::EngineInput;
 use crate::source::FaultPlace;
 use sq_explain::meaning;
-use sq_serve::{LineRefusal, RefusedMove};
+use sq_serving::{LineRefusal, RefusedMove};
 use std::fmt;
 use std::fmt::{Display, Formatter, Write};
 use std::sync::atomic::{AtomicU64, Ordering};

@@ -13,9 +13,10 @@ use crate::streams::Streams;
 use crate::text_places::TextPlaces;
 use crate::unread_stages::PlansWatched;
 use sq_command::{EngineFiles, EngineReports};
-use sq_serve::{CountedLines, FaultyHeader, FileLines, Following, LinePlace, LineSource};
-use sq_server::ServeEnding;
-use sq_service::{ServeConfig, serve};
+use sq_serving::{
+    CountedLines, FaultyHeader, FileLines, Following, LinePlace, LineSource, ServeConfig,
+    ServeEnding, serve,
+};
 use sq_text::{InputFault, WriteFault};
 use std::alloc::Global;
 use std::io;

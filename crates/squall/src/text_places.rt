@@ -1,6 +1,6 @@
 // Where the lines of an engine's text are.
 use sq_csv_rows::RecordLines;
-use sq_serve::{FileLines, LinePlace, LinePlaces, LineSource};
+use sq_serving::{FileLines, LinePlace, LinePlaces, LineSource};
 use std::alloc::Global;
 use std::sync::Arc;
 

@@ -4,12 +4,9 @@ use sq_audit::Job;
 use sq_engine::{Command, PostFault, StageProgress};
 use sq_plan::Plan;
 use sq_schema::{MAX_TABLES, Schema};
-use sq_serve::{
-    FaultyLine, LinePlace, LineRefusal, LineSource, ServeMark, ServeWatch, read_serve_line,
-};
-use sq_server::{
-    Bell, DeskConfig, Fed, InputEnd, InputOutcome, MoveProgress, Outlet, PlanText, ServeDesk,
-    SideQueues,
+use sq_serving::{
+    Bell, DeskConfig, FaultyLine, Fed, InputEnd, InputOutcome, LinePlace, LineRefusal, LineSource,
+    MoveProgress, Outlet, PlanText, ServeDesk, ServeMark, ServeWatch, SideQueues, read_serve_line,
 };
 use std::alloc::Global;
 use std::cell::Cell;

@@ -1,5 +1,5 @@
 use Rattle.std.proofs.Common.{inl}
-use Rattle.sq_service.proofs.WroteLines.{serves_all}
+use Rattle.sq_serving.proofs.WroteLines.{serves_all}
 use Rattle.squall.specs.Session.{SavesAny}
 use Rattle.squall.proofs.serving.serve_text.Goals as goal
 

@@ -1,3 +1,0 @@
-mod Follows
-mod Portioned
-mod Names

@@ -1,5 +1,0 @@
-pub mod Changes
-pub mod Desks
-pub mod Epochs
-mod Sayings
-mod Interleaved

@@ -1,7 +1,0 @@
-use Rattle.std.proofs.Common.{[]}
-use Rattle.sq_server.specs.Becoming.{job_list}
-use Rattle.sq_server.proofs.Desks.{hears_then}
-use Rattle.sq_server.proofs.desk.ServeDesk.next_job.Goals as goal
-
-pub returns-in-None : goal.returns-in-None
-returns-in-None g c = hears_then [] (job_list c.asked_or_waiting_job.result) _ _ _ c.in-None.ensures c.asked_or_waiting_job.ensures

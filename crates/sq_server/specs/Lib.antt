@@ -1,9 +1,0 @@
-pub mod Receipts
-pub mod Sides
-pub mod Ending
-pub mod Saying
-pub mod InputEnds
-pub mod Settling
-pub mod Closing
-pub mod Becoming
-pub mod Written

@@ -1,5 +1,0 @@
-use Rattle.sq_service.proofs.WroteLines.{serves_all}
-use Rattle.sq_service.proofs.laws.a_sound_service_writes_all.Goals as goal
-
-pub returns : goal.returns
-returns g c = λ watch strict old new ending serves. serves_all strict (g.V.ServeWatch.Saves watch) g.W.Write.contents old new ending serves

@@ -1,9 +1,0 @@
-pub mod Rows
-pub mod Events
-pub mod Ends
-pub mod Steps
-pub mod Service
-pub mod Planned
-pub mod Telling
-pub mod Reading
-pub mod Wishes

@@ -1,0 +1,9 @@
+use Rattle.sq_serving.proofs.telling.tell_moved.Goals as goal
+
+pub returns-clause-line : goal.returns-clause-line
+returns-clause-line g c =
+    let says = c.say.ensures.line in
+    record { goes_on = says.goes_on; writes_on = says.writes_on; written = says.written; wishes = says.wishes }
+
+pub returns-clause-plan : goal.returns-clause-plan
+returns-clause-plan g c = c.say.ensures.line.standing
