@@ -1,2 +1,7 @@
 pub mod Json
 pub mod Pictures
+pub mod Cutting
+pub mod Sizes
+pub mod Owners
+pub mod Asked
+pub mod Proposal

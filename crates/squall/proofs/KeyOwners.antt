@@ -6,8 +6,8 @@ use Rattle.sq_schema.specs.declared.schema.TheConstants.{MAX_TABLES}
 use Rattle.sq_inputs.specs.Inputs.{plan_lines}
 use Rattle.sq_text.specs.declared.output_fault.WriteFault.{WriteFault}
 use Rattle.sq_world.specs.declared.ending.Ending.{Ending}
-use Rattle.sq_sizes.specs.Asked.{TellsOpening}
-use Rattle.sq_sizes.specs.Owners.{IsOwnersText}
+use Rattle.sq_picture.specs.Asked.{TellsOpening}
+use Rattle.sq_picture.specs.Owners.{IsOwnersText}
 use Rattle.squall.specs.Session.{exit_status, widest_config, EndsOwners}
 
 -- the text is of an opening that the lines of two plans and of the sizes spell

@@ -15,8 +15,8 @@ use Rattle.sq_world.specs.Run.{Runs, in_manner, exit_status_of}
 use Rattle.sq_world.specs.Listing.{Lists, Tells}
 use Rattle.sq_steps.specs.Scripts.{WritesScript}
 use Rattle.sq_ranges.specs.declared.recon.TheConstants.{MAX_WIDTH}
-use Rattle.sq_sizes.specs.Asked.{TellsOpening, IsAnyText}
-use Rattle.sq_sizes.specs.Owners.{IsOwnersText}
+use Rattle.sq_picture.specs.Asked.{TellsOpening, IsAnyText}
+use Rattle.sq_picture.specs.Owners.{IsOwnersText}
 use Rattle.sq_picture.specs.Json.{TellsAsJson}
 use Rattle.sq_picture.specs.Pictures.{IsPicture}
 use Rattle.sq_live.specs.declared.ending.LiveEnding.{LiveEnding}

@@ -1,0 +1,50 @@
+-- What is written of the opening of an input.
+use Rattle.std.proofs.Common.{◌≡◌, ℕ, List, [], Option, inl, inr, refl, subst}
+use Rattle.std.specs.Prelude.{None, Result, Ok, Err, IfOk}
+use Rattle.std.specs.Io.KnownBytes.{Appends}
+use Rattle.sq_schema.specs.declared.schema.TheConstants.{MAX_TABLES}
+use Rattle.sq_ranges.specs.OpeningValue.{OpeningValue}
+use Rattle.sq_lines.specs.Coming.{LinesValue, Leaves}
+use Rattle.sq_lines.proofs.Comings.{some_pieces}
+use Rattle.sq_text.specs.declared.located.LocatedFault.{LocatedFault}
+use Rattle.sq_text.specs.declared.input_fault.InputFault.TheVariants.{Memory}
+use Rattle.sq_text.specs.Located.{located}
+use Rattle.sq_text.specs.Header.{header_of, Opens}
+use Rattle.sq_text.proofs.Appending.{both}
+use Rattle.sq_world.specs.declared.ending.Ending.{Ending}
+use Rattle.sq_world.specs.Run.{IsFault, EndsAtFault}
+use Rattle.sq_picture.specs.Asked.{IsAnswerOf, TellsOpeningOfLines, TellsOrRefusesOf}
+
+-- there was no memory for it, and nothing of it was written
+pub not_told : {E : Type 0} (tells : OpeningValue → List ℕ → Type 0) (r : Result Ending E) (o : OpeningValue) (fault : LocatedFault) (before mid now : Option (List ℕ)) → fault ≡ located Memory None → Appends before mid []
+    → IfOk r (EndsAtFault fault mid now) → IfOk r (TellsOrRefusesOf tells o before now)
+not_told tells (Err e) o fault before mid now is nothing wrote = tt
+not_told tells (Ok ending) o fault before mid now is nothing wrote = (wrote.0, both before mid now [] wrote.0 wrote.0 nothing wrote.1 refl, inr (subst (λ f. IsFault f wrote.0 ending) is wrote.2))
+
+-- the text is of the opening that the header spells
+pub answered : {E : Type 0} (tells : OpeningValue → List ℕ → Type 0) (r : Result Ending E) (tables : ℕ) (o : OpeningValue) (begin lines : LinesValue) (before now : Option (List ℕ)) → tables ≡ MAX_TABLES
+    → Leaves begin lines (λ all left. Opens tables (Ok o) left (header_of tables all))
+    → IfOk r (TellsOrRefusesOf tells o before now) → IfOk r (TellsOpeningOfLines tells MAX_TABLES begin before now)
+answered tells (Err e) tables o begin lines before now eight opens wrote = tt
+answered tells (Ok ending) tables o begin lines before now eight opens wrote =
+    let some = some_pieces lines in
+    let all = opens some.can_come.0 some.pieces some.can_come.1 in (
+      all.0,
+      (some.can_come.0, all.1),
+      wrote.0,
+      wrote.1,
+      elim wrote.2 as (λ _. IsAnswerOf tells MAX_TABLES all.0 wrote.0 ending) [
+        | inl told ↦ inl (record { opening = o; left = some.pieces; header = subst (λ n. Opens n (Ok o) some.pieces (header_of n all.0)) eight all.2; says = told.0; ends = told.1 })
+        | inr fault ↦ inr (record { fault = located Memory None; left = some.pieces; header = λ apart. absurd (apart refl); wrote = fault })
+      ],
+    )
+
+-- the header was refused
+pub not_answered : {E : Type 0} (tells : OpeningValue → List ℕ → Type 0) (r : Result Ending E) (tables : ℕ) (fault : LocatedFault) (begin lines : LinesValue) (before now : Option (List ℕ)) → tables ≡ MAX_TABLES
+    → Leaves begin lines (λ all left. Opens tables (Err fault) left (header_of tables all))
+    → IfOk r (EndsAtFault fault before now) → IfOk r (TellsOpeningOfLines tells MAX_TABLES begin before now)
+not_answered tells (Err e) tables fault begin lines before now eight opens wrote = tt
+not_answered tells (Ok ending) tables fault begin lines before now eight opens wrote =
+    let some = some_pieces lines in
+    let all = opens some.can_come.0 some.pieces some.can_come.1 in
+    (all.0, (some.can_come.0, all.1), wrote.0, wrote.1, inr (record { fault = fault; left = some.pieces; header = subst (λ n. Opens n (Err fault) some.pieces (header_of n all.0)) eight all.2; wrote = wrote.2 }))

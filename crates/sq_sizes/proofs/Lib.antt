@@ -1,5 +1,0 @@
-pub mod Answers
-pub mod Weighing
-pub mod Parts
-pub mod OwnerLines
-pub mod Proposing

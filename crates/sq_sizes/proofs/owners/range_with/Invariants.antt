@@ -1,8 +1,0 @@
-use Rattle.std.proofs.Common.{◌≡◌, drop}
-use Rattle.std.specs.Prelude.{find}
-use Rattle.sq_ranges.specs.ReconValue.{has_key}
-use Rattle.sq_sizes.proofs.owners.range_with.Given as goal
-
--- no range before has the root key
-abbrev pub invariant-loop-range : goal.invariant-loop-range
-invariant-loop-range l = find (λ range. has_key range l.key) l.ranges ≡ find (λ range. has_key range l.key) (drop l.range-index l.ranges)

@@ -1,5 +1,0 @@
-pub mod Cutting
-pub mod Sizes
-pub mod Owners
-pub mod Asked
-pub mod Proposal
