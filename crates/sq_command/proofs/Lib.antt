@@ -2,4 +2,4 @@ mod Subcommands
 pub mod Numbers
 mod Arguments
 mod Clashes
-mod Keys
+mod CommandKeys

@@ -4,3 +4,5 @@ pub mod Owner
 pub mod Demo
 pub mod Serve
 pub mod Line
+pub mod Sizes
+pub mod Texts

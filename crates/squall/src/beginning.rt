@@ -3,8 +3,7 @@ ghost use Rattle.std.specs.Prelude.{◌≡◌, ◌⊎◌, None};
 ghost use Rattle.sq_command.specs.Demo.{DemoIsWithin};
 
 use crate::session::{REFUSED, explain_write, refuse_for_memory};
-use sq_command::Demo;
-use sq_demo::{DemoSizes, DemoTexts, write_commands};
+use sq_command::{Demo, DemoSizes, DemoTexts, write_commands};
 use sq_outputs::{Folder, NewFile, SystemFolder, save};
 use sq_text::WriteFault;
 use std::alloc::AllocError;

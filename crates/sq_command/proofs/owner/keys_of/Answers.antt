@@ -7,7 +7,7 @@ use Rattle.clap.specs.Matches.{found_of}
 use Rattle.clap.specs.Walk.{Text, rows_of}
 use Rattle.clap.proofs.WalkLemmas.{raw_values-rows}
 use Rattle.sq_command.specs.Owner.{SpellsKey, key_words}
-use Rattle.sq_command.proofs.Keys.{SpellBy, texts_of, one_more, one_spells_none, all_told, words_named, none_named, no_texts, some_texts}
+use Rattle.sq_command.proofs.CommandKeys.{SpellBy, texts_of, one_more, one_spells_none, all_told, words_named, none_named, no_texts, some_texts}
 use Rattle.sq_command.proofs.owner.keys_of.Goals as goal
 use Rattle.sq_command.proofs.owner.keys_of.Goals.{In-Some}
 

@@ -1,5 +1,5 @@
 use Rattle.std.proofs.Common.{take}
-use Rattle.sq_command.proofs.Keys.{SpellBy}
+use Rattle.sq_command.proofs.CommandKeys.{SpellBy}
 use Rattle.sq_command.proofs.owner.keys_of.Given as goal
 
 abbrev pub invariant-loop-word : goal.invariant-loop-word

@@ -1,4 +1,4 @@
-use Rattle.sq_demo.proofs.texts.DemoTexts.of.Goals as goal
+use Rattle.sq_command.proofs.texts.DemoTexts.of.Goals as goal
 
 pub returns : goal.returns
 returns c = record {

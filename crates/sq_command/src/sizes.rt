@@ -25,7 +25,7 @@ pub struct DemoSizes {
 }
 
 impl DemoSizes {
-    ghost use Rattle.sq_demo.specs.Sizes.{share_size, hot_keys_of, line_count};
+    ghost use Rattle.sq_command.specs.Sizes.{share_size, hot_keys_of, line_count};
 
     /// How many root keys each partition but the last has before the move; the last one has all
     /// that follow. It is the smallest number that covers the root keys with rows, and at least 8.

@@ -1,6 +1,6 @@
 -- How large a sample input is.
 use Rattle.std.specs.Prelude.{ℕ, ◌+◌, ◌-◌, ◌*◌, ◌/◌, max}
-use Rattle.sq_demo.specs.declared.sizes.DemoSizes.{DemoSizes}
+use Rattle.sq_command.specs.declared.sizes.DemoSizes.{DemoSizes}
 
 -- how many root keys each partition but the last has before the move: the smallest number that
 -- covers the root keys with rows, and at least 8

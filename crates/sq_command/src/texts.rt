@@ -1,7 +1,7 @@
 // The texts of a sample input.
 ghost use Rattle.std.specs.Prelude.{IfOk};
 ghost use Rattle.sq_plan.specs.PlanValue.{PlanValue};
-ghost use Rattle.sq_demo.specs.Texts.{IsPlanText};
+ghost use Rattle.sq_command.specs.Texts.{IsPlanText};
 
 use crate::jobs::write_jobs;
 use crate::plans::{write_new, write_old};
@@ -24,7 +24,7 @@ pub struct DemoTexts {
 }
 
 impl DemoTexts {
-    ghost use Rattle.sq_demo.specs.Texts.{IsDemo};
+    ghost use Rattle.sq_command.specs.Texts.{IsDemo};
 
     /// The texts of a sample input with these sizes. Before the move each partition owns a
     /// contiguous share of the root keys, in the order of the partitions; the move gives the first

@@ -2,7 +2,7 @@
 use Rattle.std.specs.Prelude.{◌≡◌, ℕ, List, Ok}
 use Rattle.sq_plan.specs.PlanValue.{PlanValue, IsPlan}
 use Rattle.sq_plan.specs.Reading.{plan_in}
-use Rattle.sq_demo.specs.declared.texts.DemoTexts.{DemoTexts}
+use Rattle.sq_command.specs.declared.texts.DemoTexts.{DemoTexts}
 
 -- the text is read as this plan
 abbrev pub IsPlanText : PlanValue → List ℕ → Type 0
