@@ -1,9 +1,9 @@
 -- What is left of one reader behind another, read by read.
 use Rattle.std.proofs.Common.{◌≡◌, refl, sym, subst, ℕ, Bool, true, false, ◌==◌, ◌<◌, ◌≤◌, ◌-◌, length, List, take, slice_index_or, slice_set, Option, Result}
 use Rattle.std.specs.Io.KnownBytes.{Consumes, IsAtEnd, ReadConsumes}
-use Rattle.sq_inputs.specs.Inserted.{ended_text}
-use Rattle.sq_inputs.specs.declared.inserting.Place.TheVariants.{Inserted}
-use Rattle.sq_inputs.proofs.Inserts.{other_goes_on, other_ends, other_is_over}
+use Rattle.sq_input.specs.Inserted.{ended_text}
+use Rattle.sq_input.specs.declared.inserting.Place.TheVariants.{Inserted}
+use Rattle.sq_input.proofs.Inserts.{other_goes_on, other_ends, other_is_over}
 use Rattle.sq_serving.specs.Following.{following_left}
 use Rattle.sq_serving.specs.declared.following.FollowingPlace.{FollowingPlace}
 use Rattle.sq_serving.specs.declared.following.FollowingPlace.TheVariants.{First}

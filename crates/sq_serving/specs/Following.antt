@@ -1,6 +1,6 @@
 -- What a reader that continues with another one has left.
 use Rattle.std.specs.Prelude.{ℕ, List, Option}
-use Rattle.sq_inputs.specs.Inserted.{ended_text}
+use Rattle.sq_input.specs.Inserted.{ended_text}
 use Rattle.sq_serving.specs.declared.following.Following.{Following}
 use Rattle.sq_serving.specs.declared.following.FollowingPlace.{FollowingPlace}
 use Rattle.sq_serving.specs.declared.following.FollowingPlace.TheVariants.{First, Second}

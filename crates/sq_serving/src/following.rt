@@ -2,7 +2,7 @@
 ghost use Rattle.std.specs.Prelude.{◌≡◌, ◌<◌, true, length};
 ghost use Rattle.std.specs.Io.KnownBytes.{ReadConsumes};
 ghost use Rattle.std.specs.Io.{ReadsAtMost};
-ghost use Rattle.sq_inputs.specs.Inserted.{ended_text};
+ghost use Rattle.sq_input.specs.Inserted.{ended_text};
 ghost use Rattle.sq_serving.specs.Following.{following_remaining};
 
 use std::io;

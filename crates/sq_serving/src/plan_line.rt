@@ -1,7 +1,7 @@
 // The first line of an engine's input, which spells the plan.
 use crate::faulty_header::HeaderLine;
 use crate::feeds::Refused;
-use sq_inputs::plan_lines;
+use sq_input::plan_lines;
 use sq_text::{InputFault, InputLine, LocatedFault, MAX_LINE};
 use std::alloc::{AllocError, Global};
 use std::io::Read;

@@ -3,7 +3,7 @@ use Rattle.std.proofs.Common.{◌≡◌, ◌∙◌, ℕ, Bool, List, inl, ap, su
 use Rattle.std.specs.Prelude.{Option, Some, is_some, Result, IfOk}
 use Rattle.std.specs.Fmt.{option_append}
 use Rattle.sq_schema.specs.declared.schema.TheConstants.{MAX_TABLES}
-use Rattle.sq_inputs.specs.Inputs.{plan_lines}
+use Rattle.sq_input.specs.Inputs.{plan_lines}
 use Rattle.sq_text.specs.declared.output_fault.WriteFault.{WriteFault}
 use Rattle.sq_world.specs.declared.ending.Ending.{Ending}
 use Rattle.sq_picture.specs.Asked.{TellsOpening}

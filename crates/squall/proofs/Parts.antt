@@ -4,7 +4,7 @@ use Rattle.std.specs.Prelude.{Option, Some, is_some}
 use Rattle.std.specs.Borrow.{Bor}
 use Rattle.std.specs.Fmt.{option_append}
 use Rattle.clap.specs.Walk.{Text}
-use Rattle.sq_inputs.specs.Inputs.{plan_lines, inserted_text}
+use Rattle.sq_input.specs.Inputs.{plan_lines, inserted_text}
 use Rattle.sq_command.specs.declared.line.Plans.{Plans}
 use Rattle.sq_command.specs.declared.line.Task.{Task}
 use Rattle.squall.specs.Session.{IsBehindPlans, IsPutTogether, EndsTask, EndsWithRows, EndsParts}

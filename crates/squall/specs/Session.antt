@@ -8,7 +8,7 @@ use Rattle.clap.specs.declared.error.Error.{Error}
 use Rattle.clap.specs.declared.error.kind.ErrorKind.{ErrorKind}
 use Rattle.clap.specs.declared.error.kind.ErrorKind.TheVariants.{DisplayHelp, DisplayVersion}
 use Rattle.sq_schema.specs.declared.schema.TheConstants.{MAX_TABLES}
-use Rattle.sq_inputs.specs.Inputs.{plan_lines, inserted_text}
+use Rattle.sq_input.specs.Inputs.{plan_lines, inserted_text}
 use Rattle.sq_text.specs.declared.output_fault.WriteFault.{WriteFault}
 use Rattle.sq_world.specs.declared.ending.Ending.{Ending}
 use Rattle.sq_world.specs.Run.{Runs, in_manner, exit_status_of}

@@ -1,9 +1,7 @@
 // Earlier lines that a line repeats.
 use crate::session::open_input;
 use crate::source::{FaultPlace, Source, is_table};
-use sq_csv_rows::{CsvRows, RecordLines};
-use sq_diagnosis::Once;
-use sq_inputs::{Recalled, Recalling};
+use sq_input::{CsvRows, Once, Recalled, Recalling, RecordLines};
 use sq_outputs::is_other_than_file;
 use sq_text::InputLine;
 use std::alloc::Global;

@@ -2,17 +2,14 @@
 use crate::earlier::{Earlier, FilesAgain, earlier_in_files, earlier_line};
 use crate::plans::read_plan;
 use crate::source::{FaultPlace, Source};
-use sq_csv_rows::{RecordFlaw, ToldColumn};
-use sq_diagnosis::{
-    LineFlaw, MoveLines, Once, PlanFlaw, ToldFlaw, ToldSegments, ToldWord, Wanted,
-    has_unread_stages, job_flaw, job_word, opening_word, plan_flaw, plan_line_flaw, row_flaw,
-    segment_flaw, sizes_flaw,
+use sq_input::{
+    LineFlaw, MoveLines, NO_ROW, Once, PlanFlaw, Recalled, Recalling, RecordFlaw, ToldColumn,
+    ToldFlaw, ToldSegments, ToldWord, Wanted, has_unread_stages, job_flaw, job_word, opening_word,
+    plan_flaw, plan_line_flaw, row_flaw, segment_flaw, sizes_flaw,
 };
-use sq_inputs::{Recalled, Recalling};
 use sq_live::{JobFault, JobLineFault};
 use sq_plan::{Plan, PlanFault};
 use sq_ranges::{OpeningFault, ReconFault};
-use sq_row_lines::NO_ROW;
 use sq_schema::{MAX_TABLES, RowFault, Schema, TxnFault};
 use sq_serving::{FaultyHeader, HeaderLine, LineRefusal, RefusedMove, ServeFault, read_serve_line};
 use sq_text::{InputFault, InputLine, LocatedFault, Meaning};

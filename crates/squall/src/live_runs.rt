@@ -1,6 +1,6 @@
 // Live runs, their messages and their exit status.
 ghost use Rattle.std.specs.Prelude.{◌≡◌, ◌≤◌};
-ghost use Rattle.sq_inputs.specs.Recalling.{recalling_remaining};
+ghost use Rattle.sq_input.specs.Recalling.{recalling_remaining};
 ghost use Rattle.sq_pull.specs.declared.numbers.TheConstants.{MAX_PUMPS};
 ghost use Rattle.sq_schema.specs.declared.schema.TheConstants.{MAX_TABLES};
 ghost use Rattle.sq_live.specs.Live.{RunsLive};
@@ -11,7 +11,7 @@ use crate::outputs::{FileText, add_text, explain_unwritten, save_texts};
 use crate::session::{REFUSED, explain, explain_write};
 use crate::source::Source;
 use sq_command::LiveOptions;
-use sq_inputs::Recalling;
+use sq_input::Recalling;
 use sq_live::{LiveEnding, LiveFault, LiveOutcome, RunManner, Watch, live};
 use sq_outputs::{is_other_than_file, write_device};
 use sq_report::{FiguresForm, RecordingWatch, Records, TimelineForm};

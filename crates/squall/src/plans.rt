@@ -1,10 +1,10 @@
 // Plans in files of their own.
 ghost use Rattle.std.specs.Prelude.{◌≡◌, ℕ, List, MatchResult, IfErr};
-ghost use Rattle.sq_inputs.specs.Inputs.{plan_lines};
+ghost use Rattle.sq_input.specs.Inputs.{plan_lines};
 
 use crate::session::{open_input, refuse_file, refuse_for_memory};
 use sq_command::Plans;
-use sq_inputs::{plan_lines, plan_text};
+use sq_input::{plan_lines, plan_text};
 use std::io;
 use std::io::ErrorKind;
 use std::rt::Files;

@@ -1,6 +1,6 @@
 // Runs, the messages about their faults, and the exit status.
 ghost use Rattle.std.specs.Prelude.{◌≡◌, [], Some, IfOk};
-ghost use Rattle.sq_inputs.specs.Recalling.{recalling_remaining};
+ghost use Rattle.sq_input.specs.Recalling.{recalling_remaining};
 ghost use Rattle.sq_schema.specs.declared.schema.TheConstants.{MAX_TABLES};
 ghost use Rattle.sq_results.specs.Standing.{WritesRows, world_families};
 ghost use Rattle.sq_world.specs.Run.{Runs};
@@ -10,9 +10,8 @@ use crate::flaws::{tell_form, tell_misfit, tell_unread_stages};
 use crate::outputs::save_text;
 use crate::source::Source;
 use sq_command::Form;
-use sq_diagnosis::ToldLine;
 use sq_explain::entry;
-use sq_inputs::{Recalled, Recalling};
+use sq_input::{Recalled, Recalling, ToldLine};
 use sq_picture::{AsJson, AsSvg, SizesAs, tell_opening};
 use sq_results::write_world_rows;
 use sq_text::{InputFault, InputLine, LocatedFault, Meaning, WriteFault};

@@ -1,6 +1,6 @@
 // Where the lines of an input come from.
 use sq_command::Input;
-use sq_csv_rows::{RecordFlaw, RecordLines};
+use sq_input::{RecordFlaw, RecordLines};
 use sq_text::InputLine;
 use std::cell::Cell;
 use std::fmt;

@@ -1,5 +1,5 @@
 // Where the lines of an engine's text are.
-use sq_csv_rows::RecordLines;
+use sq_input::RecordLines;
 use sq_serving::{FileLines, LinePlace, LinePlaces, LineSource};
 use std::alloc::Global;
 use std::sync::Arc;

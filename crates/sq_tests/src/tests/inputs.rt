@@ -1,6 +1,6 @@
 // Inputs in parts with a read that fails, and lines that are recalled.
 use super::readers::Drip;
-use sq_inputs::{Inserting, Recalled, Recalling};
+use sq_input::{Inserting, Recalled, Recalling};
 use std::alloc::Global;
 use std::cell::Cell;
 use std::io;

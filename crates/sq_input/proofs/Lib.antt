@@ -1,0 +1,4 @@
+pub mod Inserts
+pub mod WidthLemmas
+pub mod Pieces
+pub mod Bare

@@ -1,0 +1,12 @@
+pub mod Inputs
+pub mod Inserted
+pub mod Recalling
+pub mod Fits
+pub mod Forms
+pub mod Places
+pub mod Ranges
+pub mod Stages
+pub mod Widths
+pub mod Columns
+pub mod Fields
+pub mod Bare
