@@ -1,6 +1,15 @@
+pub mod Moments
+pub mod Curves
+pub mod SummaryIntervals
+pub mod Spreads
+pub mod PartsFigured
 pub mod Notes
 pub mod Counts
 pub mod Measures
 pub mod Figures
 pub mod SummaryValue
 pub mod Waiting
+pub mod Tallies
+pub mod OpenJobs
+pub mod ServeIntervals
+pub mod Moves

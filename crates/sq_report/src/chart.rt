@@ -1,8 +1,9 @@
 // The chart of a run.
 ghost use Rattle.std.specs.Prelude.{◌≡◌, ◌+◌, ◌*◌, ◌<◌, ◌≤◌};
 
+use crate::moment::{Moment, StageStart};
+use crate::svg::{PLOT_BOTTOM, PLOT_HEIGHT, PLOT_LEFT, PLOT_WIDTH, write_svg};
 use crate::waiting::{WaitCount, most_of};
-use sq_summary::{Moment, PLOT_BOTTOM, PLOT_HEIGHT, PLOT_LEFT, PLOT_WIDTH, StageStart, write_svg};
 use std::alloc::{AllocError, Global};
 use std::io;
 use std::io::Write;

@@ -4,9 +4,9 @@ ghost use Rattle.sq_report.specs.Figures.{link_figures};
 
 use crate::counts::{LinkCount, count_link};
 use crate::measure::Measure;
+use crate::summary_figures::LinkFigures;
 use sq_gather::{ClosedLink, Gathered};
 use sq_slab::SlabStore;
-use sq_summary::LinkFigures;
 use std::alloc::{AllocError, Global};
 use std::sync::atomic::{AtomicBool, Ordering};
 use std::sync::{Mutex, Wait};

@@ -5,10 +5,18 @@ ghost use Rattle.std.specs.List.{ends_with};
 use crate::chart::{Course, write_chart};
 use crate::clock::{Elapsed, Stopwatch};
 use crate::counts::PartCount;
+use crate::csv::write_csv;
 use crate::figures::KeptLinks;
+use crate::form::FiguresForm;
+use crate::json_form::figures_json;
 use crate::kept::KeptSummary;
+use crate::moment::moments_of;
+use crate::part_figures::PartFigures;
 use crate::results::{KeptReplies, KeptRows};
+use crate::summary_figures::RunFigures;
+use crate::text_form::write_figures;
 use crate::timeline::Timeline;
+use crate::times::{Times, write_times};
 use crate::waits::Waits;
 use sq_audit::Job;
 use sq_driver::{Gate, NodeStep, TellingNode, WorkerEvent};
@@ -16,10 +24,6 @@ use sq_gather::Gathered;
 use sq_live::{MAX_JOBS, Watch};
 use sq_node::Receipt;
 use sq_ranges::{Opening, SEGMENT_LIMIT};
-use sq_summary::{
-    FiguresForm, PartFigures, RunFigures, Times, figures_json, moments_of, write_csv,
-    write_figures, write_times,
-};
 use sq_teller::Collector;
 use std::alloc::{AllocError, Global};
 use std::io;
@@ -64,7 +68,7 @@ pub struct RecordingWatch<'a, R, W> {
 pub enum TimelineForm {
     /// Comma-separated values: [`write_csv`].
     Csv,
-    /// A chart: [`write_svg`](sq_summary::write_svg), with how many jobs wait.
+    /// A chart: [`write_svg`](crate::svg::write_svg), with how many jobs wait.
     Svg,
 }
 

@@ -1,10 +1,10 @@
 // When jobs begin to wait and are answered, and when segments complete.
 use crate::answers::AnswerMarks;
 use crate::clock::Stopwatch;
+use crate::moment::{Event, Happened, Moment, StageStart, TimedAnswer};
 use crate::wait_marks::WaitMarks;
 use crate::waiting::{WaitCount, WaitTimes};
 use sq_driver::{NodeStep, TellingNode, WorkerEvent};
-use sq_summary::{Event, Happened, Moment, StageStart, TimedAnswer};
 use sq_teller::Collector;
 use std::alloc::{AllocError, Global};
 use std::sync::atomic::{AtomicU64, Ordering};

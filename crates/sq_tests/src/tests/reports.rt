@@ -2,12 +2,11 @@
 // program of its own, by the rules of their layout.
 use sha2::{Digest, Sha256};
 use sq_plan::PartId;
-use sq_serve_report::ServeRecord;
-use sq_serving::ServeMark;
-use sq_summary::{
-    LinkFigures, Moment, PartFigures, RunFigures, Spread, StageStart, TimedAnswer, Times,
-    figures_json, write_csv, write_figures, write_svg,
+use sq_report::{
+    LinkFigures, Moment, PartFigures, RunFigures, ServeRecord, Spread, StageStart, TimedAnswer,
+    Times, figures_json, write_csv, write_figures, write_svg,
 };
+use sq_serving::ServeMark;
 use std::alloc::Global;
 use std::test::Fail;
 

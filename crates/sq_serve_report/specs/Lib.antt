@@ -1,4 +1,0 @@
-pub mod Tallies
-pub mod OpenJobs
-pub mod Intervals
-pub mod Moves
