@@ -1,7 +1,7 @@
-//! Laws that check definitions which resemble the program, in the terms of those who run a move:
-//! which rows an opening has, how stages divide a move, how many chunks families make, what the
-//! answer to each step says, and that a refused step changes nothing. The functions do nothing:
-//! each states a law, which the checker proves.
+//! Laws of the definitions that contracts cite: the opening rows are the given ones, stages divide
+//! a move, chunks are cut as they are counted, each answer says what was so; rows that fit a schema
+//! still fit it after transactions that do; and the rows that a run leaves can be read again. The
+//! functions do nothing: each states a law, which the checker proves.
 #![tactic(auto)]
 
 ghost use Rattle.std.specs.Prelude.{◌≡◌, ◌≤◌, ℕ, max, List, map, length, Ok};
@@ -31,6 +31,9 @@ ghost use Rattle.sq_laws.specs.Cuts.{AreCutInto};
 ghost use Rattle.sq_laws.specs.Rows.{OpensWithoutFault, HasJust, HasRowsOfLines};
 ghost use Rattle.sq_laws.specs.Says.{SaysOfStep};
 ghost use Rattle.sq_laws.specs.Stages.{DivideTheMove};
+
+pub mod fit;
+pub mod read_back;
 
 /// An opening has exactly the rows that it was given: if no fault is found, each of them has a
 /// place of its own.

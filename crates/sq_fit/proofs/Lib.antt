@@ -1,5 +1,0 @@
-pub mod Effects
-pub mod Spelled
-pub mod Headers
-pub mod Steps
-pub mod Histories

@@ -1,5 +1,0 @@
-use Rattle.sq_fit.proofs.Histories.{family_fits}
-use Rattle.sq_fit.proofs.a_history_leaves_fit_families.Goals as goal
-
-pub returns : goal.returns
-returns c = family_fits

@@ -1,5 +1,0 @@
-use Rattle.sq_fit.proofs.Steps.{spelled_fits}
-use Rattle.sq_fit.proofs.a_line_spells_a_fit_step.Goals as goal
-
-pub returns : goal.returns
-returns c = spelled_fits

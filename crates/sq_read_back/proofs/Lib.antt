@@ -1,8 +1,0 @@
-mod LineWords
-mod Counts
-mod TakenLines
-mod TakenRows
-mod TakenFamilies
-mod Fit
-mod Worlds
-mod Kept
