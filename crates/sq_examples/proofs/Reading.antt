@@ -23,8 +23,8 @@ use Rattle.sq_model.specs.Place.{place}
 use Rattle.sq_transition.specs.WorldValue.{WorldValue}
 use Rattle.sq_transition.specs.Holds.{Holds, is_at}
 use Rattle.sq_transition.specs.Headline.{KeepsHeadline}
-use Rattle.sq_state.specs.Readers.{IsStoreAfter}
-use Rattle.sq_state.specs.declared.world.NotOpened.{NotOpened}
+use Rattle.sq_world.specs.Readers.{IsStoreAfter}
+use Rattle.sq_world.specs.declared.world.NotOpened.{NotOpened}
 use Rattle.sq_examples.specs.Moves.{LeadsWithRow, is_of_the_move, root_row}
 
 -- what holds of a value that came out of a result

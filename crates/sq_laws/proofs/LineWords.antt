@@ -24,7 +24,7 @@ use Rattle.sq_text.specs.Fields.{key_field}
 use Rattle.sq_text.specs.HeaderFields.{given_in}
 use Rattle.sq_text.specs.Header.{given_of}
 use Rattle.sq_text.specs.Texts.{hex_byte_text, note_text}
-use Rattle.sq_steps.proofs.ReadBack.{number_is_read, all_digits}
+use Rattle.sq_world.proofs.ReadBack.{number_is_read, all_digits}
 use Rattle.sq_laws.specs.Fit.{IsFitRow}
 
 -- each byte is above a space

@@ -32,7 +32,7 @@ use Rattle.sq_transition.specs.Holds.{Holds, LinkHolds, ChunkHolds, CoreHolds, i
 use Rattle.sq_transition.proofs.Links.{index_found}
 use Rattle.sq_transition.proofs.LinkFacts.{on_its_way}
 use Rattle.sq_transition.proofs.Loads.{way_and_loads}
-use Rattle.sq_state.specs.Readers.{way_of}
+use Rattle.sq_world.specs.Readers.{way_of}
 use Rattle.sq_laws.specs.Fit.{IsFitFamily, IsFitTable, AreFitSteps}
 use Rattle.sq_laws.proofs.Histories.{family_fits}
 use Rattle.sq_results.specs.Standing.{carried, stored_families, link_families, source_families, world_families}

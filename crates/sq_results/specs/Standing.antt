@@ -8,7 +8,7 @@ use Rattle.sq_store.specs.InOrder.{families_in}
 use Rattle.sq_chunk.specs.ChunkValue.{ChunkValue}
 use Rattle.sq_exec.specs.CoreValue.{CoreValue}
 use Rattle.sq_transition.specs.WorldValue.{WorldValue, link_index}
-use Rattle.sq_state.specs.Readers.{way_of}
+use Rattle.sq_world.specs.Readers.{way_of}
 use Rattle.sq_node_model.specs.Gathered.{GatheredLink, GatheredValue}
 use Rattle.sq_results.specs.RowLines.{root_lines}
 

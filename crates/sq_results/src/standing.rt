@@ -10,7 +10,7 @@ use sq_chunk::Chunk;
 use sq_gather::Gathered;
 use sq_schema::Family;
 use sq_slab::SlabStore;
-use sq_state::World;
+use sq_world::World;
 use std::alloc::{AllocError, Global};
 use std::io;
 use std::io::Write;

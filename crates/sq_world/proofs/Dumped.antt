@@ -16,7 +16,7 @@ use Rattle.sq_transition.specs.WorldValue.{WorldValue, WholeLink, core_at, link_
 use Rattle.sq_transition.specs.Holds.{Holds, LinkHolds, ChunkHolds}
 use Rattle.sq_transition.proofs.Links.{index_found}
 use Rattle.sq_transition.proofs.Alike.{chunk_is}
-use Rattle.sq_state.specs.Dump.{dump, part_lines, link_lines, source_lines}
+use Rattle.sq_world.specs.Dump.{dump, part_lines, link_lines, source_lines}
 
 -- texts of numbers in a row are alike where those of each number are
 each_alike : (f g : ℕ → List ℕ) (from count : ℕ) → ((k : ℕ) → k < from + count → f k ≡ g k)

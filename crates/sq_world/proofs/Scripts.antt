@@ -30,11 +30,11 @@ use Rattle.sq_text.proofs.Appending.{both, kept}
 use Rattle.sq_world.specs.declared.ending.Ending.{Ending}
 use Rattle.sq_world.specs.declared.ending.Ending.TheVariants.{Done}
 use Rattle.sq_world.specs.declared.ending.ScriptManner.{ScriptManner}
-use Rattle.sq_state.specs.Dump.{dump}
+use Rattle.sq_world.specs.Dump.{dump}
 use Rattle.sq_world.specs.Echo.{answer_text, refused_text, refusal_in}
 use Rattle.sq_world.specs.Run.{Writes, GoesOnBehind, IsDumped, IsFault, EndsAtFault, AnswersLine, stopping, ending_at}
 use Rattle.sq_world.specs.Script.{LeadsTo, AreSpelled, Continues, IsAnswered, EndsWithDump, IsWritten, AnswersWorld, RunsScript}
-use Rattle.sq_state.proofs.Dumps.{nothing}
+use Rattle.sq_world.proofs.Dumps.{nothing}
 
 -- a line appends a step that it spells, or none
 line_spelled : (echoes : Bool) (o : OpeningValue) (t : Trace) (line : List ℕ) (after : Trace) (text : List ℕ) (refused : Option ℕ) → AnswersLine echoes o t line after text refused → AreSpelled o.tables t → AreSpelled o.tables after

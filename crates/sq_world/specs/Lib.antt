@@ -1,5 +1,16 @@
+pub mod Queue
+pub mod Dump
+pub mod Openings
+pub mod Readers
+pub mod Sound
+pub mod Results
+pub mod History
+pub mod Reached
 pub mod Echo
 pub mod Inputs
 pub mod Run
 pub mod Script
 pub mod Listing
+pub mod Lines
+pub mod Scripts
+pub mod Drafts

@@ -26,7 +26,7 @@ use Rattle.sq_text.specs.Header.{header_of, Opens}
 use Rattle.sq_world.specs.declared.ending.Ending.{Ending}
 use Rattle.sq_world.specs.declared.ending.Ending.TheVariants.{Done, Stopped, Fault}
 use Rattle.sq_world.specs.declared.ending.ScriptManner.{ScriptManner}
-use Rattle.sq_state.specs.Dump.{dump}
+use Rattle.sq_world.specs.Dump.{dump}
 use Rattle.sq_world.specs.Echo.{answer_text, refused_text, refusal_in}
 use Rattle.sq_world.specs.Inputs.{Writing, OfLines, OfReader}
 

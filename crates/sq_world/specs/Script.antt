@@ -13,7 +13,7 @@ use Rattle.sq_lines.specs.Given.{IsGiven}
 use Rattle.sq_text.specs.declared.located.LocatedFault.{LocatedFault}
 use Rattle.sq_text.specs.Header.{header_of, Opens}
 use Rattle.sq_text.specs.Steps.{step_of}
-use Rattle.sq_state.specs.Dump.{dump}
+use Rattle.sq_world.specs.Dump.{dump}
 use Rattle.sq_world.specs.declared.ending.Ending.{Ending}
 use Rattle.sq_world.specs.declared.ending.Ending.TheVariants.{Done, Stopped, Fault}
 use Rattle.sq_world.specs.declared.ending.ScriptManner.{ScriptManner}

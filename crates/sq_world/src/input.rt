@@ -5,9 +5,9 @@ ghost use Rattle.sq_world.specs.Script.{IsLedByLines, IsLedByReader, KeepsDumped
 
 use crate::ending::{Ending, ScriptManner};
 use crate::script::{end_by, run_script};
+use crate::world::World;
 use sq_lines::LineReader;
 use sq_schema::{MAX_TABLES, Schema};
-use sq_state::World;
 use sq_text::{InputFault, LocatedFault, WriteFault, read_header};
 use std::alloc::Global;
 use std::io::{Read, Write};

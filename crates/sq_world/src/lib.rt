@@ -1,20 +1,31 @@
-//! Runs of an input from bytes to bytes, and what moves between two plans.
-//!
-//! A [`World`], and what its calls take and return, is named here too, so that a caller needs no
-//! other crate.
+//! Worlds: the state of a world in memory and what each step does to it; runs of an input from
+//! bytes to bytes; what moves between two plans, and the script of a whole move. What the calls of
+//! a [`World`] take and return is named here too, so that a caller needs no other crate.
 #![tactic(auto)]
 
+mod draft;
 mod echo;
 mod ending;
 mod input;
 pub mod laws;
 mod listing;
+mod move_step;
+mod moves;
+mod queue;
 mod script;
+mod state;
+mod steps_ending;
+pub mod steps_laws;
+mod steps_script;
 mod telling;
+mod whole;
+mod whole_run;
+mod world;
 
 pub use ending::{Ending, RefusedLine, ScriptManner};
 pub use input::run;
 pub use listing::{list, ranges};
+pub use move_step::{MoveStep, write_step};
 pub use sq_chunk::{Chunk, Note};
 pub use sq_model::{Answer, Phase, Refusal, Step};
 pub use sq_plan::{PartId, Plan, PlanFault, PlanRange};
@@ -23,8 +34,10 @@ pub use sq_schema::{
     Cause, Family, Op, OpAnswer, OpAnswers, Reply, Root, Row, RowKey, Rows, Schema, Txn, TxnFault,
 };
 pub use sq_slab::SlabStore;
-pub use sq_state::{NotOpened, World, run_world};
 pub use sq_store::FamilyStore;
 pub use sq_text::WriteFault;
 pub use sq_tree::{Leaf, NodeId, Reading, Status};
+pub use steps_script::write_script;
 pub use telling::{Telling, Told};
+pub use whole_run::run_world;
+pub use world::{NotOpened, World};

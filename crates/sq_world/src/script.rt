@@ -3,16 +3,16 @@ ghost use Rattle.std.specs.Prelude.{◌≡◌, ℕ, Ok, Some, OnOk, IfOk};
 ghost use Rattle.std.specs.Io.KnownBytes.{Appends};
 ghost use Rattle.sq_lines.specs.Pieces.{next_line_number};
 ghost use Rattle.sq_text.specs.Steps.{step_of};
-ghost use Rattle.sq_state.specs.Dump.{dump};
+ghost use Rattle.sq_world.specs.Dump.{dump};
 ghost use Rattle.sq_world.specs.Run.{EndsAtFault, stopping, ending_at};
 ghost use Rattle.sq_world.specs.Script.{AnswersWorld, RunsScript};
 
 use crate::echo::{write_refusal, write_told};
 use crate::ending::{Ending, RefusedLine, ScriptManner};
+use crate::world::World;
 use sq_lines::{LineReader, MAX_UNENDED, Next};
 use sq_model::Step;
 use sq_schema::Schema;
-use sq_state::World;
 use sq_text::{InputFault, InputLine, LineFault, LocatedFault, WriteFault, read_step, write_fault};
 use std::alloc::Global;
 use std::io::{Read, Write};

@@ -1,13 +1,13 @@
 // The script of a whole move.
 ghost use Rattle.sq_input.specs.Recalling.{recalling_remaining};
 ghost use Rattle.sq_schema.specs.declared.schema.TheConstants.{MAX_TABLES};
-ghost use Rattle.sq_steps.specs.Scripts.{WritesScript};
+ghost use Rattle.sq_world.specs.Scripts.{WritesScript};
 ghost use Rattle.squall.specs.Session.{exit_status, EndsAs};
 
 use crate::session::{exit_status, explain_end};
 use crate::source::Source;
 use sq_input::Recalling;
-use sq_steps::write_script;
+use sq_world::write_script;
 use std::io::{Read, Write};
 use std::rt::Files;
 

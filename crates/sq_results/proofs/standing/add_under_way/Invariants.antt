@@ -1,6 +1,6 @@
 use Rattle.std.proofs.Common.{◌≡◌, ◌-◌, ◌≤◌, ◌++◌, length, take}
 use Rattle.sq_transition.specs.WorldValue.{link_index}
-use Rattle.sq_state.specs.Readers.{way_of}
+use Rattle.sq_world.specs.Readers.{way_of}
 use Rattle.sq_results.specs.RowLines.{lent_values}
 use Rattle.sq_results.specs.Standing.{carried}
 use Rattle.sq_results.proofs.standing.add_under_way.Given as goal

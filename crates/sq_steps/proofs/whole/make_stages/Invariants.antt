@@ -1,5 +1,0 @@
-use Rattle.sq_steps.specs.Drafts.{DraftGoesOn}
-use Rattle.sq_steps.proofs.whole.make_stages.Given as goal
-
-abbrev pub invariant-loop-stage : goal.invariant-loop-stage
-invariant-loop-stage l = DraftGoesOn l.initial.draft l.draft

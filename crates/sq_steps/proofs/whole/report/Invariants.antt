@@ -1,5 +1,0 @@
-use Rattle.sq_steps.specs.Drafts.{DraftGoesOn}
-use Rattle.sq_steps.proofs.whole.report.Given as goal
-
-abbrev pub invariant-loop-part : goal.invariant-loop-part
-invariant-loop-part l = DraftGoesOn l.initial.draft l.draft
