@@ -3,11 +3,11 @@ use Rattle.std.proofs.Common.{◌≡◌, ℕ, List, ◌∷◌, [], map, Option, 
 use Rattle.std.specs.Prelude.{IfOk, OnErr, MatchOption, slice_get}
 use Rattle.atomic_table.specs.Seated.{TableId}
 use Rattle.sq_ranges.specs.ReconValue.{ReconValue}
-use Rattle.sq_pull.specs.declared.pump.PumpTurn.{PumpTurn}
-use Rattle.sq_pull.specs.declared.pump.PumpTurn.TheVariants.{Won, Nothing, Spent}
-use Rattle.sq_status.specs.Seat.{SeatValue}
-use Rattle.sq_pull.specs.Seats.{AreSeatsOf, OnlyClaimed, begun_by, completed_by}
-use Rattle.sq_pull.specs.Pump.{PumpValue, HasTurned, StaysPump, PutsOff, SplitsAt, SplitsNext, SkipsNext, HasNoRound}
+use Rattle.sq_shared.specs.declared.pump.PumpTurn.{PumpTurn}
+use Rattle.sq_shared.specs.declared.pump.PumpTurn.TheVariants.{Won, Nothing, Spent}
+use Rattle.sq_shared.specs.Seat.{SeatValue}
+use Rattle.sq_shared.specs.Seats.{AreSeatsOf, OnlyClaimed, begun_by, completed_by}
+use Rattle.sq_shared.specs.Pump.{PumpValue, HasTurned, StaysPump, PutsOff, SplitsAt, SplitsNext, SkipsNext, HasNoRound}
 use Rattle.sq_node.specs.FabricValue.{FabricValue}
 use Rattle.sq_driver.specs.Pumps.{HasAllSeats, PumpDriven}
 use Rattle.sq_driver.specs.Laws.{pump_no_turn}

@@ -9,7 +9,7 @@ use Rattle.sq_node_model.specs.NodeValue.{ReceiptValue}
 use Rattle.sq_node.specs.FabricValue.{FabricValue}
 use Rattle.sq_node.specs.NodeState.{NodeState, IsNodeOf}
 use Rattle.sq_node.specs.Holds.{HoldsUnder}
-use Rattle.sq_pull.specs.Pump.{PumpValue}
+use Rattle.sq_shared.specs.Pump.{PumpValue}
 use Rattle.sq_driver.specs.Ways.{EachDriven}
 use Rattle.sq_driver.specs.Nodes.{Driven, AllDriven}
 use Rattle.sq_driver.specs.declared.teller.TellingNode.{TellingNode}

@@ -1,7 +1,7 @@
 -- The workers that a stage of a run begins with.
 use Rattle.std.specs.Prelude.{ℕ, List}
 use Rattle.sq_ranges.specs.OpeningValue.{OpeningValue}
-use Rattle.sq_pull.specs.Pump.{PumpValue}
+use Rattle.sq_shared.specs.Pump.{PumpValue}
 use Rattle.sq_store.specs.StoreValue.{StoreValue}
 use Rattle.sq_node_model.specs.NodeValue.{ReceiptValue}
 use Rattle.sq_node.specs.FabricValue.{FabricValue}

@@ -5,7 +5,7 @@ use Rattle.std.proofs.lemmas.List.{append-nil}
 use Rattle.sq_node_model.specs.NodeValue.{ReceiptValue}
 use Rattle.sq_node.specs.FabricValue.{FabricValue}
 use Rattle.sq_node.specs.NodeState.{NodeState, IsNodeOf}
-use Rattle.sq_pull.specs.Pump.{PumpValue}
+use Rattle.sq_shared.specs.Pump.{PumpValue}
 use Rattle.sq_driver.specs.Ways.{ComesBySteps, ComesStepByStep}
 use Rattle.sq_driver.specs.Nodes.{StepsOrLooks, Driven}
 use Rattle.sq_driver.specs.Told.{TellsEach, HasTold, DrivenAndTold}

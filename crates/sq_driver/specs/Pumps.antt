@@ -1,9 +1,9 @@
 -- How driven pumps change.
 use Rattle.std.specs.Prelude.{◌≡◌, ◌⊎◌, ℕ, List}
 use Rattle.sq_ranges.specs.ReconValue.{ReconValue}
-use Rattle.sq_pull.specs.declared.pump.PumpTurn.{PumpTurn}
-use Rattle.sq_pull.specs.Seats.{AreSeatsOf, OnlyClaimed}
-use Rattle.sq_pull.specs.Pump.{PumpValue, HasTurned, PutsOff, SplitsNext}
+use Rattle.sq_shared.specs.declared.pump.PumpTurn.{PumpTurn}
+use Rattle.sq_shared.specs.Seats.{AreSeatsOf, OnlyClaimed}
+use Rattle.sq_shared.specs.Pump.{PumpValue, HasTurned, PutsOff, SplitsNext}
 use Rattle.sq_node.specs.FabricValue.{FabricValue}
 use Rattle.sq_driver.specs.Ways.{ComesStepByStep, EachDriven}
 

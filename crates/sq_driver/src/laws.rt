@@ -2,7 +2,7 @@
 //! proves.
 ghost use Rattle.std.specs.Prelude.{ℕ, Bool, List, All};
 ghost use Rattle.sq_ranges.specs.Prelude.{OpeningValue, IsOpening};
-ghost use Rattle.sq_pull.specs.Pump.{PumpValue};
+ghost use Rattle.sq_shared.specs.Pump.{PumpValue};
 ghost use Rattle.sq_node_model.specs.Prelude.{ReceiptValue, BeganWith, first_began};
 ghost use Rattle.sq_node.specs.Prelude.{FabricValue, NodeState, IsNodeOf, HoldsUnder, IsOpened};
 ghost use Rattle.sq_driver.specs.Nodes.{AllDriven};

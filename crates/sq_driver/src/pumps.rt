@@ -1,14 +1,14 @@
 // Driving pumps.
 ghost use Rattle.std.specs.Prelude.{◌≡◌, ◌+◌};
-ghost use Rattle.sq_pull.specs.Seats.{AreSeatsOf};
+ghost use Rattle.sq_shared.specs.Seats.{AreSeatsOf};
 ghost use Rattle.sq_driver.specs.Pumps.{PumpDriven};
 
 use crate::attendance::Attendance;
 use crate::gate::{Gate, NodeStep, OwnGate, WorkerEvent};
 use crate::worker::{Turn, Worker, take_turns};
 use sq_node::Fabric;
-use sq_pull::{Pump, PumpTurn};
 use sq_ranges::SegId;
+use sq_shared::{Pump, PumpTurn};
 use sq_tree::{LEAVES, NodeId};
 use std::sync::Wait;
 

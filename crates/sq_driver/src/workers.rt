@@ -10,7 +10,7 @@ use crate::gate::{Gate, OwnGate};
 use crate::teller::{Teller, TellingNode};
 use crate::worker::{Worker, take_turns};
 use sq_node::Fabric;
-use sq_pull::Pump;
+use sq_shared::Pump;
 use std::sync::Wait;
 use std::thread;
 use std::thread::{Threads, join_mut};

@@ -11,7 +11,7 @@ use crate::open_jobs::OpenJobs;
 use rtrb::Consumer;
 use sq_driver::{TellingNode, WorkersEnd, run_workers};
 use sq_node::{Fabric, Receipt};
-use sq_pull::Pump;
+use sq_shared::Pump;
 use sq_teller::RingTeller;
 use std::sync::Wait;
 use std::thread::{Threads, join_mut};

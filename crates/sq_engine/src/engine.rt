@@ -1,6 +1,6 @@
 // A long-running engine.
 ghost use Rattle.std.specs.Prelude.{◌≡◌, ◌≤◌, true, option_copied, IfOk, IfErr, OnOk, OnErr};
-ghost use Rattle.sq_pull.specs.declared.numbers.TheConstants.{MAX_PUMPS};
+ghost use Rattle.sq_shared.specs.declared.numbers.TheConstants.{MAX_PUMPS};
 ghost use Rattle.sq_ranges.specs.Prelude.{IsSetUp};
 ghost use Rattle.sq_ranges.specs.Between.{recon_fault};
 ghost use Rattle.sq_engine.specs.Engine.{IsReached, HasOpened, HasProgress, rests, rows_in};
@@ -86,7 +86,7 @@ pub struct Engine {
 impl Model for Engine {
     ghost use Rattle.std.specs.Prelude.{◌≤◌};
     ghost use Rattle.std.specs.Coded.{codes};
-    ghost use Rattle.sq_pull.specs.declared.numbers.TheConstants.{MAX_PUMPS};
+    ghost use Rattle.sq_shared.specs.declared.numbers.TheConstants.{MAX_PUMPS};
     ghost use Rattle.sq_ranges.specs.Prelude.{IsSetUp};
     ghost use Rattle.sq_store.specs.Prelude.{store_coded};
     ghost use Rattle.sq_engine.specs.Values.{EngineValue, engine_value, at_value};

@@ -4,8 +4,8 @@ use Rattle.std.specs.Prelude.{slice_get, Some}
 use Rattle.std.specs.List.{flat_map}
 use Rattle.std.proofs.lemmas.Option.{same_Some}
 use Rattle.sq_schema.specs.TxnValue.{TxnValue}
-use Rattle.sq_link.specs.Values.{LinkValue}
-use Rattle.sq_status.specs.Seat.{SeatValue}
+use Rattle.sq_shared.specs.Values.{LinkValue}
+use Rattle.sq_shared.specs.Seat.{SeatValue}
 use Rattle.sq_node_model.specs.NodeValue.{ReceiptValue}
 use Rattle.sq_store.specs.StoreValue.{StoreValue}
 use Rattle.sq_node.specs.Ends.{src_of, dst_of}

@@ -12,11 +12,11 @@ use Rattle.std.proofs.lemmas.Option.{slice_get_within, get_or_from_slice_get}
 use Rattle.sq_ranges.specs.declared.recon.Range.{Range}
 use Rattle.sq_ranges.specs.ReconValue.{ReconValue, IsRecon, is_link, stage_on}
 use Rattle.sq_exec.specs.CoreValue.{has_ends}
-use Rattle.sq_link.specs.Values.{LinkValue}
+use Rattle.sq_shared.specs.Values.{LinkValue}
 use Rattle.sq_model.proofs.Lists.{any_in, Contains-slice_get, slice_get-Contains, list_all-Contains}
 use Rattle.sq_node_model.proofs.Lists.{at_map, stands_at}
 use Rattle.sq_node_model.proofs.Members.{Contains-map}
-use Rattle.sq_pull.specs.Pump.{PumpValue}
+use Rattle.sq_shared.specs.Pump.{PumpValue}
 use Rattle.sq_node.specs.FabricValue.{FabricValue, IsFabric, ends_of}
 use Rattle.sq_node.specs.NodeState.{NodeState, IsNodeOf}
 use Rattle.sq_node.specs.Opened.{AreFirstSeats}

@@ -6,9 +6,9 @@ use Rattle.std.proofs.lemmas.List.{length-map, length-set, map-append, get_or-se
 use Rattle.std.proofs.lemmas.Option.{same_Some, slice_get_within}
 use Rattle.atomic_table.specs.Seated.{TableId}
 use Rattle.sq_tree.specs.declared.status.Status.{Status}
-use Rattle.sq_status.specs.Seat.{SeatValue}
-use Rattle.sq_status.specs.Rule.{IsTreeOf}
-use Rattle.sq_pull.specs.Seats.{AreSeatsOf}
+use Rattle.sq_shared.specs.Seat.{SeatValue}
+use Rattle.sq_shared.specs.Rule.{IsTreeOf}
+use Rattle.sq_shared.specs.Seats.{AreSeatsOf}
 use Rattle.sq_gather.specs.Trees.{AreTreesOf}
 use Rattle.sq_node_model.proofs.Members.{slice_get-front, slice_get-pushed}
 use Rattle.sq_gather.proofs.Lists.{push_same}

@@ -4,7 +4,7 @@ use Rattle.std.specs.Prelude.{map, ◌⊎◌, ◌==◌, slice_get, slice_index_o
 use Rattle.std.proofs.Math.Bool.{and_comm}
 use Rattle.std.proofs.lemmas.Option.{same_Some, slice_get_within, slice_get-get_or}
 use Rattle.sq_exec.specs.OutLink.{new_out_link}
-use Rattle.sq_link.specs.Values.{LinkValue}
+use Rattle.sq_shared.specs.Values.{LinkValue}
 use Rattle.sq_node_model.proofs.Lists.{stands_at}
 use Rattle.sq_node_model.proofs.Members.{push_stood}
 use Rattle.sq_node.specs.Ends.{EndValue, no_link, link_at, link_between, src_of, dst_of, end_at, AreEnds}

@@ -5,9 +5,9 @@ use Rattle.std.specs.List.{flat_map}
 use Rattle.std.proofs.lemmas.List.{length-map}
 use Rattle.std.proofs.lemmas.Option.{same_Some, slice_get_within}
 use Rattle.sq_tree.specs.declared.status.Status.{Status}
-use Rattle.sq_status.specs.declared.view.View.{View}
-use Rattle.sq_status.specs.View.{took}
-use Rattle.sq_status.specs.Seat.{SeatValue}
+use Rattle.sq_shared.specs.declared.view.View.{View}
+use Rattle.sq_shared.specs.View.{took}
+use Rattle.sq_shared.specs.Seat.{SeatValue}
 use Rattle.sq_node_model.proofs.Lists.{stands_at}
 use Rattle.sq_node.specs.NodeState.{views_of}
 use Rattle.sq_gather.specs.Trees.{AwaitOwners, AreJoined, AreWhole, AreTreesOf, AreClosed, view_with}

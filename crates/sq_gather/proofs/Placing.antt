@@ -11,9 +11,9 @@ use Rattle.sq_ranges.specs.declared.recon.Link.{Link}
 use Rattle.sq_ranges.specs.ReconValue.{ReconValue, AreLinks}
 use Rattle.sq_ranges.specs.OpeningValue.{OpeningValue}
 use Rattle.sq_ranges.specs.Opening.{IsOpening}
-use Rattle.sq_status.specs.declared.view.View.{View}
-use Rattle.sq_status.specs.Seat.{SeatValue}
-use Rattle.sq_pull.specs.Pump.{PumpValue}
+use Rattle.sq_shared.specs.declared.view.View.{View}
+use Rattle.sq_shared.specs.Seat.{SeatValue}
+use Rattle.sq_shared.specs.Pump.{PumpValue}
 use Rattle.sq_node_model.specs.BeganWith.{BeganWith, CanBegin}
 use Rattle.sq_node_model.specs.NodeValue.{ReceiptValue, NodeValue}
 use Rattle.sq_node_model.specs.NodeHolds.{NodeHolds}

@@ -2,7 +2,7 @@
 use Rattle.std.proofs.Common.{◌≡◌, ℕ, ◌+◌, List, length, refl, sym, ◌∙◌}
 use Rattle.sq_ranges.specs.OpeningValue.{OpeningValue}
 use Rattle.sq_ranges.specs.Opening.{IsOpening}
-use Rattle.sq_pull.specs.Pump.{PumpValue}
+use Rattle.sq_shared.specs.Pump.{PumpValue}
 use Rattle.sq_node_model.specs.BeganWith.{BeganWith, first_began, CanBegin}
 use Rattle.sq_node_model.specs.Gathered.{GatheredValue}
 use Rattle.sq_node_model.specs.Placed.{IsPlaced}

@@ -5,10 +5,10 @@ use Rattle.sq_schema.specs.TxnValue.{TxnValue}
 use Rattle.sq_store.specs.StoreValue.{StoreValue}
 use Rattle.sq_waiting.specs.Waiting.{Arrival}
 use Rattle.sq_exec.specs.Kept.{IsCore}
-use Rattle.sq_link.specs.Values.{LinkValue}
-use Rattle.sq_status.specs.Seat.{SeatValue}
+use Rattle.sq_shared.specs.Values.{LinkValue}
+use Rattle.sq_shared.specs.Seat.{SeatValue}
 use Rattle.sq_node_model.specs.NodeValue.{ReceiptValue}
-use Rattle.sq_pull.specs.Seats.{AreSeatsOf}
+use Rattle.sq_shared.specs.Seats.{AreSeatsOf}
 use Rattle.sq_node.specs.FabricValue.{FabricValue, AreFirst}
 use Rattle.sq_node.specs.NodeState.{NodeState}
 use Rattle.sq_gather.specs.LinkEnds.{LinkEndsValue}

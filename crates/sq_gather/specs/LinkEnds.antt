@@ -2,7 +2,7 @@
 use Rattle.std.specs.Prelude.{ℕ, List, Option}
 use Rattle.sq_chunk.specs.declared.chunk.Note.{Note}
 use Rattle.sq_chunk.specs.ChunkValue.{ChunkValue}
-use Rattle.sq_link.specs.Values.{PassValue}
+use Rattle.sq_shared.specs.Values.{PassValue}
 
 -- of the source: the sending end, the notes of all chunks that were cut and the chunk that isn't
 -- sent; of the destination: the receiving end and the chunk that isn't loaded; and the room for

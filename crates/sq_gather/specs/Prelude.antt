@@ -32,7 +32,7 @@ pub use Rattle.sq_schema.specs.Prelude.{FamilyValue, rows_in}
 pub use Rattle.sq_schema.specs.Table.{TableValue, is_opening}
 pub use Rattle.sq_schema.specs.TxnValue.{TxnValue}
 pub use Rattle.sq_schema.specs.declared.root.TheConstants.{ROOT_END}
-pub use Rattle.sq_status.specs.View.{one_if}
+pub use Rattle.sq_shared.specs.View.{one_if}
 pub use Rattle.sq_store.specs.First.{IsFirst}
 pub use Rattle.sq_store.specs.InOrder.{AreKeyed}
 pub use Rattle.sq_store.specs.Listed.{roots_rise}

@@ -2,11 +2,11 @@
 use Rattle.std.specs.Prelude.{◌≡◌, ℕ, ◌+◌, List, [], ◌∷◌, length, map, fold, slice_get, slice_index_or, Some}
 use Rattle.atomic_table.specs.Seated.{TableId}
 use Rattle.sq_tree.specs.declared.status.Status.{Status}
-use Rattle.sq_status.specs.declared.view.View.{View}
-use Rattle.sq_status.specs.View.{took}
-use Rattle.sq_status.specs.Seat.{SeatValue}
-use Rattle.sq_status.specs.Rule.{IsTreeOf}
-use Rattle.sq_pull.specs.Seats.{AreSeatsOf}
+use Rattle.sq_shared.specs.declared.view.View.{View}
+use Rattle.sq_shared.specs.View.{took}
+use Rattle.sq_shared.specs.Seat.{SeatValue}
+use Rattle.sq_shared.specs.Rule.{IsTreeOf}
+use Rattle.sq_shared.specs.Seats.{AreSeatsOf}
 use Rattle.sq_node.specs.NodeState.{views_of}
 
 -- each owner has a seat of each of these trees

@@ -3,7 +3,7 @@ ghost use Rattle.std.specs.Prelude.{◌≡◌, ◌+◌, Some, IfOk};
 ghost use Rattle.sq_gather.specs.Links.{no_ends};
 
 use sq_chunk::{Chunk, Note};
-use sq_link::{RecvPass, SendPass, SharedLink};
+use sq_shared::{RecvPass, SendPass, SharedLink};
 use std::alloc::{AllocError, Global};
 use std::marker::Model;
 

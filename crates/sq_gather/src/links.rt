@@ -4,9 +4,9 @@ ghost use Rattle.sq_gather.specs.Links.{HasBothEnds, IsClosed, HaveBothEnds, Are
 
 use crate::link_ends::LinkEnds;
 use sq_chunk::{Chunk, Note};
-use sq_link::SharedLink;
 use sq_plan::PartId;
 use sq_ranges::Link;
+use sq_shared::SharedLink;
 use std::marker::Model;
 use std::sync::Wait;
 

@@ -1,7 +1,7 @@
 // Continuing a run from what was gathered: in the next stage of a move, or in another move.
 ghost use Rattle.std.specs.Prelude.{◌≡◌, ◌+◌, ◌≤◌, length, IfOk, IfErr, OnOk};
 ghost use Rattle.sq_schema.specs.Prelude.{TableValue};
-ghost use Rattle.sq_pull.specs.declared.numbers.TheConstants.{MAX_PUMPS};
+ghost use Rattle.sq_shared.specs.declared.numbers.TheConstants.{MAX_PUMPS};
 ghost use Rattle.sq_ranges.specs.Prelude.{IsOpening};
 ghost use Rattle.sq_node_model.specs.Prelude.{folded_opening};
 ghost use Rattle.sq_node.specs.Prelude.{IsFabric, IsReopened, AllHoldAsBegun};

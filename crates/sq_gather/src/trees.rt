@@ -1,10 +1,10 @@
 // Closing the trees.
 ghost use Rattle.std.specs.Prelude.{◌≡◌, [], ◌∷◌, length, map};
-ghost use Rattle.sq_pull.specs.Seats.{AreSeatsOf};
+ghost use Rattle.sq_shared.specs.Seats.{AreSeatsOf};
 ghost use Rattle.sq_node.specs.Prelude.{AreFirst};
 ghost use Rattle.sq_gather.specs.Trees.{AllAreSeatsOf, AwaitOwners, AreJoined, AreWhole, AreTreesOf, AreClosed};
 
-use sq_status::{StatusTree, TreeSeat};
+use sq_shared::{StatusTree, TreeSeat};
 use sq_tree::{NODES, Status};
 
 /// Closes the trees, after all other seats were joined into those that the trees were opened with.

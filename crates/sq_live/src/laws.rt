@@ -2,8 +2,8 @@
 ghost use Rattle.std.specs.Prelude.{◌≡◌, ◌↔◌, ℕ, Bool, List, [], Ok, Err};
 ghost use Rattle.sq_lines.specs.Pieces.{PieceValue};
 ghost use Rattle.sq_ranges.specs.Prelude.{OpeningValue};
-ghost use Rattle.sq_pull.specs.declared.numbers.TheConstants.{MAX_OWNERS, MAX_PUMPS, MAX_CLAIMS};
-ghost use Rattle.sq_pull.specs.Numbers.{reactive_pull};
+ghost use Rattle.sq_shared.specs.declared.numbers.TheConstants.{MAX_OWNERS, MAX_PUMPS, MAX_CLAIMS};
+ghost use Rattle.sq_shared.specs.Numbers.{reactive_pull};
 ghost use Rattle.sq_node.specs.declared.fabric.TheConstants.{REQUEST_PLACES, JOB_PLACES};
 ghost use Rattle.sq_audit.specs.declared.job.Job.{Job};
 ghost use Rattle.sq_live.specs.declared.job_list.TheConstants.{MAX_JOBS};

@@ -4,7 +4,7 @@ use Rattle.std.specs.Prelude.{◌⊎◌, ◌≢◌, ◌==◌, Contains, remove, 
 use Rattle.std.proofs.lemmas.Bool.Decides.{eqb_tells}
 use Rattle.std.proofs.lemmas.Option.{same_Some}
 use Rattle.sq_model.proofs.Lists.{Contains-slice_get, slice_get-Contains}
-use Rattle.sq_status.specs.Seat.{SeatValue}
+use Rattle.sq_shared.specs.Seat.{SeatValue}
 use Rattle.sq_exec.specs.Runs.{is_whole}
 use Rattle.sq_exec.specs.CoreValue.{CoreValue, loaded_at}
 use Rattle.sq_node_model.proofs.Members.{set_new, removed_stood, removed_kept}

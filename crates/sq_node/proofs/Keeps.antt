@@ -12,15 +12,15 @@ use Rattle.sq_ranges.specs.Opening.{IsOpening}
 use Rattle.sq_schema.specs.TxnValue.{TxnValue}
 use Rattle.sq_store.specs.StoreValue.{StoreValue}
 use Rattle.sq_tree.specs.declared.status.Status.TheVariants.{Partial, Complete}
-use Rattle.sq_status.specs.Plays.{Won}
-use Rattle.sq_status.specs.Seat.{SeatValue}
+use Rattle.sq_shared.specs.Plays.{Won}
+use Rattle.sq_shared.specs.Seat.{SeatValue}
 use Rattle.sq_exec.specs.declared.outcome.Outcome.{Outcome}
 use Rattle.sq_exec.specs.OutLink.{OutLinkValue}
 use Rattle.sq_exec.specs.Runs.{is_whole}
 use Rattle.sq_exec.specs.CoreValue.{CoreValue, out_at, with_out, loaded_at, inbox_at}
 use Rattle.sq_exec.specs.Serving.{must_wait, IsTaken}
 use Rattle.sq_exec.specs.Moving.{can_load, loaded_core, begun_in, may_load}
-use Rattle.sq_pull.specs.Seats.{StepsAt}
+use Rattle.sq_shared.specs.Seats.{StepsAt}
 use Rattle.sq_node_model.specs.Stages.{runs_in}
 use Rattle.sq_node_model.specs.BeganWith.{BeganWith}
 use Rattle.sq_node_model.specs.NodeValue.{ReceiptValue, put}

@@ -6,12 +6,12 @@ use Rattle.std.proofs.lemmas.List.Elements.{Contains-append_right}
 use Rattle.std.proofs.lemmas.Option.{same_Some, slice_get_within, slice_get-get_or}
 use Rattle.sq_tree.specs.declared.status.Status.{Status}
 use Rattle.sq_tree.specs.declared.status.Status.TheVariants.{Split, Partial, Complete}
-use Rattle.sq_status.specs.declared.view.View.{View}
-use Rattle.sq_status.specs.View.{HasSeen}
-use Rattle.sq_status.specs.Plays.{Won}
-use Rattle.sq_status.specs.Walks.{WalkedTo}
-use Rattle.sq_status.specs.Seat.{SeatValue}
-use Rattle.sq_pull.specs.Seats.{StepsAt}
+use Rattle.sq_shared.specs.declared.view.View.{View}
+use Rattle.sq_shared.specs.View.{HasSeen}
+use Rattle.sq_shared.specs.Plays.{Won}
+use Rattle.sq_shared.specs.Walks.{WalkedTo}
+use Rattle.sq_shared.specs.Seat.{SeatValue}
+use Rattle.sq_shared.specs.Seats.{StepsAt}
 use Rattle.sq_node_model.proofs.Members.{set_kept, set_new}
 use Rattle.sq_node.specs.Settled.{IsSettled, HasSettled, SawComplete, SawSegmentComplete, AreSeen}
 use Rattle.sq_node.specs.Looks.{OnlyLooked, SeatsLooked, LooksAndCompletes}

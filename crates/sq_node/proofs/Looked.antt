@@ -17,14 +17,14 @@ use Rattle.sq_tree.specs.Status.{is_past, is_split, is_complete}
 use Rattle.sq_tree.proofs.Nested.{node_bounds, node_within, halves_of}
 use Rattle.sq_tree.proofs.Covering.{high_half}
 use Rattle.sq_model.proofs.Lists.{Contains-first}
-use Rattle.sq_status.specs.declared.view.View.{View}
-use Rattle.sq_status.specs.View.{HasSeen}
-use Rattle.sq_status.specs.Plays.{Found, Won}
-use Rattle.sq_status.specs.Calls.{BeginRefused, CompleteRefused}
+use Rattle.sq_shared.specs.declared.view.View.{View}
+use Rattle.sq_shared.specs.View.{HasSeen}
+use Rattle.sq_shared.specs.Plays.{Found, Won}
+use Rattle.sq_shared.specs.Calls.{BeginRefused, CompleteRefused}
 use Rattle.atomic_table.specs.Seated.{TableId}
-use Rattle.sq_status.specs.Seat.{SeatValue, IsSameSeat}
-use Rattle.sq_pull.specs.Seats.{AreSeatsOf, StepsAt}
-use Rattle.sq_pull.proofs.Stepped.{steps_at, seats_stay}
+use Rattle.sq_shared.specs.Seat.{SeatValue, IsSameSeat}
+use Rattle.sq_shared.specs.Seats.{AreSeatsOf, StepsAt}
+use Rattle.sq_shared.proofs.Stepped.{steps_at, seats_stay}
 use Rattle.sq_node_model.proofs.Members.{set_stood, set_kept, set_new}
 use Rattle.sq_node.specs.Settled.{IsSettled, HasSettled, SawComplete}
 use Rattle.sq_node.specs.Idle.{FoundUndone, SegmentUndone}

@@ -8,7 +8,7 @@ use Rattle.std.proofs.lemmas.List.Kept.{IsStrictlySortedBy-filter}
 use Rattle.sq_model.proofs.Lists.{Contains-nothing, Contains-first, Contains-later, Contains-cases, Contains-filter, filter-first, filter-other}
 use Rattle.sq_ranges.specs.ReconValue.{ReconValue, AreLinks, is_link, stage_on, link_cmp}
 use Rattle.sq_ranges.specs.declared.recon.Link.{Link}
-use Rattle.sq_link.specs.Values.{LinkValue, PassValue}
+use Rattle.sq_shared.specs.Values.{LinkValue, PassValue}
 use Rattle.sq_node.specs.Ends.{EndValue, no_link, link_at, end_at}
 use Rattle.sq_node.specs.FabricValue.{ends_of, AreStageLinks}
 use Rattle.sq_node.specs.Opened.{HasAllEnds, new_end}

@@ -9,10 +9,10 @@ use Rattle.std.proofs.lemmas.Option.{same_Some, slice_get_within, slice_get-get_
 use Rattle.atomic_table.specs.Seated.{TableId}
 use Rattle.sq_schema.specs.Table.{TableValue}
 use Rattle.sq_ranges.specs.OpeningValue.{OpeningValue}
-use Rattle.sq_link.specs.Values.{LinkValue}
-use Rattle.sq_status.specs.declared.view.View.{View}
-use Rattle.sq_status.specs.View.{fresh, gave}
-use Rattle.sq_status.specs.Seat.{SeatValue}
+use Rattle.sq_shared.specs.Values.{LinkValue}
+use Rattle.sq_shared.specs.declared.view.View.{View}
+use Rattle.sq_shared.specs.View.{fresh, gave}
+use Rattle.sq_shared.specs.Seat.{SeatValue}
 use Rattle.sq_exec.specs.declared.run.Run.{Run}
 use Rattle.sq_exec.specs.Runs.{is_whole}
 use Rattle.sq_exec.specs.GivenUp.{none_given_up}
@@ -33,8 +33,8 @@ use Rattle.sq_node.specs.FabricValue.{FabricValue, IsFabric, HasBegun}
 use Rattle.sq_node.specs.NodeState.{NodeState, IsNodeOf, views_of, passed_by}
 use Rattle.sq_node.specs.Holds.{HoldsUnder}
 use Rattle.sq_node.specs.Settled.{IsNode}
-use Rattle.sq_pull.specs.Seats.{AreSeatsOf}
-use Rattle.sq_pull.specs.Pump.{PumpValue}
+use Rattle.sq_shared.specs.Seats.{AreSeatsOf}
+use Rattle.sq_shared.specs.Pump.{PumpValue}
 use Rattle.sq_node.specs.Opened.{IsNewPump, AreNewPumps, AreFirstSeats, AreNewSeats, GaveEach, HasEnds, LeavesEnds, HavePassedNothing, AreNewEnds, IsFabricOf, IsNewNode, AreNewNodes, AreNewNodesFrom, AllOpenWith, AllHoldUnder, IsReopened, opened_stores, running_core}
 use Rattle.sq_node.proofs.NewLinks.{before, last}
 

@@ -2,7 +2,7 @@
 use Rattle.std.proofs.Common.{◌≡◌, ℕ, ◌<◌, Bool, true, false, List, length, get_or, Some, sym, ap, ◌∙◌, subst, ⊎_elim}
 use Rattle.std.specs.Prelude.{◌≢◌, slice_get, slice_set}
 use Rattle.std.proofs.lemmas.Option.{slice_get-get_or}
-use Rattle.sq_status.specs.Seat.{SeatValue}
+use Rattle.sq_shared.specs.Seat.{SeatValue}
 use Rattle.sq_node_model.proofs.Members.{set_stood, set_kept, set_new}
 use Rattle.sq_node.specs.Settled.{SawSegmentComplete, AreSeen}
 use Rattle.sq_node.proofs.Known.{AllKnowNoLess, eq_or_not, complete_seats}

@@ -14,16 +14,16 @@ use Rattle.sq_exec.specs.CoreValue.{CoreValue}
 use Rattle.sq_exec.specs.Location.{route}
 use Rattle.sq_exec.specs.Serving.{served, IsTaken, IsResumed}
 use Rattle.sq_ranges.specs.ReconValue.{ReconValue}
-use Rattle.sq_status.specs.declared.view.View.{View}
-use Rattle.sq_status.specs.declared.tree.walks.LeafClaim.{LeafClaim}
-use Rattle.sq_status.specs.declared.tree.walks.LeafClaim.TheVariants as at
-use Rattle.sq_status.specs.Seat.{SeatValue}
-use Rattle.sq_pull.specs.declared.numbers.TheConstants.{MAX_CLAIMS}
-use Rattle.sq_pull.specs.Numbers.{reactive_pull}
-use Rattle.sq_pull.specs.Seats.{StepsAt, ClaimsLeaf}
-use Rattle.sq_pull.specs.Puller.{PullerValue, RoomyPuller, HasPulled, next_reactive}
-use Rattle.sq_pull.specs.declared.puller.ReactivePull.{ReactivePull}
-use Rattle.sq_pull.specs.declared.puller.ReactivePull.TheVariants as pull
+use Rattle.sq_shared.specs.declared.view.View.{View}
+use Rattle.sq_shared.specs.declared.tree.walks.LeafClaim.{LeafClaim}
+use Rattle.sq_shared.specs.declared.tree.walks.LeafClaim.TheVariants as at
+use Rattle.sq_shared.specs.Seat.{SeatValue}
+use Rattle.sq_shared.specs.declared.numbers.TheConstants.{MAX_CLAIMS}
+use Rattle.sq_shared.specs.Numbers.{reactive_pull}
+use Rattle.sq_shared.specs.Seats.{StepsAt, ClaimsLeaf}
+use Rattle.sq_shared.specs.Puller.{PullerValue, RoomyPuller, HasPulled, next_reactive}
+use Rattle.sq_shared.specs.declared.puller.ReactivePull.{ReactivePull}
+use Rattle.sq_shared.specs.declared.puller.ReactivePull.TheVariants as pull
 use Rattle.sq_node_model.specs.NodeValue.{ReceiptValue}
 use Rattle.sq_node_model.specs.Steps.{receipt_of}
 use Rattle.sq_node.specs.NodeState.{NodeState, position_before}

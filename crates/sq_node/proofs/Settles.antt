@@ -12,7 +12,7 @@ use Rattle.sq_ranges.specs.declared.recon.Range.{Range}
 use Rattle.sq_ranges.specs.ReconValue.{ReconValue}
 use Rattle.sq_chunk.specs.declared.chunk.Note.{Note}
 use Rattle.sq_chunk.specs.ChunkValue.{ChunkValue}
-use Rattle.sq_status.specs.Seat.{SeatValue}
+use Rattle.sq_shared.specs.Seat.{SeatValue}
 use Rattle.sq_exec.specs.declared.run.Run.{Run}
 use Rattle.sq_exec.specs.Runs.{is_whole, runs_with}
 use Rattle.sq_exec.specs.CoreValue.{CoreValue, with_inbox, loaded_at}

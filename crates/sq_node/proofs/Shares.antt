@@ -6,10 +6,10 @@ use Rattle.std.proofs.lemmas.List.{length-map, length-set, map-append, take_more
 use Rattle.std.proofs.lemmas.Option.{same_Some, slice_get_within, slice_get_read}
 use Rattle.std.proofs.Math.Seq.{map-set_same}
 use Rattle.atomic_table.specs.Seated.{TableId}
-use Rattle.sq_status.specs.declared.view.View.{View}
-use Rattle.sq_status.specs.View.{fresh, gave}
-use Rattle.sq_status.specs.Seat.{SeatValue}
-use Rattle.sq_pull.specs.Seats.{AreSeatsOf}
+use Rattle.sq_shared.specs.declared.view.View.{View}
+use Rattle.sq_shared.specs.View.{fresh, gave}
+use Rattle.sq_shared.specs.Seat.{SeatValue}
+use Rattle.sq_shared.specs.Seats.{AreSeatsOf}
 use Rattle.sq_node_model.proofs.Members.{set_stood, set_kept, set_new, push_stood}
 use Rattle.sq_node.specs.FabricValue.{AreFirst}
 use Rattle.sq_node.specs.Opened.{AreFirstSeats, GaveEach, first_view}

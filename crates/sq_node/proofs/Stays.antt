@@ -5,17 +5,17 @@ use Rattle.std.proofs.lemmas.List.{length-set}
 use Rattle.std.proofs.lemmas.Option.{same_Some}
 use Rattle.sq_schema.specs.TxnValue.{TxnValue}
 use Rattle.atomic_table.specs.Seated.{TableId}
-use Rattle.sq_link.specs.Values.{LinkValue}
+use Rattle.sq_shared.specs.Values.{LinkValue}
 use Rattle.sq_ranges.specs.declared.recon.Range.{Range}
 use Rattle.sq_plan.specs.PlanValue.{PlanValue}
-use Rattle.sq_status.specs.Seat.{SeatValue}
+use Rattle.sq_shared.specs.Seat.{SeatValue}
 use Rattle.sq_exec.specs.declared.outcome.Outcome.{Outcome}
 use Rattle.sq_exec.specs.declared.outcome.Outcome.TheVariants.{Done, Moved, Waits}
 use Rattle.sq_exec.specs.CoreValue.{CoreValue}
 use Rattle.sq_exec.specs.Moving.{begun_in}
 use Rattle.sq_exec.specs.Serving.{IsTaken}
-use Rattle.sq_pull.specs.Seats.{AreSeatsOf}
-use Rattle.sq_pull.proofs.Stepped.{seats_stay}
+use Rattle.sq_shared.specs.Seats.{AreSeatsOf}
+use Rattle.sq_shared.proofs.Stepped.{seats_stay}
 use Rattle.sq_node_model.specs.NodeValue.{put}
 use Rattle.sq_node_model.proofs.Puts.{put_each, put_set, put_still}
 use Rattle.sq_node.specs.declared.stepped.Stepped.{Stepped}

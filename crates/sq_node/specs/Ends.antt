@@ -2,8 +2,8 @@
 use Rattle.std.specs.Prelude.{◌≡◌, ℕ, ◌<◌, ◌==◌, ◌&&◌, List, [], ◌∷◌, ◌++◌, length, position, slice_index_or, Option, Some, None, option_map}
 use Rattle.crossbeam_queue.specs.Fifo.{Held}
 use Rattle.sq_chunk.specs.ChunkValue.{ChunkValue}
-use Rattle.sq_link.specs.Values.{LinkValue, PassValue}
-use Rattle.sq_link.specs.Order.{IsEndOf, ComesAfter}
+use Rattle.sq_shared.specs.Values.{LinkValue, PassValue}
+use Rattle.sq_shared.specs.Order.{IsEndOf, ComesAfter}
 use Rattle.sq_node.specs.declared.ends.LinkEnd.{LinkEnd}
 
 -- an end of a link: the place of the link, and the pass with the chunks that went by it

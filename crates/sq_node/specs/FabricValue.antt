@@ -5,9 +5,9 @@ use Rattle.atomic_table.specs.Seated.{TableId}
 use Rattle.sq_ranges.specs.declared.recon.Link.{Link}
 use Rattle.sq_ranges.specs.declared.segment.TheConstants.{SEGMENT_LIMIT}
 use Rattle.sq_ranges.specs.ReconValue.{ReconValue, is_link, stage_on, link_cmp}
-use Rattle.sq_link.specs.Values.{LinkValue}
-use Rattle.sq_status.specs.Seat.{SeatValue}
-use Rattle.sq_pull.specs.Seats.{AreSeatsOf}
+use Rattle.sq_shared.specs.Values.{LinkValue}
+use Rattle.sq_shared.specs.Seat.{SeatValue}
+use Rattle.sq_shared.specs.Seats.{AreSeatsOf}
 use Rattle.sq_node_model.specs.NodeValue.{ReceiptValue}
 use Rattle.sq_node_model.specs.BeganWith.{BeganWith}
 

@@ -3,10 +3,10 @@ use Rattle.std.specs.Prelude.{◌≡◌, ◌⊎◌, ℕ, false, List, ◌++◌, 
 use Rattle.sq_tree.specs.declared.status.Status.{Status}
 use Rattle.sq_tree.specs.declared.status.Status.TheVariants.{Complete}
 use Rattle.sq_tree.specs.Status.{is_partial}
-use Rattle.sq_status.specs.declared.view.View.{View}
-use Rattle.sq_status.specs.Plays.{Won}
-use Rattle.sq_status.specs.Seat.{SeatValue}
-use Rattle.sq_pull.specs.Seats.{StepsAt}
+use Rattle.sq_shared.specs.declared.view.View.{View}
+use Rattle.sq_shared.specs.Plays.{Won}
+use Rattle.sq_shared.specs.Seat.{SeatValue}
+use Rattle.sq_shared.specs.Seats.{StepsAt}
 use Rattle.sq_node.specs.Settled.{IsSettled}
 
 -- a seat looked at nodes, and did nothing else

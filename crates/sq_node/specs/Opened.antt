@@ -5,16 +5,16 @@ use Rattle.std.specs.List.{range_with_len}
 use Rattle.atomic_table.specs.Seated.{TableId}
 use Rattle.sq_ranges.specs.ReconValue.{ReconValue, stages}
 use Rattle.sq_ranges.specs.OpeningValue.{OpeningValue}
-use Rattle.sq_link.specs.Values.{LinkValue}
-use Rattle.sq_status.specs.declared.view.View.{View}
-use Rattle.sq_status.specs.View.{fresh, gave}
-use Rattle.sq_status.specs.Seat.{SeatValue}
+use Rattle.sq_shared.specs.Values.{LinkValue}
+use Rattle.sq_shared.specs.declared.view.View.{View}
+use Rattle.sq_shared.specs.View.{fresh, gave}
+use Rattle.sq_shared.specs.Seat.{SeatValue}
 use Rattle.sq_store.specs.StoreValue.{StoreValue}
 use Rattle.sq_exec.specs.CoreValue.{CoreValue}
 use Rattle.sq_exec.specs.Opened.{opened_part, HasOwned}
-use Rattle.sq_pull.specs.Seats.{AreSeatsOf}
-use Rattle.sq_pull.specs.Wins.{no_wins}
-use Rattle.sq_pull.specs.Pump.{PumpValue, stage_round}
+use Rattle.sq_shared.specs.Seats.{AreSeatsOf}
+use Rattle.sq_shared.specs.Wins.{no_wins}
+use Rattle.sq_shared.specs.Pump.{PumpValue, stage_round}
 use Rattle.sq_node_model.specs.NodeValue.{ReceiptValue}
 use Rattle.sq_node_model.specs.BeganWith.{BeganWith, CanBegin, first_began}
 use Rattle.sq_node_model.specs.Cores.{staged_core, OpensWith}

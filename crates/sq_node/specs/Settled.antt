@@ -2,9 +2,9 @@
 use Rattle.std.specs.Prelude.{◌≡◌, ◌⊎◌, ℕ, ◌<◌, Bool, true, List, length, slice_get, Some, Contains}
 use Rattle.sq_tree.specs.declared.status.Status.TheVariants.{Split, Complete}
 use Rattle.sq_tree.specs.Node.{is_above}
-use Rattle.sq_status.specs.declared.view.View.{View}
-use Rattle.sq_status.specs.View.{HasSeen}
-use Rattle.sq_status.specs.Seat.{SeatValue}
+use Rattle.sq_shared.specs.declared.view.View.{View}
+use Rattle.sq_shared.specs.View.{HasSeen}
+use Rattle.sq_shared.specs.Seat.{SeatValue}
 use Rattle.sq_exec.specs.CoreValue.{CoreValue, loaded_at}
 use Rattle.sq_exec.specs.Runs.{is_whole}
 

@@ -5,8 +5,8 @@ use Rattle.sq_tree.specs.declared.status.Status.TheVariants.{Partial}
 use Rattle.sq_tree.specs.Node.{is_node}
 use Rattle.sq_ranges.specs.declared.recon.Range.{Range}
 use Rattle.sq_ranges.specs.ReconValue.{stage_on, stage_in}
-use Rattle.sq_status.specs.Plays.{Won}
-use Rattle.sq_status.specs.Seat.{SeatValue}
+use Rattle.sq_shared.specs.Plays.{Won}
+use Rattle.sq_shared.specs.Seat.{SeatValue}
 use Rattle.sq_chunk.specs.declared.chunk.Note.{Note}
 use Rattle.sq_chunk.specs.ChunkValue.{ChunkValue, IsChunk}
 use Rattle.sq_exec.specs.CoreValue.{CoreValue, out_at, with_out, inbox_at, with_inbox, loaded_at}
@@ -17,11 +17,11 @@ use Rattle.sq_exec.specs.Serving.{must_wait, submit_refusal, resume_refusal, IsT
 use Rattle.sq_exec.specs.declared.outcome.Outcome.{Outcome}
 use Rattle.sq_exec.specs.declared.outcome.Outcome.TheVariants.{Done, Moved, Waits}
 use Rattle.sq_exec.specs.declared.outcome.Resumed.{Resumed}
-use Rattle.sq_status.specs.declared.tree.walks.LeafClaim.{LeafClaim}
-use Rattle.sq_status.specs.declared.tree.walks.LeafClaim.TheVariants as leaf_claim
-use Rattle.sq_pull.specs.declared.numbers.TheConstants.{MAX_CLAIMS}
-use Rattle.sq_pull.specs.Numbers.{reactive_pull}
-use Rattle.sq_pull.specs.Seats.{StepsAt, ClaimsLeaf}
+use Rattle.sq_shared.specs.declared.tree.walks.LeafClaim.{LeafClaim}
+use Rattle.sq_shared.specs.declared.tree.walks.LeafClaim.TheVariants as leaf_claim
+use Rattle.sq_shared.specs.declared.numbers.TheConstants.{MAX_CLAIMS}
+use Rattle.sq_shared.specs.Numbers.{reactive_pull}
+use Rattle.sq_shared.specs.Seats.{StepsAt, ClaimsLeaf}
 use Rattle.sq_node.specs.declared.stepped.Stepped.{Stepped}
 use Rattle.sq_node.specs.declared.stepped.Stepped.TheVariants.{Did, Nothing, Memory}
 use Rattle.sq_node.specs.FabricValue.{FabricValue}

@@ -3,7 +3,7 @@ ghost use Rattle.std.specs.Prelude.{◌≡◌, ◌<◌, length, Some, None, OnOk
 ghost use Rattle.sq_node.specs.Ends.{EndValue, passed_on, IsEnd, WasFull, WasEmpty};
 
 use sq_chunk::Chunk;
-use sq_link::{LinkPass, Receives, RecvPass, SendPass, Sends, SharedLink, Side};
+use sq_shared::{LinkPass, Receives, RecvPass, SendPass, Sends, SharedLink, Side};
 use std::marker::Model;
 use std::sync::Wait;
 

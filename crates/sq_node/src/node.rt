@@ -1,7 +1,7 @@
 // Nodes.
 ghost use Rattle.std.specs.Prelude.{◌≡◌, ◌<◌, ℕ, true, false, [], length, replicate};
 ghost use Rattle.sq_exec.specs.Prelude.{loaded_at, is_whole};
-ghost use Rattle.sq_pull.specs.declared.numbers.TheConstants.{MAX_OWNERS};
+ghost use Rattle.sq_shared.specs.declared.numbers.TheConstants.{MAX_OWNERS};
 
 use crate::desk::{Desk, Post};
 use crate::effort::Effort;
@@ -10,10 +10,9 @@ use crate::receipt::Receipt;
 use sq_exec::{CoreParts, PartCore};
 use sq_history::History;
 use sq_plan::PartId;
-use sq_pull::Puller;
 use sq_ranges::SegId;
+use sq_shared::{Puller, TreeSeat};
 use sq_slab::SlabStore;
-use sq_status::TreeSeat;
 use sq_tree::NodeId;
 use std::alloc::Global;
 use std::collections::VecDeque;

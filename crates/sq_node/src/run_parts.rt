@@ -2,7 +2,7 @@
 
 use crate::fabric::Fabric;
 use crate::node::Node;
-use sq_pull::Pump;
+use sq_shared::Pump;
 
 /// A stage of a run, in its parts.
 #[derive(Drop)]

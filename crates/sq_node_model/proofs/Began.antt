@@ -10,7 +10,7 @@ use Rattle.sq_store.specs.StoreValue.{absent}
 use Rattle.sq_ranges.specs.OpeningValue.{OpeningValue}
 use Rattle.sq_model.specs.Tables.{opening_rows}
 use Rattle.sq_model.proofs.Lists.{Contains-nothing}
-use Rattle.sq_status.specs.View.{one_if}
+use Rattle.sq_shared.specs.View.{one_if}
 use Rattle.sq_node_model.specs.BeganWith.{BeganWith, given_family, is_opened, opening_family, first_began, IsOf, GrowsFrom, CanBegin}
 use Rattle.sq_node_model.specs.Receipts.{times_named}
 use Rattle.sq_node_model.proofs.Named.{unnamed}

@@ -23,8 +23,8 @@ use Rattle.sq_model.specs.Links.{goes, is_on_link}
 use Rattle.sq_model.proofs.Lists.{Contains-later}
 use Rattle.sq_model.proofs.Keys.{ends_below}
 use Rattle.sq_node_model.specs.Stages.{runs_in, is_on_link_in}
-use Rattle.sq_status.specs.declared.view.View.{View}
-use Rattle.sq_status.specs.Plays.{Won}
+use Rattle.sq_shared.specs.declared.view.View.{View}
+use Rattle.sq_shared.specs.Plays.{Won}
 use Rattle.sq_node_model.specs.BeganWith.{BeganWith}
 use Rattle.sq_node_model.specs.NodeValue.{ReceiptValue, NodeValue, put}
 use Rattle.sq_node_model.specs.Steps.{node_begun, node_completed}

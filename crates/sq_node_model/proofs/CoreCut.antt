@@ -14,7 +14,7 @@ use Rattle.sq_exec.specs.OutLink.{OutLinkValue, new_out_link, note_for}
 use Rattle.sq_exec.specs.CoreValue.{CoreValue, out_at, link_to}
 use Rattle.sq_exec.specs.Moving.{CutsFor}
 use Rattle.sq_exec.proofs.Works.{next_within}
-use Rattle.sq_status.specs.declared.view.View.{View}
+use Rattle.sq_shared.specs.declared.view.View.{View}
 use Rattle.sq_node_model.specs.BeganWith.{BeganWith}
 use Rattle.sq_node_model.specs.NodeValue.{ReceiptValue}
 use Rattle.sq_node_model.specs.Steps.{node_cut}

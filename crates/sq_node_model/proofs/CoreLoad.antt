@@ -23,7 +23,7 @@ use Rattle.sq_model.specs.Links.{goes, is_on_link}
 use Rattle.sq_node_model.specs.Stages.{runs_in}
 use Rattle.sq_model.proofs.Lists.{any_in, found_in, list_any-Contains}
 use Rattle.sq_model.proofs.Apart.{covers_bounds}
-use Rattle.sq_status.specs.declared.view.View.{View}
+use Rattle.sq_shared.specs.declared.view.View.{View}
 use Rattle.sq_node_model.specs.BeganWith.{BeganWith}
 use Rattle.sq_node_model.specs.NodeValue.{ReceiptValue}
 use Rattle.sq_node_model.specs.Steps.{node_loaded}

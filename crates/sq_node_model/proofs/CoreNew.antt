@@ -13,8 +13,8 @@ use Rattle.sq_exec.specs.GivenUp.{none_given_up}
 use Rattle.sq_exec.specs.OutLink.{new_out_link}
 use Rattle.sq_model.proofs.Lists.{Contains-nothing}
 use Rattle.sq_model.specs.Staged.{owner_in}
-use Rattle.sq_status.specs.declared.view.View.{View}
-use Rattle.sq_status.specs.View.{one_if}
+use Rattle.sq_shared.specs.declared.view.View.{View}
+use Rattle.sq_shared.specs.View.{one_if}
 use Rattle.sq_node_model.specs.BeganWith.{BeganWith, given_family, CanBegin}
 use Rattle.sq_node_model.specs.NodeValue.{NodeValue}
 use Rattle.sq_node_model.specs.Chunks.{HasCut, HasLoaded}

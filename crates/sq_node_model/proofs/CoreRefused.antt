@@ -18,7 +18,7 @@ use Rattle.sq_model.specs.Place.{extent_in, extent_of}
 use Rattle.sq_model.proofs.Lists.{Contains-first, Contains-later, any_in, not_found, list_any-Contains}
 use Rattle.sq_model.proofs.Notes.{SegmentGoes}
 use Rattle.sq_node_model.proofs.Staged.{on_link_goes}
-use Rattle.sq_status.specs.declared.view.View.{View}
+use Rattle.sq_shared.specs.declared.view.View.{View}
 use Rattle.sq_node_model.specs.BeganWith.{BeganWith}
 use Rattle.sq_node_model.specs.NodeValue.{ReceiptValue, NodeValue}
 use Rattle.sq_node_model.specs.InHolds.{HasArrived}

@@ -25,7 +25,7 @@ use Rattle.sq_model.proofs.Lists.{list_any-Contains}
 use Rattle.sq_model.proofs.Keys.{IsIn, found_in_segment, under, moves_found, unfound_stays}
 use Rattle.sq_model.specs.Staged.{owner_in}
 use Rattle.sq_node_model.proofs.Staged.{on_link_goes, link_runs, unmoved_source, moved_source, staying_source}
-use Rattle.sq_status.specs.declared.view.View.{View}
+use Rattle.sq_shared.specs.declared.view.View.{View}
 use Rattle.sq_node_model.specs.BeganWith.{BeganWith}
 use Rattle.sq_node_model.specs.NodeValue.{ReceiptValue, NodeValue}
 use Rattle.sq_node_model.specs.Steps.{node_served, receipts_after}

@@ -17,7 +17,7 @@ use Rattle.sq_chunk.specs.ChunkValue.{ChunkValue, covers}
 use Rattle.sq_ranges.specs.OpeningValue.{OpeningValue}
 use Rattle.sq_model.specs.Tables.{opening_rows}
 use Rattle.sq_model.specs.Staged.{owner_in}
-use Rattle.sq_status.specs.View.{one_if}
+use Rattle.sq_shared.specs.View.{one_if}
 use Rattle.sq_node_model.specs.BeganWith.{BeganWith, is_given, given_family, is_opened}
 use Rattle.sq_node_model.specs.NodeValue.{ReceiptValue}
 use Rattle.sq_node_model.specs.Steps.{receipt_of}

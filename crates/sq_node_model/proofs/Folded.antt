@@ -14,7 +14,7 @@ use Rattle.sq_ranges.specs.Opening.{IsOpening}
 use Rattle.sq_model.specs.Tables.{opening_rows}
 use Rattle.sq_model.specs.Orderly.{Tiles}
 use Rattle.sq_model.proofs.Lists.{Contains-nothing}
-use Rattle.sq_status.specs.View.{one_if}
+use Rattle.sq_shared.specs.View.{one_if}
 use Rattle.sq_node_model.specs.BeganWith.{is_opened, IsOf}
 use Rattle.sq_node_model.specs.declared.spot.Spot.{Spot}
 use Rattle.sq_node_model.specs.declared.spot.Spot.TheVariants.{Store, Chunk}

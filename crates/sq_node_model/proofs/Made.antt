@@ -3,7 +3,7 @@ use Rattle.std.proofs.Common.{ℕ, List, [], sym, subst}
 use Rattle.sq_chunk.specs.ChunkValue.{ChunkValue}
 use Rattle.sq_ranges.specs.OpeningValue.{OpeningValue}
 use Rattle.sq_exec.specs.CoreValue.{CoreValue}
-use Rattle.sq_status.specs.declared.view.View.{View}
+use Rattle.sq_shared.specs.declared.view.View.{View}
 use Rattle.sq_node_model.specs.NodeValue.{ReceiptValue, NodeAtWork, NodeValue, node_of}
 use Rattle.sq_node_model.specs.BeganWith.{BeganWith}
 use Rattle.sq_node_model.specs.NodeHolds.{NodeHolds}

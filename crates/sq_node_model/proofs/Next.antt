@@ -18,7 +18,7 @@ use Rattle.sq_ranges.specs.declared.recon.Range.{Range}
 use Rattle.sq_ranges.specs.ReconValue.{segment_of, leaf_of, stage_on}
 use Rattle.sq_ranges.specs.OpeningValue.{OpeningValue}
 use Rattle.sq_ranges.specs.Opening.{IsOpening}
-use Rattle.sq_status.specs.declared.view.View.{View}
+use Rattle.sq_shared.specs.declared.view.View.{View}
 use Rattle.sq_model.specs.Place.{At, source, destination, moves, loaded_place, extent_of, is_within}
 use Rattle.sq_model.specs.Links.{is_about, has_last, reached}
 use Rattle.sq_model.specs.Orderly.{Tiles}

@@ -13,7 +13,7 @@ use Rattle.sq_ranges.specs.OpeningValue.{OpeningValue}
 use Rattle.sq_ranges.specs.Opening.{IsOpening}
 use Rattle.sq_model.proofs.Lists.{slice_get-Contains, flat_map_in}
 use Rattle.sq_model.specs.Staged.{owner_in}
-use Rattle.sq_status.specs.View.{one_if}
+use Rattle.sq_shared.specs.View.{one_if}
 use Rattle.sq_node_model.specs.BeganWith.{BeganWith, given_family, CanBegin}
 use Rattle.sq_node_model.specs.NodeValue.{NodeValue, ReceiptValue}
 use Rattle.sq_node_model.specs.Chunks.{HasCut, HasLoaded, IsCovered}

@@ -12,7 +12,7 @@ use Rattle.sq_ranges.specs.OpeningValue.{OpeningValue}
 use Rattle.sq_model.proofs.Lists.{Contains-first, Contains-later, Contains-slice_get, slice_get-Contains, flat_map_in}
 use Rattle.sq_node_model.specs.Stages.{is_on_link_in}
 use Rattle.sq_node_model.proofs.Staged.{on_link_goes}
-use Rattle.sq_status.specs.View.{one_if, times_with}
+use Rattle.sq_shared.specs.View.{one_if, times_with}
 use Rattle.sq_node_model.specs.BeganWith.{BeganWith}
 use Rattle.sq_node_model.specs.NodeValue.{NodeValue}
 use Rattle.sq_node_model.specs.Chunks.{HasLoaded, HasLast}

@@ -7,7 +7,7 @@ use Rattle.std.proofs.Math.Seq.{take-append_seam}
 use Rattle.sq_schema.specs.TxnValue.{TxnValue}
 use Rattle.sq_schema.specs.Effect.{replay_rows, reply}
 use Rattle.sq_schema.specs.Family.{FamilyValue, rows_of, logged}
-use Rattle.sq_status.specs.View.{one_if}
+use Rattle.sq_shared.specs.View.{one_if}
 use Rattle.sq_node_model.specs.NodeValue.{ReceiptValue}
 use Rattle.sq_node_model.specs.BeganWith.{GrowsFrom}
 use Rattle.sq_node_model.specs.Receipts.{IsToldBy, IsReplyIn}

@@ -19,11 +19,11 @@ use Rattle.sq_model.specs.Place.{extent_of, is_within}
 use Rattle.sq_model.proofs.Lists.{Contains-nothing, Contains-cases}
 use Rattle.sq_model.proofs.Keys.{IsIn, found_in_segment, under}
 use Rattle.sq_model.proofs.Apart.{begun_touched}
-use Rattle.sq_status.specs.declared.view.View.{View}
-use Rattle.sq_status.specs.View.{one_if, times_with, times_won}
-use Rattle.sq_status.specs.Rule.{IsTreeOf}
-use Rattle.sq_status.specs.Plays.{Won}
-use Rattle.sq_status.proofs.Totals.{own_le_total}
+use Rattle.sq_shared.specs.declared.view.View.{View}
+use Rattle.sq_shared.specs.View.{one_if, times_with, times_won}
+use Rattle.sq_shared.specs.Rule.{IsTreeOf}
+use Rattle.sq_shared.specs.Plays.{Won}
+use Rattle.sq_shared.proofs.Totals.{own_le_total}
 
 -- a tree that keeps the rule is grown from a free one
 pub grown_tree : (statuses : List Status) (views : List View) → IsTreeOf statuses views → IsGrown (status_at statuses)

@@ -14,8 +14,8 @@ use Rattle.sq_exec.specs.declared.outcome.Outcome.{Outcome}
 use Rattle.sq_exec.specs.CoreValue.{CoreValue, out_at, with_out, with_inbox}
 use Rattle.sq_exec.specs.Work.{WorkValue}
 use Rattle.sq_exec.specs.Moving.{LoadsFrom, whole_node, begun_core}
-use Rattle.sq_status.specs.declared.view.View.{View}
-use Rattle.sq_status.specs.Plays.{Won}
+use Rattle.sq_shared.specs.declared.view.View.{View}
+use Rattle.sq_shared.specs.Plays.{Won}
 use Rattle.sq_node_model.specs.NodeValue.{NodeValue, NodeAtWork, node_of, put}
 use Rattle.sq_node_model.specs.Steps.{node_begun, node_loaded, node_served, receipts_after}
 use Rattle.sq_node_model.specs.Stages.{runs_in}

@@ -6,7 +6,7 @@ use Rattle.sq_schema.specs.Family.{FamilyValue}
 use Rattle.sq_store.specs.StoreValue.{absent}
 use Rattle.sq_ranges.specs.OpeningValue.{OpeningValue}
 use Rattle.sq_model.specs.Tables.{opening_rows}
-use Rattle.sq_status.specs.View.{one_if}
+use Rattle.sq_shared.specs.View.{one_if}
 use Rattle.sq_node_model.specs.NodeValue.{ReceiptValue}
 use Rattle.sq_node_model.specs.Receipts.{is_commit, times_named, IsToldBy, IsReplyIn}
 

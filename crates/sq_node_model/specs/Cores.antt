@@ -8,7 +8,7 @@ use Rattle.sq_model.specs.Staged.{owner_in}
 use Rattle.sq_exec.specs.CoreValue.{CoreValue, opened_core}
 use Rattle.sq_exec.specs.Opened.{HasOwnedOf}
 use Rattle.sq_exec.specs.Moving.{can_load}
-use Rattle.sq_status.specs.declared.view.View.{View}
+use Rattle.sq_shared.specs.declared.view.View.{View}
 use Rattle.sq_node_model.specs.NodeValue.{NodeValue}
 use Rattle.sq_node_model.specs.Chunks.{HasLoaded, IsCovered}
 use Rattle.sq_node_model.specs.InHolds.{HasArrived}

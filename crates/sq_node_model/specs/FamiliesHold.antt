@@ -7,7 +7,7 @@ use Rattle.sq_store.specs.StoreValue.{StoreValue, absent, family_in}
 use Rattle.sq_chunk.specs.ChunkValue.{ChunkValue, covers}
 use Rattle.sq_ranges.specs.OpeningValue.{OpeningValue}
 use Rattle.sq_model.specs.Staged.{owner_in}
-use Rattle.sq_status.specs.View.{one_if}
+use Rattle.sq_shared.specs.View.{one_if}
 use Rattle.sq_node_model.specs.NodeValue.{ReceiptValue}
 use Rattle.sq_node_model.specs.Chunks.{IsCovered}
 use Rattle.sq_node_model.specs.Receipts.{is_commit, times_named, IsToldBy, IsReplyIn}

@@ -12,7 +12,7 @@ use Rattle.sq_model.specs.Tables.{opening_rows}
 use Rattle.sq_model.specs.Links.{has_last}
 use Rattle.sq_model.specs.Orderly.{AreNumbered, Tiles, AreDisjoint}
 use Rattle.sq_node_model.specs.Stages.{is_on_link_in}
-use Rattle.sq_status.specs.View.{one_if}
+use Rattle.sq_shared.specs.View.{one_if}
 use Rattle.sq_node_model.specs.NodeValue.{ReceiptValue}
 use Rattle.sq_node_model.specs.BeganWith.{BeganWith, is_opened}
 use Rattle.sq_node_model.specs.Receipts.{is_commit, times_named, IsToldBy, IsReplyIn}

@@ -9,8 +9,8 @@ use crate::unfinished::Unfinished;
 use sq_audit::Job;
 use sq_gather::{Gathered, gather};
 use sq_node::{Fabric, Node, Receipt, RunParts, Stepped};
-use sq_pull::Pump;
 use sq_ranges::Opening;
+use sq_shared::Pump;
 use std::alloc::{AllocError, Global};
 use std::sync::Wait;
 

@@ -1,6 +1,6 @@
 // How many jobs were answered after they had waited.
 use sq_driver::{NodeStep, WorkerEvent};
-use sq_pull::MAX_OWNERS;
+use sq_shared::MAX_OWNERS;
 use std::alloc::{AllocError, Global};
 use std::sync::atomic::{AtomicU64, Ordering};
 

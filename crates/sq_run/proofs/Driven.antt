@@ -3,7 +3,7 @@ use Rattle.std.proofs.Common.{List, ◌++◌, ◌∙◌, sym, ap}
 use Rattle.std.specs.List.{flat_map}
 use Rattle.sq_ranges.specs.OpeningValue.{OpeningValue}
 use Rattle.sq_ranges.specs.Opening.{IsOpening}
-use Rattle.sq_pull.specs.Pump.{PumpValue}
+use Rattle.sq_shared.specs.Pump.{PumpValue}
 use Rattle.sq_node_model.specs.NodeValue.{ReceiptValue}
 use Rattle.sq_node_model.specs.BeganWith.{BeganWith}
 use Rattle.sq_node_model.specs.Gathered.{GatheredValue}

@@ -2,7 +2,7 @@
 ghost use Rattle.std.specs.Prelude.{◌≡◌, ◌≤◌, ◌++◌, false, IfOk, OnOk};
 ghost use Rattle.sq_schema.specs.Prelude.{TableValue};
 ghost use Rattle.sq_ranges.specs.Prelude.{OpeningValue, IsOpening, IsSetUp};
-ghost use Rattle.sq_pull.specs.declared.numbers.TheConstants.{MAX_PUMPS};
+ghost use Rattle.sq_shared.specs.declared.numbers.TheConstants.{MAX_PUMPS};
 ghost use Rattle.sq_node_model.specs.Prelude.{BeganWith, first_began, folded_opening};
 ghost use Rattle.sq_driver.specs.Nodes.{AllDriven};
 ghost use Rattle.sq_driver.specs.Told.{nodes_of};
@@ -14,8 +14,8 @@ ghost use Rattle.sq_run.specs.StageRunValue.{BeganFrom, StaysBegun, RanFrom, Hav
 use sq_driver::{Gate, TellingNode, WorkersEnd, run_workers};
 use sq_gather::{Gathered, gather, reopen};
 use sq_node::{Fabric, Node, Receipt, RunParts};
-use sq_pull::Pump;
 use sq_ranges::Opening;
+use sq_shared::Pump;
 use sq_teller::Collector;
 use std::alloc::{AllocError, Global};
 use std::marker::Model;

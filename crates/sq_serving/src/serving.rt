@@ -1,7 +1,7 @@
 // An engine behind a pipe.
 ghost use Rattle.std.specs.Prelude.{◌≡◌, ◌≤◌, [], IfOk, IfErr};
 ghost use Rattle.rtrb.specs.Ring.{received};
-ghost use Rattle.sq_pull.specs.declared.numbers.TheConstants.{MAX_PUMPS};
+ghost use Rattle.sq_shared.specs.declared.numbers.TheConstants.{MAX_PUMPS};
 ghost use Rattle.sq_serving.specs.Becoming.{desk_value};
 ghost use Rattle.sq_serving.specs.Steps.{EndsForWant};
 ghost use Rattle.sq_serving.specs.Service.{first_desk, ServesOpening, ServesSome, ServesWriter};

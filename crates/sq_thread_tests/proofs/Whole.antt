@@ -3,8 +3,8 @@ use Rattle.std.proofs.Common.{◌≡◌, ℕ, ◌+◌, ◌<◌, List, length, ge
 use Rattle.std.specs.Prelude.{◌≢◌, slice_get, slice_set}
 use Rattle.std.proofs.lemmas.List.{length-set, map-set}
 use Rattle.std.proofs.lemmas.Option.{slice_get_read}
-use Rattle.sq_pull.specs.Seats.{AreSeatsOf, OnlyClaimed}
-use Rattle.sq_pull.specs.Pump.{PumpValue}
+use Rattle.sq_shared.specs.Seats.{AreSeatsOf, OnlyClaimed}
+use Rattle.sq_shared.specs.Pump.{PumpValue}
 use Rattle.sq_node_model.proofs.Lists.{at_map}
 use Rattle.sq_node_model.proofs.Members.{set_stood}
 use Rattle.sq_node.specs.FabricValue.{FabricValue}

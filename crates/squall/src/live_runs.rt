@@ -1,7 +1,7 @@
 // Live runs, their messages and their exit status.
 ghost use Rattle.std.specs.Prelude.{◌≡◌, ◌≤◌};
 ghost use Rattle.sq_input.specs.Recalling.{recalling_remaining};
-ghost use Rattle.sq_pull.specs.declared.numbers.TheConstants.{MAX_PUMPS};
+ghost use Rattle.sq_shared.specs.declared.numbers.TheConstants.{MAX_PUMPS};
 ghost use Rattle.sq_schema.specs.declared.schema.TheConstants.{MAX_TABLES};
 ghost use Rattle.sq_live.specs.Live.{RunsLive};
 ghost use Rattle.squall.specs.Session.{live_status, EndsAs};
@@ -24,7 +24,7 @@ use std::thread::Threads;
 use std::time::Clock;
 
 // The command line allows as many pumps as there may be.
-const _: () = prove!(sq_command::MAX_PUMPS == sq_pull::MAX_PUMPS as u64);
+const _: () = prove!(sq_command::MAX_PUMPS == sq_shared::MAX_PUMPS as u64);
 
 /// Runs the jobs in `reader` in threads, and writes the outcome to `writer`. Unless the run is
 /// sound, standard error explains it. The workers ask `watch` before each step. Also writes what

@@ -1,6 +1,6 @@
 // An engine behind a pipe, and the messages about how it ends.
 ghost use Rattle.std.specs.Prelude.{◌≤◌};
-ghost use Rattle.sq_pull.specs.declared.numbers.TheConstants.{MAX_PUMPS};
+ghost use Rattle.sq_shared.specs.declared.numbers.TheConstants.{MAX_PUMPS};
 ghost use Rattle.squall.specs.Session.{EndsEngine};
 
 use crate::earlier::FilesAgain;

@@ -2,7 +2,7 @@
 ghost use Rattle.std.specs.Prelude.{◌≡◌, ◌↔◌, ◌+◌, ◌<◌, ◌==◌, ◌≤◌, [], length, map, filter, Ok, IfOk, IfErr, OnOk, IsTrue};
 ghost use Rattle.sq_ranges.specs.Prelude.{IsSetUp, stage_on, stages};
 ghost use Rattle.sq_exec.specs.Prelude.{IsOpenStore};
-ghost use Rattle.sq_pull.specs.declared.numbers.TheConstants.{MAX_PUMPS};
+ghost use Rattle.sq_shared.specs.declared.numbers.TheConstants.{MAX_PUMPS};
 ghost use Rattle.sq_node.specs.FabricValue.{IsFabric, ends_of};
 ghost use Rattle.sq_node.specs.Opened.{AreFirstSeats, HaveCapacity, HasAllEnds, IsFabricOf, IsReopened, IsOpened, opened_stores, HaveOwned};
 
@@ -13,11 +13,10 @@ use crate::run_parts::RunParts;
 use crossbeam_queue::ArrayQueue;
 use sq_exec::open_store;
 use sq_history::History;
-use sq_link::SharedLink;
 use sq_plan::PartId;
 use sq_ranges::{Link, Opening, Recon};
+use sq_shared::{SharedLink, StatusTree, TreeSeat};
 use sq_slab::SlabStore;
-use sq_status::{StatusTree, TreeSeat};
 use std::alloc::{AllocError, Global};
 use std::sync::atomic::AtomicU64;
 use std::thread;

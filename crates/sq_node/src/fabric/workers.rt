@@ -1,8 +1,8 @@
 // The nodes and the pumps that a stage of a run opens with, each with its seats and its ends of
 // links.
 ghost use Rattle.std.specs.Prelude.{◌≡◌, ℕ, ◌+◌, ◌<◌, ◌≤◌, ◌++◌, false, length, map, reverse, replicate, slice_set, None, MatchOption, IfOk, IfErr, OnOk, OnErr, vec_capacity};
-ghost use Rattle.sq_pull.specs.Seats.{AreSeatsOf};
-ghost use Rattle.sq_pull.specs.declared.numbers.TheConstants.{MAX_PUMPS};
+ghost use Rattle.sq_shared.specs.Seats.{AreSeatsOf};
+ghost use Rattle.sq_shared.specs.declared.numbers.TheConstants.{MAX_PUMPS};
 ghost use Rattle.sq_node.specs.Ends.{src_of, dst_of, link_between, end_at};
 ghost use Rattle.sq_node.specs.FabricValue.{AreFirst, IsFabric};
 ghost use Rattle.sq_node.specs.Opened.{AreNewSeats, GaveEach, GivesOut, HasEnds, LeavesEnds, AreNewEnds, IsFabricOf, IsNewNode, AreNewNodes, IsNewPump, AreNewPumps, running_core};
@@ -11,12 +11,10 @@ use super::Fabric;
 use crate::ends::{PartEnd, Receiver, Sender};
 use crate::node::{Node, SeatsAndEnds};
 use sq_exec::PartCore;
-use sq_link::{SharedLink, Side};
 use sq_plan::PartId;
-use sq_pull::Pump;
 use sq_ranges::Opening;
+use sq_shared::{Pump, SharedLink, Side, StatusTree, TreeSeat};
 use sq_slab::SlabStore;
-use sq_status::{StatusTree, TreeSeat};
 use std::alloc::{AllocError, Global};
 
 // The ends of links that were not handed out yet, each at the place of its link.

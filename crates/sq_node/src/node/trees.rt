@@ -1,9 +1,9 @@
 // The steps of a node on trees.
 ghost use Rattle.std.specs.Prelude.{◌≡◌, ℕ, ◌<◌, true, length, Contains, MatchBool, MatchOption, IfSome};
 ghost use Rattle.sq_tree.specs.declared.status.Status.TheVariants.{Partial};
-ghost use Rattle.sq_status.specs.Plays.{Won};
+ghost use Rattle.sq_shared.specs.Plays.{Won};
 ghost use Rattle.sq_exec.specs.Prelude.{begun_core};
-ghost use Rattle.sq_pull.specs.Seats.{AreSeatsOf, StepsAt};
+ghost use Rattle.sq_shared.specs.Seats.{AreSeatsOf, StepsAt};
 ghost use Rattle.sq_node.specs.NodeState.{IsNodeOf};
 ghost use Rattle.sq_node.specs.Holds.{DoesAndKeeps};
 ghost use Rattle.sq_node.specs.Looks.{OnlyLooked, CompletesOne, CompletesNone};
@@ -14,10 +14,9 @@ use super::turn::see_complete_at;
 use crate::fabric::Fabric;
 use crate::stepped::Stepped;
 use sq_exec::PartCore;
-use sq_pull::Request;
 use sq_ranges::SegId;
+use sq_shared::{Request, StatusTree, TreeSeat};
 use sq_slab::SlabStore;
-use sq_status::{StatusTree, TreeSeat};
 use sq_tree::{NodeId, Status};
 use std::sync::Wait;
 

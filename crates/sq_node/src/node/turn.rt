@@ -1,10 +1,10 @@
 // Turns of a node.
 ghost use Rattle.std.specs.Prelude.{◌≡◌, ◌↔◌, ◌++◌, ℕ, ◌<◌, true, false, List, [], length, map, slice_get, Some, IsTrue, option_to_list};
 ghost use Rattle.sq_ranges.specs.declared.recon.Range.{Range};
-ghost use Rattle.sq_status.specs.Seat.{IsSameSeat};
+ghost use Rattle.sq_shared.specs.Seat.{IsSameSeat};
 ghost use Rattle.sq_waiting.specs.Waiting.{Arrival, txns_of};
 ghost use Rattle.sq_exec.specs.Prelude.{loaded_at, IsCore, is_whole};
-ghost use Rattle.sq_pull.specs.Seats.{AreSeatsOf, StepsAt};
+ghost use Rattle.sq_shared.specs.Seats.{AreSeatsOf, StepsAt};
 ghost use Rattle.sq_node.specs.NodeState.{IsNodeOf};
 ghost use Rattle.sq_node.specs.Holds.{KeepsAll, DoesAndKeeps};
 ghost use Rattle.sq_node.specs.Looks.{OnlyLooked, SeatsLooked};
@@ -19,7 +19,7 @@ use crate::receipt::Receipt;
 use crate::stepped::Stepped;
 use sq_plan::PartId;
 use sq_ranges::Range;
-use sq_status::{StatusTree, TreeSeat};
+use sq_shared::{StatusTree, TreeSeat};
 use sq_tree::{NodeId, Status};
 use std::sync::Wait;
 

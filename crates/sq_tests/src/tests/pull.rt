@@ -1,13 +1,12 @@
 // Pulls in one thread: claims, the requests for them, and queues of requests that are full.
 ghost use Rattle.std.specs.Prelude.{◌≡◌, ◌<◌, length, IfOk};
-ghost use Rattle.sq_pull.specs.Seats.{AreSeatsOf};
+ghost use Rattle.sq_shared.specs.Seats.{AreSeatsOf};
 
 use super::fixtures::{ALL, ALL_OF_THREE, FOUR_KEYS, between};
 use crossbeam_queue::ArrayQueue;
 use sq_plan::PartId;
-use sq_pull::{Puller, Pump, PumpTurn, ReactivePull, Request, Shared};
 use sq_ranges::{Recon, SegId};
-use sq_status::{StatusTree, TreeSeat};
+use sq_shared::{Puller, Pump, PumpTurn, ReactivePull, Request, Shared, StatusTree, TreeSeat};
 use sq_tree::{Leaf, Status};
 use std::alloc::{AllocError, Global};
 use std::sync::Wait;

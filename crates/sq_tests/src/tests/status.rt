@@ -2,7 +2,7 @@
 ghost use Rattle.std.specs.Prelude.{◌≡◌, ◌<◌, true, IsTrue, IfOk};
 ghost use Rattle.sq_tree.specs.Prelude.{is_node};
 
-use sq_status::{LeafClaim, StatusTree, TreeSeat};
+use sq_shared::{LeafClaim, StatusTree, TreeSeat};
 use sq_tree::{BeginFault, ClaimFault, CompleteFault, Leaf, NODES, NodeId, SplitFault, Status};
 use std::alloc::{AllocError, Global};
 use std::test::Fail;

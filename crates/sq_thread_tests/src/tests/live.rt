@@ -1,6 +1,6 @@
 // Live runs past gates: one that ends a worker, those that keep one until others run beside it, and one that counts.
 ghost use Rattle.std.specs.Prelude.{◌≤◌};
-ghost use Rattle.sq_pull.specs.declared.numbers.TheConstants.{MAX_PUMPS};
+ghost use Rattle.sq_shared.specs.declared.numbers.TheConstants.{MAX_PUMPS};
 
 use super::driver::ALONE;
 use super::gates::{After, Counter, Enough, Meeting, Recorder, RecorderEnd};

@@ -1,6 +1,6 @@
 // Runs, made by hand or by their workers.
 ghost use Rattle.std.specs.Prelude.{◌≡◌, ◌≤◌, All, IfOk};
-ghost use Rattle.sq_pull.specs.declared.numbers.TheConstants.{MAX_PUMPS};
+ghost use Rattle.sq_shared.specs.declared.numbers.TheConstants.{MAX_PUMPS};
 ghost use Rattle.sq_node.specs.Prelude.{IsNodeOf};
 ghost use Rattle.sq_driver.specs.Pumps.{HasAllSeats};
 ghost use Rattle.sq_driver.specs.Told.{nodes_of};
@@ -15,9 +15,9 @@ use sq_lines::LineReader;
 use sq_model::Step;
 use sq_node::{Fabric, Node, Receipt, RunParts, Stepped};
 use sq_plan::PartId;
-use sq_pull::{Pump, PumpTurn, Request};
 use sq_ranges::Opening;
 use sq_schema::{Reply, Schema, Txn};
+use sq_shared::{Pump, PumpTurn, Request};
 use sq_teller::Collector;
 use sq_text::{read_header, read_step};
 use std::alloc::{AllocError, Global};

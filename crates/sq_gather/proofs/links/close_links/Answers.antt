@@ -1,6 +1,6 @@
 use Rattle.std.proofs.Common.{◌≡◌, ◌+◌, ◌≤◌, [], ◌∷◌, ◌++◌, List, length, sym, ap, ◌∙◌, subst, append_assoc, append-nil, length-append, arith, rules}
 use Rattle.std.specs.Vec.Iter.{into_iter_items}
-use Rattle.sq_link.specs.Values.{LinkValue}
+use Rattle.sq_shared.specs.Values.{LinkValue}
 use Rattle.sq_node_model.specs.Gathered.{GatheredLink}
 use Rattle.sq_gather.specs.LinkEnds.{LinkEndsValue}
 use Rattle.sq_gather.specs.Links.{HaveBothEnds, AreClosed}

@@ -2,8 +2,8 @@ use Rattle.std.proofs.Common.{◌≡◌, ◌∙◌, ℕ, ◌<◌, List, [], leng
 use Rattle.std.specs.Prelude.{slice_get}
 use Rattle.std.specs.List.Sorted.{IsNonDecreasingBy}
 use Rattle.std.proofs.lemmas.List.Sorted.{answers_always, IsNonDecreasingBy-from_sort, length_permutation}
-use Rattle.sq_link.specs.Values.{LinkValue}
-use Rattle.sq_status.specs.Seat.{SeatValue}
+use Rattle.sq_shared.specs.Values.{LinkValue}
+use Rattle.sq_shared.specs.Seat.{SeatValue}
 use Rattle.sq_node_model.proofs.Lists.{stands_at}
 use Rattle.sq_node.specs.FabricValue.{FabricValue, IsFabric}
 use Rattle.sq_node.specs.NodeState.{NodeState}

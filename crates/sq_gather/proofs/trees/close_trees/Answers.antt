@@ -1,7 +1,7 @@
 use Rattle.std.proofs.Common.{ℕ, List, map, Vec, Global, sym, subst}
 use Rattle.std.proofs.lemmas.List.{length-map}
-use Rattle.sq_status.specs.declared.tree.TreeSeat.{TreeSeat}
-use Rattle.sq_status.specs.Seat.{SeatValue}
+use Rattle.sq_shared.specs.declared.tree.TreeSeat.{TreeSeat}
+use Rattle.sq_shared.specs.Seat.{SeatValue}
 use Rattle.sq_gather.specs.Trees.{AwaitOwners}
 use Rattle.sq_gather.proofs.Joined.{joined_whole, all_closed}
 use Rattle.sq_gather.proofs.trees.close_trees.Goals as goal

@@ -1,11 +1,11 @@
 use Rattle.std.proofs.Common.{◌≡◌, [], ◌∷◌, List, length, map, sym, ap, ◌∙◌, subst, append_assoc, arith, Vec, Global}
 use Rattle.std.specs.Prelude.{slice_get}
 use Rattle.std.proofs.lemmas.List.{map-append}
-use Rattle.sq_status.specs.declared.tree.TreeSeat.{TreeSeat}
+use Rattle.sq_shared.specs.declared.tree.TreeSeat.{TreeSeat}
 use Rattle.sq_node_model.proofs.Lists.{at_map}
 use Rattle.sq_gather.proofs.Lists.{stands_after}
 use Rattle.std.specs.Vec.Iter.{into_iter_items}
-use Rattle.sq_status.specs.Seat.{SeatValue}
+use Rattle.sq_shared.specs.Seat.{SeatValue}
 use Rattle.sq_gather.specs.Trees.{AreJoined}
 use Rattle.sq_gather.proofs.Joining.{joined_more}
 use Rattle.sq_gather.proofs.trees.join_owners.Goals as goal

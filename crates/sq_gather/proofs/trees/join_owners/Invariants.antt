@@ -1,6 +1,6 @@
 use Rattle.std.proofs.Common.{◌≡◌, ◌++◌, length, map}
 use Rattle.std.specs.Vec.Iter.{into_iter_items, into_iter_len}
-use Rattle.sq_pull.specs.Seats.{AreSeatsOf}
+use Rattle.sq_shared.specs.Seats.{AreSeatsOf}
 use Rattle.sq_node.specs.FabricValue.{AreFirst}
 use Rattle.sq_gather.specs.Trees.{AreJoined}
 use Rattle.sq_gather.proofs.trees.join_owners.Given as goal

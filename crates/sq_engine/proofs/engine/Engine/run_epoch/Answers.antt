@@ -2,7 +2,7 @@ use Rattle.std.proofs.Common.{◌≡◌, List, sym, ap, ◌∙◌, subst}
 use Rattle.std.specs.Prelude.{All}
 use Rattle.sq_node.specs.FabricValue.{FabricValue}
 use Rattle.sq_node.specs.NodeState.{NodeState, IsNodeOf}
-use Rattle.sq_pull.specs.Pump.{PumpValue}
+use Rattle.sq_shared.specs.Pump.{PumpValue}
 use Rattle.sq_driver.specs.Pumps.{HasAllSeats}
 use Rattle.sq_driver.specs.Told.{nodes_of}
 use Rattle.sq_gather.proofs.Workers.{nodes_of as each_node, pumps_of as each_pump}

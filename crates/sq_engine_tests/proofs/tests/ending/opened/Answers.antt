@@ -1,5 +1,5 @@
 use Rattle.std.proofs.Common.{List, [], sym, subst}
-use Rattle.sq_pull.specs.Pump.{PumpValue}
+use Rattle.sq_shared.specs.Pump.{PumpValue}
 use Rattle.sq_node.specs.NodeState.{NodeState}
 use Rattle.sq_gather.specs.Gathered.{AreAllOf}
 use Rattle.sq_gather.proofs.AllOf.{all_of_opened}

@@ -1,11 +1,11 @@
 use Rattle.std.proofs.Common.{◌+◌, ◌++◌, ◌∷◌, [], List, length, map, Option, sym, ap, ◌∙◌, subst, subst₂, length-append, Vec, Global, arith}
 use Rattle.std.proofs.lemmas.List.{map-append}
-use Rattle.sq_status.specs.declared.tree.TreeSeat.{TreeSeat}
+use Rattle.sq_shared.specs.declared.tree.TreeSeat.{TreeSeat}
 use Rattle.sq_schema.specs.TxnValue.{TxnValue}
 use Rattle.sq_waiting.specs.Waiting.{WaitingValue, txns_of}
 use Rattle.sq_chunk.specs.ChunkValue.{ChunkValue}
 use Rattle.sq_exec.specs.OutLink.{OutLinkValue, RoomyOutLink}
-use Rattle.sq_status.specs.Seat.{SeatValue}
+use Rattle.sq_shared.specs.Seat.{SeatValue}
 use Rattle.sq_node.specs.Ends.{EndValue}
 use Rattle.sq_gather.specs.LinkEnds.{LinkEndsValue}
 use Rattle.sq_gather.specs.Ends.{AreApart, AreAmong, SourcesPut, DestinationsPut, with_source}

@@ -5,7 +5,7 @@ use Rattle.sq_ranges.specs.declared.segment.TheConstants.{SEGMENT_LIMIT}
 use Rattle.sq_ranges.specs.declared.opening.Config.{Config}
 use Rattle.sq_ranges.specs.ReconValue.{ReconValue, stages}
 use Rattle.sq_ranges.specs.declared.recon.Link.{Link}
-use Rattle.sq_status.specs.declared.view.View.{View}
+use Rattle.sq_shared.specs.declared.view.View.{View}
 use Rattle.sq_node.specs.FabricValue.{AreStageLinks}
 use Rattle.sq_node.proofs.NewLinks.{stage_links_are}
 use Rattle.sq_node.proofs.fabric.open.open_fabric.Goals as goal

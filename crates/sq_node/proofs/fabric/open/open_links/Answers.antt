@@ -1,6 +1,6 @@
 use Rattle.std.proofs.Common.{◌≡◌, List, [], ◌∷◌, ◌++◌, Option, Some, map, sym, ap, ◌∙◌, subst, ⊎_elim, length, arith}
 use Rattle.std.specs.Prelude.{slice_get}
-use Rattle.sq_link.specs.Values.{LinkValue, PassValue}
+use Rattle.sq_shared.specs.Values.{LinkValue, PassValue}
 use Rattle.sq_node.specs.Ends.{EndValue}
 use Rattle.sq_node.specs.FabricValue.{ends_of}
 use Rattle.sq_node.specs.Opened.{HasAllEnds}

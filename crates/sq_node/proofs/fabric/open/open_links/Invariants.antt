@@ -1,6 +1,6 @@
 use Rattle.std.proofs.Common.{◌≡◌, ℕ, map, take, Some}
 use Rattle.std.specs.Prelude.{slice_get}
-use Rattle.sq_link.specs.Values.{LinkValue}
+use Rattle.sq_shared.specs.Values.{LinkValue}
 use Rattle.sq_node.specs.FabricValue.{ends_of}
 use Rattle.sq_node.specs.Opened.{HasAllEnds}
 use Rattle.sq_node.proofs.fabric.open.open_links.Given as goal

@@ -1,6 +1,6 @@
 use Rattle.std.proofs.Common.{ℕ, ◌+◌, List, [], ◌∷◌, ◌++◌, length, sym, ap, ◌∙◌, subst, length-append}
 use Rattle.atomic_table.specs.Seated.{TableId}
-use Rattle.sq_status.specs.Seat.{SeatValue}
+use Rattle.sq_shared.specs.Seat.{SeatValue}
 use Rattle.sq_node.specs.Opened.{AreFirstSeats}
 use Rattle.sq_node.proofs.Shares.{first_push}
 use Rattle.sq_node.proofs.fabric.open.open_trees.Goals as goal

@@ -2,7 +2,7 @@ use Rattle.std.proofs.Common.{rules, ◌≡◌, ℕ, ◌+◌, ◌<◌, List, Opt
 use Rattle.std.specs.Prelude.{slice_get, Some}
 use Rattle.std.proofs.lemmas.List.{append-nil, reverse-append}
 use Rattle.atomic_table.specs.Seated.{TableId}
-use Rattle.sq_link.specs.Values.{LinkValue}
+use Rattle.sq_shared.specs.Values.{LinkValue}
 use Rattle.sq_store.specs.StoreValue.{StoreValue}
 use Rattle.sq_node.specs.FabricValue.{FabricValue}
 use Rattle.sq_node.specs.NodeState.{NodeState}

@@ -1,6 +1,6 @@
 use Rattle.std.proofs.Common.{◌+◌, List, sym, subst}
 use Rattle.std.specs.Prelude.{slice_set}
-use Rattle.sq_status.specs.Seat.{SeatValue}
+use Rattle.sq_shared.specs.Seat.{SeatValue}
 use Rattle.sq_node.proofs.Shares.{Shares, shared_of, shared_first, shares_more, all_shared}
 use Rattle.sq_node.proofs.fabric.workers.share_all.Goals as goal
 

@@ -1,6 +1,6 @@
 use Rattle.std.proofs.Common.{sym, ap, ◌∙◌}
 use Rattle.sq_exec.specs.CoreValue.{CoreValue}
-use Rattle.sq_pull.specs.Puller.{PullerValue}
+use Rattle.sq_shared.specs.Puller.{PullerValue}
 use Rattle.sq_node.proofs.Settles.{same_loads}
 use Rattle.sq_node.proofs.NewNodes.{new_is_node}
 use Rattle.sq_node.proofs.node.Node.open.Goals as goal

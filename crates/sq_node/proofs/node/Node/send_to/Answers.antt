@@ -1,6 +1,6 @@
 use Rattle.std.proofs.Common.{◌≡◌, ◌<◌, List, length, Option, None, get_or, set, refl, sym, ap, ◌∙◌, subst, arith}
 use Rattle.std.proofs.lemmas.List.{set-get_or}
-use Rattle.sq_link.specs.Values.{LinkValue}
+use Rattle.sq_shared.specs.Values.{LinkValue}
 use Rattle.sq_node.specs.Ends.{EndValue, end_at, WasFull}
 use Rattle.sq_node.specs.NodeState.{NodeState}
 use Rattle.sq_node.proofs.Settles.{still_node}

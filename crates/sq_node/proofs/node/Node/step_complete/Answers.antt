@@ -1,9 +1,9 @@
 use Rattle.std.proofs.Common.{◌≡◌, true, List, length, refl, sym, ap, ◌∙◌, subst, arith}
 use Rattle.sq_ranges.specs.ReconValue.{ReconValue}
-use Rattle.sq_status.specs.declared.tree.StatusTree.{StatusTree}
+use Rattle.sq_shared.specs.declared.tree.StatusTree.{StatusTree}
 use Rattle.sq_exec.specs.Runs.{is_whole}
 use Rattle.sq_exec.specs.CoreValue.{loaded_at}
-use Rattle.sq_pull.specs.Seats.{AreSeatsOf}
+use Rattle.sq_shared.specs.Seats.{AreSeatsOf}
 use Rattle.sq_node.specs.NodeState.{NodeState}
 use Rattle.sq_node.specs.Looks.{OnlyLooked, SeatsLooked, HasNoneToComplete}
 use Rattle.sq_node.specs.Steps.{Completes}

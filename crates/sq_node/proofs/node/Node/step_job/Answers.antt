@@ -4,7 +4,7 @@ use Rattle.sq_exec.specs.declared.outcome.Outcome.{Outcome}
 use Rattle.sq_exec.specs.declared.outcome.Outcome.TheVariants.{Done, Moved, Waits}
 use Rattle.sq_exec.specs.Serving.{must_wait, submit_refusal, IsTaken}
 use Rattle.sq_store.specs.StoreValue.{log_length}
-use Rattle.sq_pull.specs.Puller.{PullerValue}
+use Rattle.sq_shared.specs.Puller.{PullerValue}
 use Rattle.sq_node_model.specs.NodeValue.{ReceiptValue}
 use Rattle.sq_node_model.specs.Steps.{receipt_of, receipts_after}
 use Rattle.sq_node.specs.NodeState.{NodeState}

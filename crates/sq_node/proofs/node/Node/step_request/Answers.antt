@@ -1,8 +1,8 @@
 use Rattle.std.proofs.Common.{◌≡◌, sym, ap, ◌∙◌, subst}
 use Rattle.sq_tree.specs.declared.status.Status.TheVariants.{Partial}
-use Rattle.sq_status.specs.declared.view.View.{View}
-use Rattle.sq_status.specs.Plays.{Won}
-use Rattle.sq_pull.specs.Seats.{StepsAt}
+use Rattle.sq_shared.specs.declared.view.View.{View}
+use Rattle.sq_shared.specs.Plays.{Won}
+use Rattle.sq_shared.specs.Seats.{StepsAt}
 use Rattle.sq_exec.specs.CoreValue.{CoreValue}
 use Rattle.sq_exec.specs.Moving.{begun_core}
 use Rattle.sq_node.specs.NodeState.{NodeState}

@@ -3,9 +3,9 @@ use Rattle.std.specs.Prelude.{remove, slice_set, MatchBool}
 use Rattle.std.proofs.lemmas.List.{length-map}
 use Rattle.std.proofs.lemmas.Option.{slice_get_within}
 use Rattle.sq_model.proofs.Lists.{Contains-slice_get}
-use Rattle.sq_status.specs.declared.view.View.{View}
-use Rattle.sq_status.specs.Seat.{SeatValue}
-use Rattle.sq_pull.proofs.Stepped.{steps_at, seats_stay}
+use Rattle.sq_shared.specs.declared.view.View.{View}
+use Rattle.sq_shared.specs.Seat.{SeatValue}
+use Rattle.sq_shared.proofs.Stepped.{steps_at, seats_stay}
 use Rattle.sq_node.specs.Looks.{LooksOnly, LooksAndCompletes}
 use Rattle.sq_node.proofs.Looked.{stands_at, of_its_tree, same_again, not_partial, completed_or_not, seats_looked_at, more_none}
 use Rattle.sq_node.proofs.node.trees.complete_first.Goals as goal

@@ -1,7 +1,7 @@
 use Rattle.std.proofs.Common.{◌≡◌, ℕ, ◌<◌, Some}
 use Rattle.std.specs.Prelude.{slice_get}
 use Rattle.sq_node.specs.Looks.{SeatsLooked, HasNoneToComplete}
-use Rattle.sq_pull.specs.Seats.{AreSeatsOf}
+use Rattle.sq_shared.specs.Seats.{AreSeatsOf}
 use Rattle.sq_node.proofs.node.trees.complete_first.Given as goal
 
 -- no node so far was to be completed

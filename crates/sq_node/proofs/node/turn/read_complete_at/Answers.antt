@@ -3,7 +3,7 @@ use Rattle.sq_node_model.proofs.Members.{set_new}
 use Rattle.sq_node.specs.Idle.{FoundUndone}
 use Rattle.sq_node.specs.Looks.{OnlyLooked}
 use Rattle.sq_node.proofs.Looked.{seats_kept}
-use Rattle.sq_pull.proofs.Stepped.{steps_at}
+use Rattle.sq_shared.proofs.Stepped.{steps_at}
 use Rattle.sq_node.proofs.node.turn.read_complete_at.Goals as goal
 
 pub returns-clause-seats : goal.returns-clause-seats

@@ -1,6 +1,6 @@
 use Rattle.std.proofs.Common.{◌++◌, List, length, take, drop, sym, subst, arith}
 use Rattle.std.specs.Prelude.{All}
-use Rattle.sq_pull.specs.Pump.{PumpValue}
+use Rattle.sq_shared.specs.Pump.{PumpValue}
 use Rattle.sq_node.specs.NodeState.{IsNodeOf}
 use Rattle.sq_driver.specs.declared.teller.TellingNode.{TellingNode}
 use Rattle.sq_driver.specs.Nodes.{AllDriven}

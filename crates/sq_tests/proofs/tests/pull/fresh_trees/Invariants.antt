@@ -1,5 +1,5 @@
 use Rattle.std.proofs.Common.{◌≡◌, length}
-use Rattle.sq_pull.specs.Seats.{AreSeatsOf}
+use Rattle.sq_shared.specs.Seats.{AreSeatsOf}
 use Rattle.sq_tests.proofs.tests.pull.fresh_trees.Given as goal
 
 abbrev pub invariant-loop-place : goal.invariant-loop-place

@@ -2,7 +2,7 @@ use denote.Param.Send.{sendable}
 use Rattle.std.proofs.Crossing.{frees}
 use Rattle.std.proofs.alloc.Global.TheSendSync as global
 use Rattle.std.proofs.vec.Vec.TheSendSync as vec
-use Rattle.sq_pull.proofs.pump.Pump.TheSendSync as pump
+use Rattle.sq_shared.proofs.pump.Pump.TheSendSync as pump
 use Rattle.sq_driver.proofs.Crosses.{fabric_sync}
 use Rattle.sq_driver.proofs.teller.TellingNode.TheSendSync as telling
 use Rattle.sq_teller.proofs.collector.Collector.TheSendSync as collector

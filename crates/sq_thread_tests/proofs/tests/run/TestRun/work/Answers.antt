@@ -1,7 +1,7 @@
 use Rattle.std.proofs.Common.{List, sym, subst, arith}
 use Rattle.std.specs.Prelude.{All}
 use Rattle.sq_node.specs.NodeState.{IsNodeOf}
-use Rattle.sq_pull.specs.Pump.{PumpValue}
+use Rattle.sq_shared.specs.Pump.{PumpValue}
 use Rattle.sq_driver.specs.declared.teller.TellingNode.{TellingNode}
 use Rattle.sq_driver.specs.Told.{AllDrivenTelling, nodes_of}
 use Rattle.sq_driver.specs.Pumps.{HasAllSeats, AllPumpsDriven}

@@ -1,4 +1,0 @@
-pub mod Splitting
-pub mod Stepped
-pub mod Claimed
-pub mod Rounds

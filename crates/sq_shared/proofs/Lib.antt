@@ -1,0 +1,14 @@
+pub mod Totals
+pub mod Sights
+pub mod Steps
+pub mod Exchanges
+pub mod Hands
+pub mod Ends
+pub mod Outcomes
+pub mod Walking
+pub mod Searching
+pub mod Moves
+pub mod Splitting
+pub mod Stepped
+pub mod Claimed
+pub mod Rounds

@@ -1,0 +1,13 @@
+pub mod View
+pub mod Rule
+pub mod Plays
+pub mod Seat
+pub mod Calls
+pub mod Walks
+pub mod Order
+pub mod Values
+pub mod Numbers
+pub mod Puller
+pub mod Pump
+pub mod Seats
+pub mod Wins

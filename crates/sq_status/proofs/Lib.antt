@@ -1,9 +1,0 @@
-pub mod Totals
-pub mod Sights
-pub mod Steps
-pub mod Exchanges
-pub mod Hands
-pub mod Ends
-pub mod Outcomes
-pub mod Walking
-pub mod Searching

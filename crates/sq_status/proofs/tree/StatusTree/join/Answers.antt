@@ -1,6 +1,0 @@
-use Rattle.std.proofs.Common.{rules}
-use Rattle.sq_status.proofs.Hands.{joins}
-use Rattle.sq_status.proofs.tree.StatusTree.join.Goals as goal
-
-pub join_seat-requires : goal.join_seat-requires
-join_seat-requires c = (search rules, search rules, search rules, search rules, joins _ _ _ _ (search rules) (search rules) (search rules))

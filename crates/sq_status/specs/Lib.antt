@@ -1,6 +1,0 @@
-pub mod View
-pub mod Rule
-pub mod Plays
-pub mod Seat
-pub mod Calls
-pub mod Walks
