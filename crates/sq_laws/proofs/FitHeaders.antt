@@ -22,7 +22,7 @@ use Rattle.sq_ranges.specs.declared.fault.OpeningFault.TheVariants.{Row}
 use Rattle.sq_ranges.specs.Fault.{of_row}
 use Rattle.sq_ranges.specs.Given.{GivenValue, no_rows, with_one}
 use Rattle.sq_ranges.specs.Refused.{shape_fault, given_fault}
-use Rattle.sq_lines.specs.Pieces.{PieceValue, bytes_of}
+use Rattle.sq_text.specs.Pieces.{PieceValue, bytes_of}
 use Rattle.sq_text.specs.declared.input_fault.InputFault.{InputFault}
 use Rattle.sq_text.specs.declared.input_fault.InputFault.TheVariants.{BadHeader}
 use Rattle.sq_text.specs.declared.located.InputLine.{InputLine}

@@ -7,7 +7,7 @@ use Rattle.sq_schema.specs.Effect.{RowTable}
 use Rattle.sq_ranges.specs.declared.fault.OpeningFault.{OpeningFault}
 use Rattle.sq_ranges.specs.Given.{GivenValue, no_rows, with_one}
 use Rattle.sq_ranges.specs.Refused.{given_fault}
-use Rattle.sq_lines.specs.Pieces.{PieceValue, bytes_of, next_begins}
+use Rattle.sq_text.specs.Pieces.{PieceValue, bytes_of, next_begins}
 use Rattle.sq_text.specs.declared.input_fault.InputFault.{InputFault}
 use Rattle.sq_text.specs.declared.located.InputLine.{InputLine}
 use Rattle.sq_text.specs.declared.located.InputLine.TheVariants as line

@@ -1,7 +1,7 @@
 -- The rows of a world that a run keeps.
 use Rattle.std.proofs.Common.{ℕ, List, [], ◌∷◌, subst}
 use Rattle.sq_schema.specs.declared.schema.TheConstants.{MAX_TABLES}
-use Rattle.sq_lines.specs.Pieces.{PieceValue}
+use Rattle.sq_text.specs.Pieces.{PieceValue}
 use Rattle.sq_text.specs.Header.{header_in}
 use Rattle.sq_model.specs.Trace.{Trace}
 use Rattle.sq_transition.specs.WorldValue.{WorldValue}

@@ -22,8 +22,8 @@ use Rattle.sq_ranges.specs.declared.fault.OpeningFault.TheVariants as opening
 use Rattle.sq_ranges.specs.Fault.{of_row}
 use Rattle.sq_ranges.specs.Given.{GivenValue, with_one}
 use Rattle.sq_ranges.specs.Refused.{shape_fault, given_fault}
-use Rattle.sq_lines.specs.declared.buffer.TheConstants.{MAX_UNENDED}
-use Rattle.sq_lines.specs.Pieces.{PieceValue, InputEnd, Line, Endless, TooMany, cut_at_ends, next_line_number, pieces_of, pieces_in, next_begins}
+use Rattle.sq_text.specs.declared.buffer.TheConstants.{MAX_UNENDED}
+use Rattle.sq_text.specs.Pieces.{PieceValue, InputEnd, Line, Endless, TooMany, cut_at_ends, next_line_number, pieces_of, pieces_in, next_begins}
 use Rattle.sq_text.specs.declared.input_fault.InputFault.{InputFault}
 use Rattle.sq_text.specs.declared.located.InputLine.TheVariants as line
 use Rattle.sq_text.specs.declared.located.LocatedFault.{LocatedFault}

@@ -21,7 +21,7 @@ use Rattle.sq_schema.specs.Table.{row_given_fault, with_given}
 use Rattle.sq_schema.specs.declared.fault.RowFault.{RowFault}
 use Rattle.sq_schema.specs.declared.fault.RowFault.TheVariants.{RowRepeated, NoRootRow}
 use Rattle.sq_schema.specs.declared.root.TheConstants.{ROOT_END}
-use Rattle.sq_lines.specs.Pieces.{InputEnd, pieces_in}
+use Rattle.sq_text.specs.Pieces.{InputEnd, pieces_in}
 use Rattle.sq_results.specs.RowLines.{row_line}
 use Rattle.sq_laws.specs.Fit.{IsFitRow}
 use Rattle.sq_laws.proofs.TakenLines.{GoesOn, stands, goes_twice, row_goes_on}

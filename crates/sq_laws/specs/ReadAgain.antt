@@ -3,7 +3,7 @@ use Rattle.std.specs.Prelude.{◌≡◌, ◌≢◌, ◌≤◌, ℕ, ◌+◌, ◌
 use Rattle.sq_schema.specs.Effect.{RowTable}
 use Rattle.sq_schema.specs.Family.{FamilyValue, rows_of}
 use Rattle.sq_laws.specs.Fit.{IsFitFamily}
-use Rattle.sq_lines.specs.Pieces.{PieceValue, InputEnd, pieces_in, next_begins}
+use Rattle.sq_text.specs.Pieces.{PieceValue, InputEnd, pieces_in, next_begins}
 use Rattle.sq_text.specs.Header.{HeaderValue, plans_of, header_of}
 use Rattle.sq_results.specs.Standing.{WritesRows}
 

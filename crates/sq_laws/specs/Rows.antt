@@ -9,7 +9,7 @@ use Rattle.sq_ranges.specs.declared.opening.GivenRow.{GivenRow}
 use Rattle.sq_ranges.specs.Given.{GivenValue, IsOpeningOf}
 use Rattle.sq_ranges.specs.Refused.{opening_fault}
 use Rattle.sq_ranges.specs.OpeningValue.{OpeningValue}
-use Rattle.sq_lines.specs.Pieces.{PieceValue, next_begins}
+use Rattle.sq_text.specs.Pieces.{PieceValue, next_begins}
 use Rattle.sq_text.specs.Header.{HeaderValue, line_in, given_of, plans_of}
 
 -- the opening has these plans, sizes and rows, and no fault is found in them

@@ -12,7 +12,7 @@ ghost use Rattle.sq_store.specs.StoreValue.{StoreValue, families_between, take_e
 ghost use Rattle.sq_store.specs.InOrder.{HoldsByRoot};
 ghost use Rattle.sq_store.specs.Counting.{family_size, chunk_of};
 ghost use Rattle.sq_picture.specs.Cutting.{chunks_to_cut};
-ghost use Rattle.sq_lines.specs.Pieces.{PieceValue};
+ghost use Rattle.sq_text.specs.Pieces.{PieceValue};
 ghost use Rattle.sq_text.specs.Header.{HeaderValue, header_of};
 ghost use Rattle.sq_ranges.specs.declared.opening.Config.{Config};
 ghost use Rattle.sq_ranges.specs.declared.opening.GivenRow.{GivenRow};

@@ -5,7 +5,7 @@ ghost use Rattle.sq_schema.specs.Prelude.{FamilyValue};
 ghost use Rattle.sq_schema.specs.declared.schema.TheConstants.{MAX_TABLES};
 ghost use Rattle.sq_ranges.specs.OpeningValue.{OpeningValue};
 ghost use Rattle.sq_ranges.specs.Opening.{IsOpening};
-ghost use Rattle.sq_lines.specs.Pieces.{PieceValue};
+ghost use Rattle.sq_text.specs.Pieces.{PieceValue};
 ghost use Rattle.sq_model.specs.Prelude.{Trace, IsLegal};
 ghost use Rattle.sq_model.specs.Tables.{opening_rows};
 ghost use Rattle.sq_transition.specs.Prelude.{WorldValue, Holds};

@@ -3,13 +3,13 @@ use Rattle.std.proofs.Common.{◌≡◌, ◌≢◌, ℕ, ◌+◌, ◌<◌, ◌==
 use Rattle.std.specs.Prelude.{Result, Ok, Err, All, nat_lt, if◌then◌else◌}
 use Rattle.std.proofs.lemmas.List.Elements.{All-append, All-nil, All-cons}
 use Rattle.sq_audit.specs.declared.job.Job.{Job}
-use Rattle.sq_lines.specs.declared.buffer.TheConstants.{MAX_UNENDED}
-use Rattle.sq_lines.specs.declared.reader.TheConstants.{MAX_LINES}
+use Rattle.sq_text.specs.declared.buffer.TheConstants.{MAX_UNENDED}
+use Rattle.sq_text.specs.declared.reader.TheConstants.{MAX_LINES}
 use Rattle.sq_text.specs.declared.located.InputLine.TheVariants.{Later}
-use Rattle.sq_lines.specs.Pieces.{next_line_number, PieceValue, Line, Rest, Failed, Endless, TooMany as TooManyLines}
-use Rattle.sq_lines.specs.Coming.{LinesValue, CanCome, CameBefore, IsLong, ReadsOn, Leaves}
-use Rattle.sq_lines.proofs.Comings.{some_pieces}
-use Rattle.sq_lines.proofs.Lengths.{is_endless}
+use Rattle.sq_text.specs.Pieces.{next_line_number, PieceValue, Line, Rest, Failed, Endless, TooMany as TooManyLines}
+use Rattle.sq_text.specs.Coming.{LinesValue, CanCome, CameBefore, IsLong, ReadsOn, Leaves}
+use Rattle.sq_text.proofs.Comings.{some_pieces}
+use Rattle.sq_text.proofs.Lengths.{is_endless}
 use Rattle.sq_text.specs.declared.input_fault.InputFault.TheVariants as input
 use Rattle.sq_text.specs.Located.{located}
 use Rattle.sq_live.specs.declared.fault.JobFault.{JobFault}

@@ -5,8 +5,8 @@ use Rattle.sq_text.specs.declared.input_fault.InputFault.TheVariants.{Memory}
 use Rattle.sq_text.specs.Located.{located}
 use Rattle.sq_schema.specs.declared.schema.TheConstants.{MAX_TABLES}
 use Rattle.sq_ranges.specs.OpeningValue.{OpeningValue}
-use Rattle.sq_lines.specs.Coming.{LinesValue, Leaves}
-use Rattle.sq_lines.proofs.Comings.{some_more, some_pieces}
+use Rattle.sq_text.specs.Coming.{LinesValue, Leaves}
+use Rattle.sq_text.proofs.Comings.{some_more, some_pieces}
 use Rattle.sq_text.specs.declared.located.LocatedFault.{LocatedFault}
 use Rattle.sq_text.specs.Header.{header_of, Opens}
 use Rattle.sq_audit.specs.declared.job.Job.{Job}
@@ -17,9 +17,9 @@ use Rattle.sq_live.specs.declared.fault.RunFault.{RunFault}
 use Rattle.sq_live.specs.declared.fault.RunFault.TheVariants as run
 use Rattle.sq_live.specs.Live.{SpellJobs, ComesToSpell, ComesToFail, HaveFault, HaveTooFewThreads}
 use Rattle.sq_live.specs.Faults.{out_of_memory, live_fault}
-use Rattle.sq_lines.specs.declared.reader.ReadState.TheVariants.{Open}
-use Rattle.sq_lines.specs.Pieces.{PieceValue, pieces}
-use Rattle.sq_lines.specs.Given.{IsGiven}
+use Rattle.sq_text.specs.declared.reader.ReadState.TheVariants.{Open}
+use Rattle.sq_text.specs.Pieces.{PieceValue, pieces}
+use Rattle.sq_text.specs.Given.{IsGiven}
 
 module _ (tables parts : ℕ) (begin lines : LinesValue) (o : OpeningValue) where
   -- the header of an input, and the jobs behind it

@@ -2,9 +2,9 @@
 use Rattle.std.specs.Prelude.{◌≡◌, ◌≢◌, ℕ, ◌+◌, ◌==◌, nat_lt, if◌then◌else◌, List, [], ◌∷◌, ◌++◌, length, Some, Result, Ok, Err}
 use Rattle.sq_schema.specs.TxnValue.{TxnValue}
 use Rattle.sq_audit.specs.declared.job.Job.{Job}
-use Rattle.sq_lines.specs.declared.reader.TheConstants.{MAX_LINES}
-use Rattle.sq_lines.specs.Pieces.{PieceValue, Line, Rest, Failed, Endless, TooMany as TooManyLines}
-use Rattle.sq_lines.specs.Coming.{LinesValue, CanCome}
+use Rattle.sq_text.specs.declared.reader.TheConstants.{MAX_LINES}
+use Rattle.sq_text.specs.Pieces.{PieceValue, Line, Rest, Failed, Endless, TooMany as TooManyLines}
+use Rattle.sq_text.specs.Coming.{LinesValue, CanCome}
 use Rattle.sq_model.specs.declared.step.Step.{Step}
 use Rattle.sq_model.specs.declared.step.Step.TheVariants.{Submit}
 use Rattle.sq_text.specs.declared.fault.LineFault.{LineFault}

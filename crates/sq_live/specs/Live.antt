@@ -3,9 +3,9 @@ use Rattle.std.specs.Prelude.{◌≡◌, ◌≢◌, ◌⊎◌, ℕ, Bool, List, 
 use Rattle.std.specs.Io.KnownBytes.{Appends}
 use Rattle.sq_ranges.specs.OpeningValue.{OpeningValue}
 use Rattle.sq_ranges.specs.Opening.{IsOpening}
-use Rattle.sq_lines.specs.Pieces.{PieceValue}
-use Rattle.sq_lines.specs.Coming.{LinesValue, CanCome}
-use Rattle.sq_lines.specs.Given.{IsGiven}
+use Rattle.sq_text.specs.Pieces.{PieceValue}
+use Rattle.sq_text.specs.Coming.{LinesValue, CanCome}
+use Rattle.sq_text.specs.Given.{IsGiven}
 use Rattle.sq_text.specs.declared.located.LocatedFault.{LocatedFault}
 use Rattle.sq_text.specs.Header.{header_of, Opens}
 use Rattle.sq_text.specs.Texts.{fault_line}

@@ -5,7 +5,7 @@ use Rattle.sq_schema.specs.TxnValue.{TxnValue}
 use Rattle.sq_schema.specs.Family.{FamilyValue, rows_of}
 use Rattle.sq_store.specs.StoreValue.{absent}
 use Rattle.sq_ranges.specs.OpeningValue.{OpeningValue}
-use Rattle.sq_lines.specs.Pieces.{PieceValue}
+use Rattle.sq_text.specs.Pieces.{PieceValue}
 use Rattle.sq_model.specs.Place.{destination}
 use Rattle.sq_model.specs.Tables.{opening_rows}
 use Rattle.sq_model.specs.Staged.{owner_in}

@@ -1,9 +1,9 @@
 // Live runs, from bytes to bytes.
 ghost use Rattle.std.specs.Prelude.{List, IfOk, IfErr, OnOk};
 ghost use Rattle.std.specs.Io.KnownBytes.{Appends};
-ghost use Rattle.sq_lines.specs.Pieces.{PieceValue};
-ghost use Rattle.sq_lines.specs.Coming.{CanCome};
-ghost use Rattle.sq_lines.specs.Given.{IsGiven};
+ghost use Rattle.sq_text.specs.Pieces.{PieceValue};
+ghost use Rattle.sq_text.specs.Coming.{CanCome};
+ghost use Rattle.sq_text.specs.Given.{IsGiven};
 ghost use Rattle.sq_live.specs.Jobs.{HavePartitions};
 ghost use Rattle.sq_live.specs.Live.{EndsLive, WereRun, ending_line, RunsLive, ComesToSpell, ComesToFail};
 
@@ -14,11 +14,10 @@ use crate::job_list::{JobList, read_jobs};
 use crate::outcome::{LiveOutcome, write_outcome};
 use crate::stages::{RunManner, run_stages};
 use crate::watch::Watch;
-use sq_lines::LineReader;
 use sq_ranges::Opening;
 use sq_schema::{MAX_TABLES, Schema};
 use sq_stages::start_move;
-use sq_text::{WriteFault, read_header, write_fault};
+use sq_text::{LineReader, WriteFault, read_header, write_fault};
 use std::alloc::{AllocError, Global};
 use std::io::{Read, Write};
 use std::sync::Wait;

@@ -6,12 +6,11 @@ ghost use Rattle.sq_live.specs.JobLines.{AddsJob, AddsFresh, AreJobs, IsFirstFau
 
 use crate::fault::{JobFault, LiveFault};
 use sq_audit::Job;
-use sq_lines::{LineReader, MAX_UNENDED, Next};
 use sq_model::Step;
 use sq_node::JOB_PLACES;
 use sq_plan::PartId;
 use sq_schema::{Schema, Txn};
-use sq_text::{InputFault, InputLine, LineFault, read_step};
+use sq_text::{InputFault, InputLine, LineFault, LineReader, MAX_UNENDED, Next, read_step};
 use std::alloc::Global;
 use std::collections::BTreeSet;
 use std::io::Read;

@@ -1,6 +1,6 @@
 //! Laws of live runs. The functions do nothing: each states a law, which the checker proves.
 ghost use Rattle.std.specs.Prelude.{◌≡◌, ◌↔◌, ℕ, Bool, List, [], Ok, Err};
-ghost use Rattle.sq_lines.specs.Pieces.{PieceValue};
+ghost use Rattle.sq_text.specs.Pieces.{PieceValue};
 ghost use Rattle.sq_ranges.specs.Prelude.{OpeningValue};
 ghost use Rattle.sq_shared.specs.declared.numbers.TheConstants.{MAX_OWNERS, MAX_PUMPS, MAX_CLAIMS};
 ghost use Rattle.sq_shared.specs.Numbers.{reactive_pull};

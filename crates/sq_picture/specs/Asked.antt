@@ -2,8 +2,8 @@
 use Rattle.std.specs.Prelude.{◌≡◌, ◌⊎◌, ℕ, List, [], Option, None, Ok, Err}
 use Rattle.std.specs.Io.KnownBytes.{Appends}
 use Rattle.sq_ranges.specs.OpeningValue.{OpeningValue}
-use Rattle.sq_lines.specs.Pieces.{PieceValue}
-use Rattle.sq_lines.specs.Coming.{LinesValue}
+use Rattle.sq_text.specs.Pieces.{PieceValue}
+use Rattle.sq_text.specs.Coming.{LinesValue}
 use Rattle.sq_text.specs.declared.located.LocatedFault.{LocatedFault}
 use Rattle.sq_text.specs.declared.input_fault.InputFault.TheVariants.{Memory}
 use Rattle.sq_text.specs.Located.{located}

@@ -5,10 +5,9 @@ ghost use Rattle.sq_world.specs.Run.{EndsAtFault};
 ghost use Rattle.sq_picture.specs.Asked.{IsToldOf, TellsOpening, TellsOpeningOfLines};
 ghost use Rattle.sq_picture.specs.Asked.{TellsOrRefusesOf};
 
-use sq_lines::LineReader;
 use sq_ranges::Opening;
 use sq_schema::{MAX_TABLES, Schema};
-use sq_text::{InputFault, LocatedFault, WriteFault, read_header, write_fault};
+use sq_text::{InputFault, LineReader, LocatedFault, WriteFault, read_header, write_fault};
 use sq_world::{Ending, Told};
 use std::alloc::Global;
 use std::io;

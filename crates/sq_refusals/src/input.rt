@@ -1,10 +1,9 @@
 // Reads what the calls are given.
 use crate::unfinished::Unfinished;
-use sq_lines::{LineReader, Next};
 use sq_model::Step;
 use sq_ranges::Opening;
 use sq_schema::Schema;
-use sq_text::{MAX_LINE, read_header, read_step};
+use sq_text::{LineReader, MAX_LINE, Next, read_header, read_step};
 use std::alloc::Global;
 use std::io::Read;
 

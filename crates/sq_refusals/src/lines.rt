@@ -4,12 +4,11 @@ ghost use Rattle.sq_audit.specs.Answers.{IdsDiffer};
 
 use crate::unfinished::Unfinished;
 use sq_audit::Job;
-use sq_lines::LineReader;
 use sq_model::Step;
 use sq_plan::PartId;
 use sq_ranges::Opening;
 use sq_schema::Schema;
-use sq_text::{read_header, read_step};
+use sq_text::{LineReader, read_header, read_step};
 use std::alloc::Global;
 
 /// Returns the opening of a header.

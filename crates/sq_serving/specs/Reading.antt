@@ -1,8 +1,8 @@
 -- What a reader makes of the lines after a header.
 use Rattle.std.specs.Prelude.{◌≡◌, ℕ, List, Result, Ok, Err}
 use Rattle.sq_schema.specs.declared.schema.TheConstants.{MAX_TABLES}
-use Rattle.sq_lines.specs.declared.reader.Next.{Next}
-use Rattle.sq_lines.specs.declared.reader.Next.TheVariants as next
+use Rattle.sq_text.specs.declared.reader.Next.{Next}
+use Rattle.sq_text.specs.declared.reader.Next.TheVariants as next
 use Rattle.sq_serving.specs.declared.line_place.LinePlace.{LinePlace}
 use Rattle.sq_serving.specs.declared.faulty_line.FaultyLine.{FaultyLine}
 use Rattle.sq_serving.specs.declared.serve_fault.ServeFault.{ServeFault}

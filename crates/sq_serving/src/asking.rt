@@ -10,9 +10,8 @@ use crate::feed::{Fed, InputEnd};
 use crate::line_place::LinePlace;
 use crate::serve_fault::ServeFault;
 use crate::serve_line::{ServeLine, read_serve_line};
-use sq_lines::Next;
 use sq_schema::Schema;
-use sq_text::InputFault;
+use sq_text::{InputFault, Next};
 use std::alloc::{AllocError, Global};
 
 /// What is handed on for the next piece of an input; `place` is where its line is.

@@ -8,10 +8,12 @@ use crate::line_place::LinePlaces;
 use crate::plan_line::{header_start, line_at, on_later_line, on_one_line, unread_line};
 use crate::portions::Portions;
 use crate::serve_word::begins_serve_line;
-use sq_lines::{LineReader, MAX_LINES, MAX_UNENDED, Next};
 use sq_ranges::Opening;
 use sq_schema::Schema;
-use sq_text::{InputFault, LocatedFault, MAX_LINE, read_header, take_rows};
+use sq_text::{
+    InputFault, LineReader, LocatedFault, MAX_LINE, MAX_LINES, MAX_UNENDED, Next, read_header,
+    take_rows,
+};
 use std::alloc::Global;
 use std::io;
 use std::io::Read;

@@ -22,10 +22,10 @@ use Rattle.sq_ranges.specs.Between.{recon_of}
 use Rattle.sq_ranges.specs.Fault.{of_row}
 use Rattle.sq_ranges.specs.Given.{GivenValue, value_of, with_one, IsOpeningOf}
 use Rattle.sq_ranges.specs.Refused.{shape_fault, given_fault, MayRefuse}
-use Rattle.sq_lines.specs.declared.reader.Next.{Next as NextPiece}
-use Rattle.sq_lines.specs.declared.reader.Next.TheVariants as next
-use Rattle.sq_lines.specs.Pieces.{PieceValue, Line, Rest, Failed, Endless, TooMany, next_line_number, bytes_of, next_begins}
-use Rattle.sq_lines.specs.Coming.{LinesValue, CanCome, BeginLong, Finds, ReadsOn, Leaves}
+use Rattle.sq_text.specs.declared.reader.Next.{Next as NextPiece}
+use Rattle.sq_text.specs.declared.reader.Next.TheVariants as next
+use Rattle.sq_text.specs.Pieces.{PieceValue, Line, Rest, Failed, Endless, TooMany, next_line_number, bytes_of, next_begins}
+use Rattle.sq_text.specs.Coming.{LinesValue, CanCome, BeginLong, Finds, ReadsOn, Leaves}
 use Rattle.sq_text.specs.declared.step.TheConstants.{MAX_LINE}
 use Rattle.sq_text.specs.declared.header.FirstLines.{FirstLines}
 use Rattle.sq_text.specs.declared.input_fault.InputFault.{InputFault}

@@ -1,3 +1,11 @@
+pub mod Ends
+pub mod Ranges
+pub mod Comings
+pub mod Givens
+pub mod Fronts
+pub mod Buffers
+pub mod Lengths
+mod Places
 pub mod Splits
 pub mod DigitRun
 pub mod NumberRun

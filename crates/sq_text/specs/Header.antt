@@ -20,8 +20,8 @@ use Rattle.sq_text.specs.declared.input_fault.InputFault.TheVariants.{Plan, BadH
 use Rattle.sq_text.specs.declared.located.InputLine.TheVariants as line
 use Rattle.sq_text.specs.declared.located.LocatedFault.{LocatedFault}
 use Rattle.sq_text.specs.Words.{words_of}
-use Rattle.sq_lines.specs.Pieces.{PieceValue, Line, Rest, Failed, Endless, TooMany, bytes_of}
-use Rattle.sq_lines.specs.Coming.{LinesValue}
+use Rattle.sq_text.specs.Pieces.{PieceValue, Line, Rest, Failed, Endless, TooMany, bytes_of}
+use Rattle.sq_text.specs.Coming.{LinesValue}
 use Rattle.sq_text.specs.Located.{at_line, line_number, of_opening}
 use Rattle.sq_text.specs.HeaderFields.{config_in, given_in}
 

@@ -1,3 +1,7 @@
+pub mod Pieces
+pub mod Coming
+pub mod Buffered
+pub mod Given
 pub mod Words
 pub mod Numbers
 pub mod Notes

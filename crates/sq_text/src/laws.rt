@@ -1,7 +1,7 @@
 //! Laws of inputs. The function does nothing: it states a law, which the checker proves.
 ghost use Rattle.std.specs.Prelude.{◌≡◌};
-ghost use Rattle.sq_lines.specs.declared.reader.TheConstants.{MAX_LINES};
-ghost use Rattle.sq_lines.specs.declared.buffer.TheConstants.{MAX_UNENDED};
+ghost use Rattle.sq_text.specs.declared.reader.TheConstants.{MAX_LINES};
+ghost use Rattle.sq_text.specs.declared.buffer.TheConstants.{MAX_UNENDED};
 ghost use Rattle.sq_text.specs.declared.step.TheConstants.{MAX_LINE};
 
 /// States the limits of inputs as numbers.

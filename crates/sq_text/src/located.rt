@@ -3,8 +3,8 @@ ghost use Rattle.std.specs.Prelude.{◌≡◌, ◌+◌, ◌<◌, ◌^◌, None, 
 ghost use Rattle.sq_text.specs.Located.{line_number, located, of_opening};
 
 use crate::input_fault::InputFault;
+use crate::reader::MAX_LINES;
 use sq_explain::meaning;
-use sq_lines::MAX_LINES;
 use sq_plan::PlanFault;
 use sq_ranges::OpeningFault;
 use std::fmt;

@@ -4,9 +4,9 @@ ghost use Rattle.sq_text.specs.Numbers.{digits_in};
 ghost use Rattle.sq_text.specs.Fields.{word_field, number_field};
 ghost use Rattle.sq_text.specs.Faults.{IsParsed};
 
+use crate::buffer::place_of;
 use crate::fault::Malformed;
 use crate::number::with_digit;
-use sq_lines::place_of;
 use std::marker::Model;
 
 /// The words of a line that are still to be read: the parts between its spaces. Between two

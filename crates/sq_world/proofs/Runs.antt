@@ -4,12 +4,12 @@ use Rattle.std.specs.Prelude.{None, Some, Result, Ok, Err, IfOk}
 use Rattle.std.specs.Io.KnownBytes.{Keeps}
 use Rattle.sq_schema.specs.declared.schema.TheConstants.{MAX_TABLES}
 use Rattle.sq_transition.specs.WorldValue.{WorldValue}
-use Rattle.sq_lines.specs.declared.reader.TheConstants.{MAX_LINES}
-use Rattle.sq_lines.specs.declared.reader.ReadState.TheVariants.{Open}
-use Rattle.sq_lines.specs.Pieces.{PieceValue, pieces}
-use Rattle.sq_lines.specs.Coming.{LinesValue}
-use Rattle.sq_lines.proofs.Comings.{some_more, some_pieces}
-use Rattle.sq_lines.proofs.Givens.{given_first}
+use Rattle.sq_text.specs.declared.reader.TheConstants.{MAX_LINES}
+use Rattle.sq_text.specs.declared.reader.ReadState.TheVariants.{Open}
+use Rattle.sq_text.specs.Pieces.{PieceValue, pieces}
+use Rattle.sq_text.specs.Coming.{LinesValue}
+use Rattle.sq_text.proofs.Comings.{some_more, some_pieces}
+use Rattle.sq_text.proofs.Givens.{given_first}
 use Rattle.sq_text.specs.declared.located.LocatedFault.{LocatedFault}
 use Rattle.sq_text.specs.declared.input_fault.InputFault.TheVariants.{Memory}
 use Rattle.sq_text.specs.Located.{located}

@@ -10,8 +10,8 @@ use Rattle.sq_model.specs.Trace.{Trace}
 use Rattle.sq_model.specs.Leader.{phase}
 use Rattle.sq_transition.specs.WorldValue.{WorldValue}
 use Rattle.sq_transition.specs.Holds.{Holds}
-use Rattle.sq_lines.specs.Coming.{LinesValue, Leaves}
-use Rattle.sq_lines.proofs.Comings.{some_pieces}
+use Rattle.sq_text.specs.Coming.{LinesValue, Leaves}
+use Rattle.sq_text.proofs.Comings.{some_pieces}
 use Rattle.sq_text.specs.declared.located.LocatedFault.{LocatedFault}
 use Rattle.sq_text.specs.Header.{header_of, Opens}
 use Rattle.sq_world.specs.declared.ending.Ending.{Ending}

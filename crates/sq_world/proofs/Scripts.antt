@@ -20,12 +20,12 @@ use Rattle.sq_text.specs.declared.fault.LineFault.TheVariants as faults
 use Rattle.sq_text.specs.Steps.{step_of, begins_txn}
 use Rattle.sq_text.specs.Words.{words_of}
 use Rattle.sq_text.specs.Faults.{line_fault_number, IsStep}
-use Rattle.sq_lines.specs.declared.buffer.TheConstants.{MAX_UNENDED}
-use Rattle.sq_lines.specs.declared.reader.TheConstants.{MAX_LINES}
-use Rattle.sq_lines.specs.Pieces.{PieceValue, Line, Rest, Failed, Endless, TooMany, next_line_number}
-use Rattle.sq_lines.specs.Coming.{LinesValue, CanCome, CameBefore, IsLong}
-use Rattle.sq_lines.proofs.Comings.{some_pieces}
-use Rattle.sq_lines.proofs.Lengths.{is_endless}
+use Rattle.sq_text.specs.declared.buffer.TheConstants.{MAX_UNENDED}
+use Rattle.sq_text.specs.declared.reader.TheConstants.{MAX_LINES}
+use Rattle.sq_text.specs.Pieces.{PieceValue, Line, Rest, Failed, Endless, TooMany, next_line_number}
+use Rattle.sq_text.specs.Coming.{LinesValue, CanCome, CameBefore, IsLong}
+use Rattle.sq_text.proofs.Comings.{some_pieces}
+use Rattle.sq_text.proofs.Lengths.{is_endless}
 use Rattle.sq_text.proofs.Appending.{both, kept}
 use Rattle.sq_world.specs.declared.ending.Ending.{Ending}
 use Rattle.sq_world.specs.declared.ending.Ending.TheVariants.{Done}

@@ -1,9 +1,9 @@
 -- What is written for an input, and how its run ends.
 use Rattle.std.specs.Prelude.{ℕ, List, Option}
 use Rattle.std.specs.Io.KnownBytes.{Appends}
-use Rattle.sq_lines.specs.Pieces.{PieceValue}
-use Rattle.sq_lines.specs.Coming.{LinesValue, CanCome}
-use Rattle.sq_lines.specs.Given.{IsGiven}
+use Rattle.sq_text.specs.Pieces.{PieceValue}
+use Rattle.sq_text.specs.Coming.{LinesValue, CanCome}
+use Rattle.sq_text.specs.Given.{IsGiven}
 use Rattle.sq_world.specs.declared.ending.Ending.{Ending}
 
 -- a text is appended to what a writer holds, and this holds of the text and the ending

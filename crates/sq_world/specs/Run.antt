@@ -19,9 +19,9 @@ use Rattle.sq_text.specs.Faults.{line_fault_number}
 use Rattle.sq_text.specs.InputFaults.{input_fault_number}
 use Rattle.sq_text.specs.Located.{located}
 use Rattle.sq_text.specs.Texts.{fault_line}
-use Rattle.sq_lines.specs.declared.reader.TheConstants.{MAX_LINES}
-use Rattle.sq_lines.specs.Pieces.{PieceValue, Line, Rest, Failed, Endless, TooMany}
-use Rattle.sq_lines.specs.Coming.{LinesValue}
+use Rattle.sq_text.specs.declared.reader.TheConstants.{MAX_LINES}
+use Rattle.sq_text.specs.Pieces.{PieceValue, Line, Rest, Failed, Endless, TooMany}
+use Rattle.sq_text.specs.Coming.{LinesValue}
 use Rattle.sq_text.specs.Header.{header_of, Opens}
 use Rattle.sq_world.specs.declared.ending.Ending.{Ending}
 use Rattle.sq_world.specs.declared.ending.Ending.TheVariants.{Done, Stopped, Fault}

@@ -7,9 +7,9 @@ use Rattle.sq_ranges.specs.Opening.{IsOpening}
 use Rattle.sq_model.specs.Legal.{IsLegal}
 use Rattle.sq_transition.specs.WorldValue.{WorldValue}
 use Rattle.sq_transition.specs.Holds.{Holds}
-use Rattle.sq_lines.specs.Pieces.{PieceValue}
-use Rattle.sq_lines.specs.Coming.{LinesValue, CanCome, Leaves}
-use Rattle.sq_lines.specs.Given.{IsGiven}
+use Rattle.sq_text.specs.Pieces.{PieceValue}
+use Rattle.sq_text.specs.Coming.{LinesValue, CanCome, Leaves}
+use Rattle.sq_text.specs.Given.{IsGiven}
 use Rattle.sq_text.specs.declared.located.LocatedFault.{LocatedFault}
 use Rattle.sq_text.specs.Header.{header_of, Opens}
 use Rattle.sq_text.specs.Steps.{step_of}

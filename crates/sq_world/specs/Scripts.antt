@@ -8,8 +8,8 @@ use Rattle.sq_model.specs.declared.answer.Answer.{Answer}
 use Rattle.sq_model.specs.declared.answer.Answer.TheVariants.{Refused}
 use Rattle.sq_model.specs.Leader.{phase}
 use Rattle.sq_model.specs.Legal.{answers, after}
-use Rattle.sq_lines.specs.Pieces.{PieceValue}
-use Rattle.sq_lines.specs.Coming.{LinesValue}
+use Rattle.sq_text.specs.Pieces.{PieceValue}
+use Rattle.sq_text.specs.Coming.{LinesValue}
 use Rattle.sq_text.specs.declared.located.LocatedFault.{LocatedFault}
 use Rattle.sq_text.specs.declared.input_fault.InputFault.TheVariants.{Memory, TooLong}
 use Rattle.sq_text.specs.Located.{located}

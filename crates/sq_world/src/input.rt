@@ -6,9 +6,8 @@ ghost use Rattle.sq_world.specs.Script.{IsLedByLines, IsLedByReader, KeepsDumped
 use crate::ending::{Ending, ScriptManner};
 use crate::script::{end_by, run_script};
 use crate::world::World;
-use sq_lines::LineReader;
 use sq_schema::{MAX_TABLES, Schema};
-use sq_text::{InputFault, LocatedFault, WriteFault, read_header};
+use sq_text::{InputFault, LineReader, LocatedFault, WriteFault, read_header};
 use std::alloc::Global;
 use std::io::{Read, Write};
 

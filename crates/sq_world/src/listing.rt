@@ -5,10 +5,9 @@ ghost use Rattle.sq_world.specs.Listing.{IsMovesText, Tells, TellsLines, TellsOr
 use crate::ending::Ending;
 use crate::script::end_by;
 use crate::telling::{Telling, Told};
-use sq_lines::LineReader;
 use sq_ranges::Recon;
 use sq_schema::{MAX_TABLES, Schema};
-use sq_text::{InputFault, WriteFault, read_plans, write_moves};
+use sq_text::{InputFault, LineReader, WriteFault, read_plans, write_moves};
 use std::alloc::Global;
 use std::io;
 use std::io::{Read, Write};

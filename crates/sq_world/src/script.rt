@@ -1,7 +1,7 @@
 // Runs scripts.
 ghost use Rattle.std.specs.Prelude.{◌≡◌, ℕ, Ok, Some, OnOk, IfOk};
 ghost use Rattle.std.specs.Io.KnownBytes.{Appends};
-ghost use Rattle.sq_lines.specs.Pieces.{next_line_number};
+ghost use Rattle.sq_text.specs.Pieces.{next_line_number};
 ghost use Rattle.sq_text.specs.Steps.{step_of};
 ghost use Rattle.sq_world.specs.Dump.{dump};
 ghost use Rattle.sq_world.specs.Run.{EndsAtFault, stopping, ending_at};
@@ -10,10 +10,12 @@ ghost use Rattle.sq_world.specs.Script.{AnswersWorld, RunsScript};
 use crate::echo::{write_refusal, write_told};
 use crate::ending::{Ending, RefusedLine, ScriptManner};
 use crate::world::World;
-use sq_lines::{LineReader, MAX_UNENDED, Next};
 use sq_model::Step;
 use sq_schema::Schema;
-use sq_text::{InputFault, InputLine, LineFault, LocatedFault, WriteFault, read_step, write_fault};
+use sq_text::{
+    InputFault, InputLine, LineFault, LineReader, LocatedFault, MAX_UNENDED, Next, WriteFault,
+    read_step, write_fault,
+};
 use std::alloc::Global;
 use std::io::{Read, Write};
 

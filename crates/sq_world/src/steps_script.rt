@@ -10,11 +10,10 @@ use crate::moves::Moves;
 use crate::steps_ending::NoScript;
 use crate::whole::make_all;
 use crate::world::World;
-use sq_lines::LineReader;
 use sq_model::Phase;
 use sq_ranges::Opening;
 use sq_schema::{MAX_TABLES, Schema};
-use sq_text::{InputFault, LocatedFault, WriteFault, read_header, write_fault};
+use sq_text::{InputFault, LineReader, LocatedFault, WriteFault, read_header, write_fault};
 use std::alloc::Global;
 use std::io::{Read, Write};
 

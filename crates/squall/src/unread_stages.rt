@@ -1,8 +1,7 @@
 // Plans of an engine's input that are of version 1 and have stages, which version 1 doesn't read.
 use crate::source::FaultPlace;
 use sq_input::has_unread_stages;
-use sq_lines::place_of;
-use sq_text::MAX_LINE;
+use sq_text::{MAX_LINE, place_of};
 use std::alloc::Global;
 use std::io;
 use std::io::Read;

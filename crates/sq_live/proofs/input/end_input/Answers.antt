@@ -1,6 +1,6 @@
 use Rattle.std.proofs.Common.{inl}
 use Rattle.sq_schema.specs.declared.schema.TheConstants.{MAX_TABLES}
-use Rattle.sq_lines.proofs.Givens.{given_first}
+use Rattle.sq_text.proofs.Givens.{given_first}
 use Rattle.sq_live.proofs.LiveRuns.{none_read}
 use Rattle.sq_live.proofs.input.end_input.Goals as goal
 

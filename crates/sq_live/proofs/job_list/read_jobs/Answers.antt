@@ -1,6 +1,6 @@
 use Rattle.std.proofs.Common.{◌≡◌, Ok, Err, Some, [], ◌∷◌, ◌++◌, ap, ◌∙◌, subst}
-use Rattle.sq_lines.specs.Pieces.{next_line_number}
-use Rattle.sq_lines.proofs.Comings.{some_pieces, come_now}
+use Rattle.sq_text.specs.Pieces.{next_line_number}
+use Rattle.sq_text.proofs.Comings.{some_pieces, come_now}
 use Rattle.sq_text.specs.declared.input_fault.InputFault.TheVariants.{ReadFailed, TooLong}
 use Rattle.sq_text.specs.declared.located.InputLine.TheVariants.{Later}
 use Rattle.sq_text.specs.Located.{located}

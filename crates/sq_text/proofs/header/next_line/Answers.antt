@@ -1,5 +1,5 @@
 use Rattle.std.proofs.Common.{length, ap, arith, [], ◌∷◌, refl}
-use Rattle.sq_lines.specs.Pieces.{Line, Failed, TooMany, next_line_number}
+use Rattle.sq_text.specs.Pieces.{Line, Failed, TooMany, next_line_number}
 use Rattle.sq_text.proofs.HeaderRun.{short_line, long_piece, long_begin, no_line_end, cut_line}
 use Rattle.sq_text.proofs.header.next_line.Goals as goal
 

@@ -1,9 +1,9 @@
 use Rattle.std.proofs.Common.{◌≡◌, subst, sym, ap, ◌∙◌}
 use Rattle.std.specs.Prelude.{Some, IfOk}
 use Rattle.std.specs.Io.KnownBytes.{Appends}
-use Rattle.sq_lines.specs.Pieces.{next_line_number}
-use Rattle.sq_lines.specs.Coming.{CanCome, LinesValue}
-use Rattle.sq_lines.proofs.Comings.{come_now}
+use Rattle.sq_text.specs.Pieces.{next_line_number}
+use Rattle.sq_text.specs.Coming.{CanCome, LinesValue}
+use Rattle.sq_text.proofs.Comings.{come_now}
 use Rattle.sq_text.specs.declared.input_fault.InputFault.TheVariants.{ReadFailed, TooLong}
 use Rattle.sq_text.specs.declared.located.InputLine.TheVariants.{Later}
 use Rattle.sq_text.specs.Located.{located}

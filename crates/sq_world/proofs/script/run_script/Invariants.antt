@@ -1,8 +1,8 @@
 use Rattle.std.proofs.Common.{◌≡◌, ◌+◌, ◌*◌}
 use Rattle.sq_ranges.specs.OpeningValue.{OpeningValue}
 use Rattle.sq_model.specs.Trace.{Trace}
-use Rattle.sq_lines.specs.declared.buffer.TheConstants.{MAX_UNENDED}
-use Rattle.sq_lines.specs.Coming.{reads_left}
+use Rattle.sq_text.specs.declared.buffer.TheConstants.{MAX_UNENDED}
+use Rattle.sq_text.specs.Coming.{reads_left}
 use Rattle.sq_world.specs.Script.{LeadsTo}
 use Rattle.sq_world.proofs.Scripts.{Before}
 use Rattle.sq_world.proofs.script.run_script.Given as goal

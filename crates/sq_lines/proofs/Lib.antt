@@ -1,8 +1,0 @@
-pub mod Ends
-pub mod Ranges
-pub mod Comings
-pub mod Givens
-pub mod Fronts
-pub mod Buffers
-pub mod Lengths
-mod Places

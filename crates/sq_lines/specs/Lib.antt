@@ -1,4 +1,0 @@
-pub mod Pieces
-pub mod Coming
-pub mod Buffered
-pub mod Given
