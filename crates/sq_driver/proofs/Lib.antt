@@ -5,3 +5,6 @@ pub mod Pumping
 pub mod Together
 pub mod Opening
 pub mod Crosses
+pub mod Collecting
+pub mod Driven
+pub mod Collected

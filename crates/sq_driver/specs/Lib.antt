@@ -4,3 +4,6 @@ pub mod Told
 pub mod Pumps
 pub mod Laws
 pub mod Begun
+pub mod Collected
+pub mod Sent
+pub mod StageRunValue

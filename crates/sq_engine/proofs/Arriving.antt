@@ -10,9 +10,9 @@ use Rattle.rtrb.specs.Ring.{sent, received}
 use Rattle.sq_node_model.specs.NodeValue.{ReceiptValue}
 use Rattle.sq_node.specs.NodeState.{NodeState}
 use Rattle.sq_driver.specs.Told.{AllDrivenTelling}
-use Rattle.sq_teller.specs.Sent.{SendsOrBreaksOff}
+use Rattle.sq_driver.specs.Sent.{SendsOrBreaksOff}
 use Rattle.sq_node.specs.FabricValue.{FabricValue}
-use Rattle.sq_teller.specs.declared.ring.RingTeller.{RingTeller}
+use Rattle.sq_driver.specs.declared.ring.RingTeller.{RingTeller}
 use Rattle.sq_engine.specs.declared.event.Event.{Event}
 use Rattle.sq_engine.specs.Events.{arrived_from}
 use Rattle.sq_engine.specs.Events as events

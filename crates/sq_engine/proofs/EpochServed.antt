@@ -13,7 +13,7 @@ use Rattle.sq_driver.specs.Pumps.{AllPumpsDriven}
 use Rattle.sq_driver.specs.declared.attendance.WorkersEnd.{WorkersEnd}
 use Rattle.sq_driver.specs.declared.attendance.WorkersEnd.TheVariants as workers
 use Rattle.sq_driver.proofs.Together.{all_were_driven}
-use Rattle.sq_teller.specs.Sent.{SendsOrBreaksOff}
+use Rattle.sq_driver.specs.Sent.{SendsOrBreaksOff}
 use Rattle.sq_engine.specs.declared.event.Event.{Event}
 use Rattle.sq_engine.specs.declared.event.Event.TheVariants.{Loses}
 use Rattle.sq_engine.specs.declared.serving.ServedRun.{ServedRun}

@@ -4,7 +4,7 @@ use Rattle.std.proofs.Math.Seq.{map-set_same}
 use Rattle.std.proofs.lemmas.Bool.{cases_eq}
 use Rattle.std.proofs.lemmas.Option.{slice_get-get_or, get_or_from_slice_get}
 use Rattle.rtrb.specs.Ring.{sent, received, SameConsumer}
-use Rattle.sq_teller.specs.declared.ring.RingTeller.{RingTeller}
+use Rattle.sq_driver.specs.declared.ring.RingTeller.{RingTeller}
 use Rattle.sq_driver.specs.declared.teller.TellingNode.{TellingNode}
 use Rattle.sq_engine.specs.Open.{OpenJobsValue}
 use Rattle.sq_engine.specs.Clients.{ClientCall}

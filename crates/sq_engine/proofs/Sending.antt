@@ -3,8 +3,8 @@ use Rattle.std.proofs.Common.{◌≡◌, Bool, true, false, List, [], ◌∷◌,
 use Rattle.rtrb.specs.Ring.{sent, SameProducer}
 use Rattle.sq_node_model.specs.NodeValue.{ReceiptValue}
 use Rattle.sq_driver.specs.Told.{TellsEach}
-use Rattle.sq_teller.specs.Sent.{SendsOrBreaksOff}
-use Rattle.sq_teller.specs.declared.ring.RingTeller.{RingTeller}
+use Rattle.sq_driver.specs.Sent.{SendsOrBreaksOff}
+use Rattle.sq_driver.specs.declared.ring.RingTeller.{RingTeller}
 
 -- it sent these receipts but for some at the end, which are missing where it broke off
 pub record SendsMost (first : RingTeller) (told : List ReceiptValue) (last : RingTeller) : Type 0 where

@@ -3,7 +3,7 @@ use Rattle.std.proofs.Common.{◌≡◌, inl, inr, ℕ, ◌+◌, ◌<◌, List, 
 use Rattle.std.proofs.Math.Seq.{get_or-append_seam}
 use Rattle.std.proofs.lemmas.Bool.{cases_eq}
 use Rattle.std.proofs.lemmas.List.{get_or_append_left}
-use Rattle.sq_teller.specs.declared.ring.RingTeller.{RingTeller}
+use Rattle.sq_driver.specs.declared.ring.RingTeller.{RingTeller}
 use Rattle.sq_engine.specs.Telling.{Ring, IsNewRing, AreNewRings}
 
 last_of : {X : Type 0} (xs : List X) (x : X) (i : ℕ) (d : X) → i ≡ length xs → get_or (xs ++ x ∷ []) i d ≡ x

@@ -3,7 +3,7 @@ use Rattle.std.specs.Prelude.{All}
 use Rattle.sq_node.specs.NodeState.{IsNodeOf}
 use Rattle.sq_driver.specs.Told.{AllDrivenTelling}
 use Rattle.sq_driver.specs.Pumps.{HasAllSeats, AllPumpsDriven}
-use Rattle.sq_teller.specs.Sent.{SendsOrBreaksOff}
+use Rattle.sq_driver.specs.Sent.{SendsOrBreaksOff}
 use Rattle.sq_node.specs.FabricValue.{FabricValue}
 use Rattle.sq_engine.specs.declared.crew.Crew.{Crew}
 

@@ -6,7 +6,7 @@ use Rattle.rtrb.specs.declared.consumer.Consumer.{Consumer}
 use Rattle.rtrb.specs.declared.AnyItems.{AnyItems}
 use Rattle.std.specs.declared.alloc.Global.{Global}
 use Rattle.sq_node_model.specs.NodeValue.{ReceiptValue}
-use Rattle.sq_teller.specs.declared.ring.RingTeller.{RingTeller}
+use Rattle.sq_driver.specs.declared.ring.RingTeller.{RingTeller}
 use Rattle.sq_driver.specs.declared.teller.TellingNode.{TellingNode}
 
 -- the tellers of nodes with their tellers

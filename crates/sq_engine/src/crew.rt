@@ -9,10 +9,9 @@ use crate::epoch_gate::EpochGate;
 use crate::meeting::serve_client;
 use crate::open_jobs::OpenJobs;
 use rtrb::Consumer;
-use sq_driver::{TellingNode, WorkersEnd, run_workers};
+use sq_driver::{RingTeller, TellingNode, WorkersEnd, run_workers};
 use sq_node::{Fabric, Receipt};
 use sq_shared::Pump;
-use sq_teller::RingTeller;
 use std::sync::Wait;
 use std::thread::{Threads, join_mut};
 

@@ -8,10 +8,9 @@ ghost use Rattle.sq_engine.specs.Telling.{ArePaired, HasAllSent};
 use crate::client::Client;
 use crate::open_jobs::OpenJobs;
 use rtrb::Consumer;
-use sq_driver::TellingNode;
+use sq_driver::{RingTeller, TellingNode};
 use sq_node::Receipt;
 use sq_plan::PartId;
-use sq_teller::RingTeller;
 
 /// Gives `client` each receipt of an open job that has arrived, closes these jobs, and drops the
 /// other receipts. Returns true if a receipt has arrived.

@@ -4,9 +4,8 @@ ghost use Rattle.sq_driver.specs.Told.{nodes_of};
 ghost use Rattle.sq_engine.specs.Telling.{AreNewRings, tellers_of, are_whole};
 
 use rtrb::{Consumer, RingBuffer};
-use sq_driver::TellingNode;
+use sq_driver::{RingTeller, TellingNode};
 use sq_node::{Node, Receipt};
-use sq_teller::RingTeller;
 use std::alloc::{AllocError, Global};
 use std::collections::VecDeque;
 

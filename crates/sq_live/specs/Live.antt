@@ -22,7 +22,7 @@ use Rattle.sq_live.specs.Faults.{live_fault_number, out_of_memory}
 use Rattle.sq_live.specs.JobLines.{jobs_in}
 use Rattle.sq_live.specs.Account.{AccountValue}
 use Rattle.sq_live.specs.Outcome.{outcome_line, outcome_status, CameTo}
-use Rattle.sq_run.specs.StageRunValue.{RanFrom}
+use Rattle.sq_driver.specs.StageRunValue.{RanFrom}
 use Rattle.sq_live.specs.Stages.{HavePassed}
 
 -- the pieces spell a header with the opening `o`, and then `jobs` for its partitions

@@ -12,7 +12,7 @@ use Rattle.sq_audit.specs.declared.folded.Folded.{Folded}
 use Rattle.sq_audit.specs.declared.verdict.Defect.{Defect}
 use Rattle.sq_audit.specs.Defects.{IsFirstDefect}
 use Rattle.sq_audit.specs.Folding.{IsFold, answered_jobs}
-use Rattle.sq_run.specs.StageRunValue.{BeganFrom, RanFrom}
+use Rattle.sq_driver.specs.StageRunValue.{BeganFrom, RanFrom}
 use Rattle.sq_live.specs.declared.outcome.LiveOutcome.{LiveOutcome}
 use Rattle.sq_live.specs.declared.outcome.LiveOutcome.TheVariants as outcome
 use Rattle.sq_live.specs.declared.continuing.Continued.{Continued}

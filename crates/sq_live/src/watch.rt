@@ -1,10 +1,9 @@
 // Watching a live run.
 use sq_audit::Job;
-use sq_driver::{Gate, OpenGate, TellingNode};
+use sq_driver::{Collector, Gate, OpenGate, TellingNode};
 use sq_gather::Gathered;
 use sq_node::Receipt;
 use sq_ranges::Opening;
-use sq_teller::Collector;
 
 /// A gate of a live run that is also called as the run proceeds: once its input is read, in each
 /// stage, and at its end. If memory or threads are lacking, only [`Watch::stage_ends`] and

@@ -3,7 +3,7 @@ use Rattle.std.specs.Prelude.{ℕ, max, List, [], length, map, slice_get, slice_
 use Rattle.std.specs.List.{range_with_len}
 use Rattle.std.specs.Option.{option_map_or}
 use Rattle.sq_driver.specs.declared.teller.TellingNode.{TellingNode}
-use Rattle.sq_teller.specs.declared.collector.Collector.{Collector}
+use Rattle.sq_driver.specs.declared.collector.Collector.{Collector}
 use Rattle.sq_report.specs.declared.counts.LinkCount.{LinkCount}
 use Rattle.sq_report.specs.declared.counts.PartCount.{PartCount}
 use Rattle.sq_report.specs.Counts.{counted}

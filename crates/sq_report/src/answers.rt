@@ -1,8 +1,7 @@
 // When jobs are answered, by which partition, and which jobs.
 use crate::moment::{Event, Happened, TimedAnswer};
 use crate::wait_marks::WaitBegins;
-use sq_driver::TellingNode;
-use sq_teller::Collector;
+use sq_driver::{Collector, TellingNode};
 use std::alloc::{AllocError, Global};
 use std::sync::atomic::{AtomicBool, AtomicU8, AtomicU64, Ordering};
 

@@ -2,9 +2,8 @@
 use crate::counts::PartCount;
 use crate::summary::Summary;
 use crate::table::write_summary;
-use sq_driver::TellingNode;
+use sq_driver::{Collector, TellingNode};
 use sq_gather::Gathered;
-use sq_teller::Collector;
 use std::alloc::{AllocError, Global};
 use std::io;
 use std::io::Write;

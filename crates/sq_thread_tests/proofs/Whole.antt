@@ -12,11 +12,11 @@ use Rattle.sq_node.specs.NodeState.{NodeState, IsNodeOf}
 use Rattle.sq_node.specs.Opened.{AreFirstSeats}
 use Rattle.sq_driver.specs.declared.teller.TellingNode.{TellingNode}
 use Rattle.sq_driver.specs.Told.{nodes_of}
-use Rattle.sq_teller.specs.declared.collector.Collector.{Collector}
+use Rattle.sq_driver.specs.declared.collector.Collector.{Collector}
 use Rattle.sq_gather.specs.Gathered.{AreAllOf, IsPumpOf}
 use Rattle.sq_gather.proofs.AllOf.{pump_claimed}
 use Rattle.sq_gather.proofs.Workers.{set_apart}
-use Rattle.sq_run.proofs.Collected.{Pairs, node_of}
+use Rattle.sq_driver.proofs.Collected.{Pairs, node_of}
 
 -- the node of a pair that was read
 node_there : (pairs : Pairs) (i : ℕ) (pair : TellingNode Collector) → i < length pairs → pair ≡ get_or pairs i pair → slice_get (nodes_of pairs) i ≡ Some pair.node

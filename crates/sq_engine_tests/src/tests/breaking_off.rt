@@ -1,9 +1,8 @@
 // A teller whose ring is full while nobody takes from it.
 use rtrb::RingBuffer;
-use sq_driver::Teller;
+use sq_driver::{RingTeller, Teller};
 use sq_node::Receipt;
 use sq_schema::{Cause, Op, Reply, RowKey, Schema, Txn};
-use sq_teller::RingTeller;
 use std::alloc::Global;
 use std::process::Abort;
 

@@ -9,7 +9,9 @@ ghost use Rattle.sq_audit.specs.Answers.{IdsDiffer};
 
 use super::text::{receipts_text, text_of};
 use sq_audit::Job;
-use sq_driver::{Gate, OpenGate, Teller, TellingNode, WorkersEnd, drive, drive_pump, run_workers};
+use sq_driver::{
+    Collector, Gate, OpenGate, Teller, TellingNode, WorkersEnd, drive, drive_pump, run_workers,
+};
 use sq_gather::{Gathered, gather};
 use sq_model::Step;
 use sq_node::{Fabric, Node, Receipt, RunParts, Stepped};
@@ -17,7 +19,6 @@ use sq_plan::PartId;
 use sq_ranges::Opening;
 use sq_schema::{Reply, Schema, Txn};
 use sq_shared::{Pump, PumpTurn, Request};
-use sq_teller::Collector;
 use sq_text::{LineReader, read_header, read_step};
 use std::alloc::{AllocError, Global};
 use std::process::Abort;

@@ -1,5 +1,5 @@
 use Rattle.std.proofs.Common.{◌+◌, false, List, refl, sym, subst}
-use Rattle.sq_teller.specs.declared.ring.RingTeller.{RingTeller}
+use Rattle.sq_driver.specs.declared.ring.RingTeller.{RingTeller}
 use Rattle.sq_engine.specs.Telling.{Ring, AreNewRings}
 use Rattle.sq_engine.proofs.Tellers.{one_more}
 use Rattle.sq_engine.proofs.telling.open_rings.Goals as goal

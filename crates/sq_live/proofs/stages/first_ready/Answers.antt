@@ -1,6 +1,6 @@
 use Rattle.std.proofs.Common.{◌∙◌, subst}
 use Rattle.sq_node_model.specs.BeganWith.{first_began}
-use Rattle.sq_run.specs.StageRunValue.{BeganFrom}
+use Rattle.sq_driver.specs.StageRunValue.{BeganFrom}
 use Rattle.sq_live.specs.Account.{AccountValue, IsAccount}
 use Rattle.sq_live.proofs.stages.first_ready.Goals as goal
 

@@ -11,7 +11,7 @@ use Rattle.sq_stages.specs.declared.leader.Led.TheVariants.{Next, Ended, Missing
 use Rattle.sq_live.specs.Account.{AccountValue}
 use Rattle.sq_stages.specs.Leading.{Leads}
 use Rattle.sq_live.specs.Judged.{MarksMoved}
-use Rattle.sq_run.specs.StageRunValue.{RanFrom}
+use Rattle.sq_driver.specs.StageRunValue.{RanFrom}
 use Rattle.sq_live.specs.Stages.{IsReady, GoesOnTo}
 use Rattle.sq_live.proofs.Passing.{WasTold, done_before, went_on, leads_next, last_stage, done_at_last, has_ended, not_done, goes_on_comes}
 use Rattle.sq_live.proofs.stages.run_stage.Goals as goal

@@ -4,13 +4,13 @@ use Rattle.sq_node.specs.NodeState.{IsNodeOf}
 use Rattle.sq_driver.specs.declared.teller.TellingNode.{TellingNode}
 use Rattle.sq_driver.specs.Told.{AllDrivenTelling, nodes_of}
 use Rattle.sq_driver.proofs.Together.{all_were_driven}
-use Rattle.sq_teller.specs.declared.collector.Collector.{Collector}
-use Rattle.sq_teller.specs.Collected.{CollectsOrBreaksOff}
+use Rattle.sq_driver.specs.declared.collector.Collector.{Collector}
+use Rattle.sq_driver.specs.Collected.{CollectsOrBreaksOff}
 use Rattle.sq_gather.specs.Gathered.{AreAllOf}
 use Rattle.sq_gather.proofs.Workers.{written}
 use Rattle.sq_gather.proofs.Lists.{empty}
-use Rattle.sq_run.proofs.Driven.{whole_driven}
-use Rattle.sq_run.proofs.Collected.{Pairs, all_of_fabric}
+use Rattle.sq_driver.proofs.Driven.{whole_driven}
+use Rattle.sq_driver.proofs.Collected.{Pairs, all_of_fabric}
 use Rattle.sq_engine_tests.proofs.tests.ending.drive.Goals as goal
 
 pub run_workers-requires-clause-nodes : goal.run_workers-requires-clause-nodes

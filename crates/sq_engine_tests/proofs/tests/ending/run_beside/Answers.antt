@@ -4,7 +4,7 @@ use Rattle.std.proofs.alloc.Global.TheSendSync as global
 use Rattle.std.proofs.vec.Vec.TheSendSync as vec
 use Rattle.sq_driver.proofs.Crosses.{fabric_sync}
 use Rattle.sq_driver.proofs.teller.TellingNode.TheSendSync as pair
-use Rattle.sq_teller.proofs.collector.Collector.TheSendSync as collector
+use Rattle.sq_driver.proofs.collector.Collector.TheSendSync as collector
 use Rattle.sq_engine_tests.proofs.tests.ending.EnoughGate.TheSendSync as gate
 use Rattle.sq_engine_tests.proofs.tests.ending.run_beside.Goals as goal
 

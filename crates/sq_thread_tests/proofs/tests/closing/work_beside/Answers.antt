@@ -5,7 +5,7 @@ use Rattle.std.proofs.vec.Vec.TheSendSync as vec
 use Rattle.sq_shared.proofs.pump.Pump.TheSendSync as pump
 use Rattle.sq_driver.proofs.Crosses.{fabric_sync}
 use Rattle.sq_driver.proofs.teller.TellingNode.TheSendSync as telling
-use Rattle.sq_teller.proofs.collector.Collector.TheSendSync as collector
+use Rattle.sq_driver.proofs.collector.Collector.TheSendSync as collector
 use Rattle.sq_thread_tests.proofs.tests.closing.work_beside.Goals as goal
 
 pub join-requires-send-F : goal.join-requires-send-F

@@ -4,7 +4,7 @@ use Rattle.std.specs.Prelude.{All}
 use Rattle.sq_node.specs.NodeState.{NodeState, IsNodeOf}
 use Rattle.sq_driver.specs.declared.teller.TellingNode.{TellingNode}
 use Rattle.sq_driver.specs.Pumps.{HasAllSeats}
-use Rattle.sq_teller.specs.declared.collector.Collector.{Collector}
+use Rattle.sq_driver.specs.declared.collector.Collector.{Collector}
 use Rattle.sq_thread_tests.proofs.tests.run.work_to_end.Goals as goal
 
 pub run_workers-requires-clause-nodes : goal.run_workers-requires-clause-nodes

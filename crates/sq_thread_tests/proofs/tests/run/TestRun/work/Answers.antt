@@ -6,12 +6,12 @@ use Rattle.sq_driver.specs.declared.teller.TellingNode.{TellingNode}
 use Rattle.sq_driver.specs.Told.{AllDrivenTelling, nodes_of}
 use Rattle.sq_driver.specs.Pumps.{HasAllSeats, AllPumpsDriven}
 use Rattle.sq_driver.proofs.Together.{all_were_driven}
-use Rattle.sq_teller.specs.declared.collector.Collector.{Collector}
-use Rattle.sq_teller.specs.Collected.{CollectsOrBreaksOff}
+use Rattle.sq_driver.specs.declared.collector.Collector.{Collector}
+use Rattle.sq_driver.specs.Collected.{CollectsOrBreaksOff}
 use Rattle.sq_gather.specs.Gathered.{AreAllOf}
 use Rattle.sq_gather.proofs.Workers.{pumps_of, written}
-use Rattle.sq_run.proofs.Driven.{whole_driven}
-use Rattle.sq_run.proofs.Collected.{Pairs, all_of_fabric}
+use Rattle.sq_driver.proofs.Driven.{whole_driven}
+use Rattle.sq_driver.proofs.Collected.{Pairs, all_of_fabric}
 use Rattle.sq_thread_tests.proofs.tests.run.TestRun.work.Goals as goal
 
 pub run_workers-requires-clause-nodes : goal.run_workers-requires-clause-nodes

@@ -1,5 +1,0 @@
-use Rattle.sq_teller.proofs.Collecting.{collects_all}
-use Rattle.sq_teller.proofs.laws.a_collector_has_what_is_written.Goals as goal
-
-pub returns : goal.returns
-returns c = collects_all
