@@ -4,3 +4,4 @@ pub mod Marks
 pub mod Segments
 pub mod Leader
 pub mod Calls
+pub mod Leading

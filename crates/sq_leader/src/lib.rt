@@ -1,4 +1,7 @@
-//! The leader of a move as typed states, so that a call in a wrong state can't be written.
+//! The leader of a move as typed states, so that a call in a wrong state can't be written; and the
+//! leader of a run in threads: the thread that gathers what each stage left starts the move, and
+//! after a stage it hears the reports that the partitions may make, and moves on to the next stage
+//! or ends the move.
 #![tactic(auto)]
 
 mod fault;
@@ -7,8 +10,10 @@ mod leader;
 mod marks;
 mod moving;
 mod report;
+mod stages_leader;
 
 pub use fault::{FinishFault, NextFault, PrepareFault, ReportFault, StageFault, StartFault};
 pub use leader::{Idle, Leader, Preparing, Refused};
 pub use moving::{Ended, Moving};
 pub use report::Report;
+pub use stages_leader::{Led, lead_on, start_move};

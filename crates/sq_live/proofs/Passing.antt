@@ -20,13 +20,13 @@ use Rattle.sq_audit.specs.Answers.{IdsDiffer}
 use Rattle.sq_live.specs.declared.outcome.LiveOutcome.{LiveOutcome}
 use Rattle.sq_live.specs.declared.stages.Ready.{Ready}
 use Rattle.sq_live.specs.Account.{AccountValue, first_account}
-use Rattle.sq_stages.specs.declared.leader.Led.TheVariants.{Next, Ended, Missing}
-use Rattle.sq_stages.specs.Leading.{leading, AreComplete, HasGoneOn, HasEnded, Leads}
+use Rattle.sq_leader.specs.declared.stages_leader.Led.TheVariants.{Next, Ended, Missing}
+use Rattle.sq_leader.specs.Leading.{leading, AreComplete, HasGoneOn, HasEnded, Leads}
 use Rattle.sq_live.specs.Judged.{MarksMoved}
 use Rattle.sq_driver.specs.StageRunValue.{RanFrom}
 use Rattle.sq_live.specs.Stages.{ContinuesWith, HavePassed, IsReady, ComesAfterStage, GoesOnTo}
 use Rattle.sq_live.specs.Live.{WereRun}
-use Rattle.sq_stages.proofs.Complete.{complete_by, marked_by, gone_on_by, ended_by}
+use Rattle.sq_leader.proofs.Complete.{complete_by, marked_by, gone_on_by, ended_by}
 
 -- ---- what the leader heard of marks, in the stage that was gathered
 

@@ -28,7 +28,7 @@ use Rattle.sq_audit.specs.Answers.{IdsDiffer}
 use Rattle.sq_audit.specs.Sound.{IsSoundRun}
 use Rattle.sq_live.specs.declared.outcome.LiveOutcome.TheVariants.{Sound}
 use Rattle.sq_live.specs.Account.{AccountValue}
-use Rattle.sq_stages.specs.Leading.{HasEnded}
+use Rattle.sq_leader.specs.Leading.{HasEnded}
 use Rattle.sq_live.specs.Outcome.{moved_count, commit_count, IsFoundSound}
 use Rattle.sq_live.specs.Live.{WereRun}
 use Rattle.sq_live.specs.WholeRun.{telling_stages, receipts_over, stored_family, log_over, IsCommitted, EndsAsPlanned}

@@ -19,7 +19,7 @@ use Rattle.sq_audit.specs.Folding.{answered_jobs}
 use Rattle.sq_live.specs.declared.outcome.LiveOutcome.{LiveOutcome}
 use Rattle.sq_live.specs.declared.outcome.LiveOutcome.TheVariants.{Sound, Stopped, Unsound}
 use Rattle.sq_live.specs.Account.{AccountValue}
-use Rattle.sq_stages.specs.Leading.{HasGoneOn, HasEnded}
+use Rattle.sq_leader.specs.Leading.{HasGoneOn, HasEnded}
 
 abbrev pub outcome_line : LiveOutcome → List ℕ
 outcome_line (Sound families committed) =

@@ -18,7 +18,7 @@ use Rattle.sq_live.specs.declared.outcome.LiveOutcome.TheVariants as outcome
 use Rattle.sq_live.specs.declared.continuing.Continued.{Continued}
 use Rattle.sq_live.specs.declared.stages.Ready.{Ready}
 use Rattle.sq_live.specs.Account.{AccountValue, IsAccount, first_account}
-use Rattle.sq_stages.specs.Leading.{leading, HasGoneOn}
+use Rattle.sq_leader.specs.Leading.{leading, HasGoneOn}
 use Rattle.sq_live.specs.Outcome.{commit_count, CameTo}
 
 -- the jobs with receipts were audited and the logs are folded: both are counted, and the run

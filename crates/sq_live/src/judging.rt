@@ -6,7 +6,7 @@ ghost use Rattle.sq_ranges.specs.Prelude.{stages, stage_at};
 ghost use Rattle.sq_leader.specs.LeaderValue.{StageValue};
 ghost use Rattle.sq_leader.specs.Segments.{is_marked_complete};
 ghost use Rattle.sq_node_model.specs.Prelude.{is_complete_in, IsStageDone, AllGrown};
-ghost use Rattle.sq_stages.specs.Leading.{HasEnded};
+ghost use Rattle.sq_leader.specs.Leading.{HasEnded};
 ghost use Rattle.sq_live.specs.Outcome.{answered_count, commit_count, CameTo, WhyStopped};
 ghost use Rattle.sq_live.specs.Judged.{MarksMoved, marked_count};
 

@@ -1,7 +1,7 @@
 use Rattle.std.proofs.Common.{refl, sym, ap, ◌∙◌, subst, arith}
 use Rattle.sq_leader.specs.LeaderValue.{IdleValue}
-use Rattle.sq_stages.proofs.Leading.{ArePrepared, first_prepared, all_prepared}
-use Rattle.sq_stages.proofs.leader.prepare_all.Goals as goal
+use Rattle.sq_leader.proofs.Leading.{ArePrepared, first_prepared, all_prepared}
+use Rattle.sq_leader.proofs.stages_leader.prepare_all.Goals as goal
 
 pub loop-part-init : goal.loop-part-init
 loop-part-init c =

@@ -1,5 +1,5 @@
-use Rattle.sq_stages.proofs.Leading.{AreHeard}
-use Rattle.sq_stages.proofs.leader.hear_reports.Given as goal
+use Rattle.sq_leader.proofs.Leading.{AreHeard}
+use Rattle.sq_leader.proofs.stages_leader.hear_reports.Given as goal
 
 -- of the partitions so far those have reported that may
 abbrev pub invariant-loop-part : goal.invariant-loop-part

@@ -24,8 +24,8 @@ use Rattle.sq_leader.specs.Leader.{answer_to_first_prepare, is_last, next_stage,
 use Rattle.sq_leader.proofs.Marked.{is_marked-none_marked, all_marked-by_part}
 use Rattle.sq_leader.proofs.Wholes.{all_pass, each_whole}
 use Rattle.sq_model.proofs.Keys.{ends_below}
-use Rattle.sq_stages.specs.declared.leader.Led.TheVariants.{Next, Ended, Missing}
-use Rattle.sq_stages.specs.Leading.{leading, LeadsStage, HaveReported, HasHeard, AreComplete, Leads}
+use Rattle.sq_leader.specs.declared.stages_leader.Led.TheVariants.{Next, Ended, Missing}
+use Rattle.sq_leader.specs.Leading.{leading, LeadsStage, HaveReported, HasHeard, AreComplete, Leads}
 
 -- the partitions below this number have prepared
 pub record ArePrepared (parts part : ℕ) (prepared : List Bool) : Type 0 where

@@ -5,7 +5,7 @@ use Rattle.std.proofs.lemmas.Option.{slice_get_within, slice_get_past}
 use Rattle.sq_ranges.specs.ReconValue.{of_stage, goes_into, moves_into}
 use Rattle.sq_ranges.specs.OpeningValue.{OpeningValue}
 use Rattle.sq_leader.specs.LeaderValue.{StageValue}
-use Rattle.sq_stages.specs.Leading.{AreComplete, HasHeard, HasGoneOn, HasEnded}
+use Rattle.sq_leader.specs.Leading.{AreComplete, HasHeard, HasGoneOn, HasEnded}
 
 module _ (o : OpeningValue) (stage : ℕ) (by is_complete : ℕ → Bool) (same : (seg : ℕ) → seg < length o.recon.segments → by seg ≡ is_complete seg) where
   pub complete_by : AreComplete o stage by → AreComplete o stage is_complete

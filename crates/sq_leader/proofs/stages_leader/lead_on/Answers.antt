@@ -1,8 +1,8 @@
 use Rattle.std.proofs.Common.{subst}
 use Rattle.sq_leader.specs.Segments.{is_marked_complete}
-use Rattle.sq_stages.specs.Leading.{Leads}
-use Rattle.sq_stages.proofs.Leading.{goes_on, stays_between, same_stage}
-use Rattle.sq_stages.proofs.leader.lead_on.Goals as goal
+use Rattle.sq_leader.specs.Leading.{Leads}
+use Rattle.sq_leader.proofs.Leading.{goes_on, stays_between, same_stage}
+use Rattle.sq_leader.proofs.stages_leader.lead_on.Goals as goal
 
 pub returns-in-Ok : goal.returns-in-Ok
 returns-in-Ok c = goes_on c.args.opening.now c.args.moving.stage c.args.whole.now c.hear_reports.result c.hear_reports.ensures.heard c.in-Ok.moving c.in-Ok.ensures.answer

@@ -4,9 +4,12 @@ ghost use Rattle.sq_ranges.specs.Prelude.{IsOpening};
 ghost use Rattle.sq_leader.specs.Marks.{all_marked};
 ghost use Rattle.sq_leader.specs.Segments.{is_marked_complete};
 ghost use Rattle.sq_leader.specs.Leader.{is_last};
-ghost use Rattle.sq_stages.specs.Leading.{leading, HaveReported, Leads};
+ghost use Rattle.sq_leader.specs.Leading.{leading, HaveReported, Leads};
 
-use sq_leader::{Idle, Moving, NextFault, Preparing, Report};
+use crate::fault::NextFault;
+use crate::leader::{Idle, Preparing};
+use crate::moving::Moving;
+use crate::report::Report;
 use sq_plan::Plan;
 use sq_ranges::{Opening, Recon};
 use std::alloc::AllocError;

@@ -1,6 +1,6 @@
 use Rattle.std.proofs.Common.{◌≡◌}
-use Rattle.sq_stages.proofs.Leading.{ArePrepared}
-use Rattle.sq_stages.proofs.leader.prepare_all.Given as goal
+use Rattle.sq_leader.proofs.Leading.{ArePrepared}
+use Rattle.sq_leader.proofs.stages_leader.prepare_all.Given as goal
 
 -- the partitions so far have prepared
 abbrev pub invariant-loop-part : goal.invariant-loop-part
