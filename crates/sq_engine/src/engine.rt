@@ -21,7 +21,7 @@ use sq_node::Fabric;
 use sq_plan::Plan;
 use sq_ranges::{Opening, Recon, ReconFault};
 use sq_schema::Table;
-use sq_slab::SlabStore;
+use sq_store::SlabStore;
 use std::alloc::{AllocError, Global};
 use std::marker::Model;
 use std::mem;

@@ -4,10 +4,10 @@ use Rattle.std.specs.Prelude.{is_some, IfOk, OnErr}
 use Rattle.std.proofs.lemmas.List.{get_or_default}
 use Rattle.sq_ranges.specs.declared.recon.Extent.{Extent}
 use Rattle.sq_ranges.specs.declared.recon.Link.{Link}
-use Rattle.sq_chunk.specs.declared.chunk.Note.{Note}
-use Rattle.sq_chunk.specs.ChunkValue.{ChunkValue}
+use Rattle.sq_store.specs.declared.chunk.Note.{Note}
+use Rattle.sq_store.specs.ChunkValue.{ChunkValue}
 use Rattle.sq_store.specs.StoreValue.{StoreValue, families_between, without_between, take_end}
-use Rattle.sq_chunk.specs.NextChunk.{next_chunk}
+use Rattle.sq_store.specs.NextChunk.{next_chunk}
 use Rattle.sq_exec.specs.Work.{WorkValue, next_work, no_work, work_at, work_after}
 use Rattle.sq_exec.specs.OutLink.{OutLinkValue, RoomyOutLink, new_out_link, note_for, IsCut}
 use Rattle.sq_exec.specs.declared.fault.CutFault.{CutFault}

@@ -13,7 +13,7 @@ use Rattle.sq_schema.specs.Family.{FamilyValue}
 use Rattle.sq_schema.specs.Rows.{is_rooted}
 use Rattle.sq_schema.specs.Table.{TableValue, rows_in, is_opening}
 use Rattle.sq_plan.specs.PlanValue.{PlanValue, owner}
-use Rattle.sq_chunk.specs.ChunkValue.{are_within}
+use Rattle.sq_store.specs.ChunkValue.{are_within}
 use Rattle.sq_store.specs.StoreValue.{family_in, with_families}
 use Rattle.sq_store.proofs.Order.{less_from_cmp}
 use Rattle.sq_store.proofs.Rising.{get-with_families}

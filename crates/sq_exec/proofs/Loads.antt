@@ -4,7 +4,7 @@ use Rattle.std.specs.Prelude.{◌==◌, ◌&&◌, slice_get, IsTrue, OnErr}
 use Rattle.std.proofs.lemmas.List.{get_or_default, set-get_or}
 use Rattle.std.proofs.lemmas.Option.{same_Some, slice_get_within}
 use Rattle.sq_ranges.specs.declared.recon.Range.{Range}
-use Rattle.sq_chunk.specs.ChunkValue.{ChunkValue}
+use Rattle.sq_store.specs.ChunkValue.{ChunkValue}
 use Rattle.sq_schema.specs.TxnValue.{TxnValue}
 use Rattle.sq_waiting.specs.Waiting.{Arrival, WaitingValue, txns_of, numbers_of, due_if, with_due}
 use Rattle.sq_waiting.specs.Index.{is_between}
@@ -18,7 +18,7 @@ use Rattle.sq_exec.specs.Moving.{lies_in, can_load, can_load_in, loaded_core, Lo
 use Rattle.sq_exec.specs.Kept.{IsCore}
 use Rattle.sq_exec.proofs.Coming.{IsMoreDue, more_kept, loaded_kept}
 use Rattle.sq_exec.proofs.Seen.{seen_changed, seen_kept}
-use Rattle.sq_chunk.specs.declared.chunk.Note.{Note}
+use Rattle.sq_store.specs.declared.chunk.Note.{Note}
 
 -- what holds anyway holds on an error
 pub on_err : {T E : Type 0} {P : Type 0} → (result : Result T E) → P → OnErr result P

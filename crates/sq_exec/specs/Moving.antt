@@ -5,8 +5,8 @@ use Rattle.sq_schema.specs.Prelude.{FamilyValue}
 use Rattle.sq_ranges.specs.declared.recon.Extent.{Extent}
 use Rattle.sq_ranges.specs.declared.recon.Range.{Range}
 use Rattle.sq_ranges.specs.ReconValue.{extent}
-use Rattle.sq_chunk.specs.declared.chunk.Note.{Note}
-use Rattle.sq_chunk.specs.ChunkValue.{ChunkValue}
+use Rattle.sq_store.specs.declared.chunk.Note.{Note}
+use Rattle.sq_store.specs.ChunkValue.{ChunkValue}
 use Rattle.sq_store.specs.StoreValue.{StoreValue, with_families, has_none_of}
 use Rattle.sq_exec.specs.declared.fault.LoadFault.{LoadFault}
 use Rattle.sq_exec.specs.declared.fault.LoadFault.TheVariants as fault

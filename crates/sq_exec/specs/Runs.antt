@@ -1,7 +1,7 @@
 -- What is loaded of a segment: runs of root keys.
 use Rattle.std.specs.Prelude.{ℕ, Bool, ◌==◌, ◌&&◌, ◌||◌, nat_lt, nat_le, max, min, List, [], ◌∷◌, ◌++◌, position, slice_set, slice_index_or, Option, Some, None}
 use Rattle.std.specs.List.{list_any}
-use Rattle.sq_chunk.specs.declared.chunk.Note.{Note}
+use Rattle.sq_store.specs.declared.chunk.Note.{Note}
 use Rattle.sq_exec.specs.declared.run.Run.{Run}
 
 -- the root key is in the run

@@ -3,8 +3,8 @@ ghost use Rattle.std.specs.Prelude.{◌≡◌, ◌≢◌, ℕ, ◌<◌, ◌==◌
 ghost use Rattle.std.specs.List.{list_all};
 ghost use Rattle.sq_tree.specs.declared.node.TheConstants.{LEAVES};
 ghost use Rattle.sq_tree.specs.Prelude.{is_above};
-ghost use Rattle.sq_chunk.specs.declared.chunk.Note.{Note};
-ghost use Rattle.sq_chunk.specs.ChunkValue.{ChunkValue, covers};
+ghost use Rattle.sq_store.specs.declared.chunk.Note.{Note};
+ghost use Rattle.sq_store.specs.ChunkValue.{ChunkValue, covers};
 ghost use Rattle.sq_ranges.specs.declared.recon.Extent.{Extent};
 ghost use Rattle.sq_ranges.specs.declared.recon.Link.{Link};
 ghost use Rattle.sq_exec.specs.declared.run.Run.{Run};

@@ -9,10 +9,9 @@ ghost use Rattle.sq_exec.specs.Kept.{IsCore};
 use crate::given_up::GivenUp;
 use crate::out_link::OutLink;
 use crate::run::Run;
-use sq_chunk::Chunk;
 use sq_plan::{PartId, Plan};
 use sq_ranges::Recon;
-use sq_store::FamilyStore;
+use sq_store::{Chunk, FamilyStore};
 use sq_waiting::Waiting;
 use std::marker::Model;
 

@@ -7,7 +7,7 @@ use crate::part_core::PartCore;
 use sq_plan::{PartId, Plan};
 use sq_ranges::Opening;
 use sq_schema::Table;
-use sq_slab::{Place, SlabStore};
+use sq_store::{Place, SlabStore};
 use std::alloc::{AllocError, Global};
 
 /// Returns the families of the root keys that `part` owns before the move.

@@ -1,6 +1,6 @@
 -- The ends of links that a node had, each put at the place of its link.
 use Rattle.std.specs.Prelude.{◌≡◌, ◌⊎◌, ℕ, ◌<◌, ◌≤◌, false, List, length, slice_get, slice_index_or, Option, Some, None}
-use Rattle.sq_chunk.specs.ChunkValue.{ChunkValue}
+use Rattle.sq_store.specs.ChunkValue.{ChunkValue}
 use Rattle.sq_exec.specs.OutLink.{OutLinkValue, RoomyOutLink, new_out_link}
 use Rattle.sq_node.specs.Ends.{EndValue, end_at}
 use Rattle.sq_gather.specs.LinkEnds.{LinkEndsValue}

@@ -1,7 +1,7 @@
 -- What the nodes at the two ends of a link left of it.
 use Rattle.std.specs.Prelude.{ℕ, List, Option}
-use Rattle.sq_chunk.specs.declared.chunk.Note.{Note}
-use Rattle.sq_chunk.specs.ChunkValue.{ChunkValue}
+use Rattle.sq_store.specs.declared.chunk.Note.{Note}
+use Rattle.sq_store.specs.ChunkValue.{ChunkValue}
 use Rattle.sq_shared.specs.Values.{PassValue}
 
 -- of the source: the sending end, the notes of all chunks that were cut and the chunk that isn't

@@ -1,7 +1,7 @@
 -- Re-exports the definitions of lower crates that callers cite of what was gathered. It declares
 -- nothing.
-pub use Rattle.sq_chunk.specs.ChunkValue.{ChunkValue, are_within, covers}
-pub use Rattle.sq_chunk.specs.declared.chunk.Note.{Note}
+pub use Rattle.sq_store.specs.ChunkValue.{ChunkValue, are_within, covers}
+pub use Rattle.sq_store.specs.declared.chunk.Note.{Note}
 pub use Rattle.sq_model.specs.Links.{end_of_note, is_about, is_on_link}
 pub use Rattle.sq_model.specs.Orderly.{GoesOn}
 pub use Rattle.sq_model.specs.Place.{At, Place, Under_way, destination, extent_of, is_within, loaded_place, place_from, source}

@@ -3,9 +3,9 @@ ghost use Rattle.std.specs.Prelude.{◌≡◌, length};
 ghost use Rattle.sq_gather.specs.Ends.{AreApart, AreAmong, HavePut, DestinationsPut, with_out_link, no_out_link};
 
 use crate::link_ends::LinkEnds;
-use sq_chunk::Chunk;
 use sq_exec::OutLink;
 use sq_node::{LinkEnd, Receiver, Sender};
+use sq_store::Chunk;
 
 // Puts each sending end of a node at the place of its link, with the partition's notes and outbox
 // for that link.

@@ -8,7 +8,7 @@ use crate::links::ClosedLink;
 use sq_history::History;
 use sq_node::Receipt;
 use sq_schema::Txn;
-use sq_slab::SlabStore;
+use sq_store::SlabStore;
 use sq_tree::{NODES, Status};
 use std::marker::Model;
 

@@ -19,7 +19,7 @@ use sq_history::History;
 use sq_node::{Fabric, Node, NodeParts, Post, Receipt};
 use sq_schema::Txn;
 use sq_shared::{Pump, SharedLink, StatusTree, TreeSeat};
-use sq_slab::SlabStore;
+use sq_store::SlabStore;
 use sq_tree::{NODES, Status};
 use sq_waiting::Waiting;
 use std::alloc::{AllocError, Global};

@@ -2,8 +2,8 @@
 ghost use Rattle.std.specs.Prelude.{◌≡◌, ◌+◌, Some, IfOk};
 ghost use Rattle.sq_gather.specs.Links.{no_ends};
 
-use sq_chunk::{Chunk, Note};
 use sq_shared::{RecvPass, SendPass, SharedLink};
+use sq_store::{Chunk, Note};
 use std::alloc::{AllocError, Global};
 use std::marker::Model;
 

@@ -3,10 +3,10 @@ ghost use Rattle.std.specs.Prelude.{◌≡◌, [], ◌+◌, ◌<◌, ◌≤◌, 
 ghost use Rattle.sq_gather.specs.Links.{HasBothEnds, IsClosed, HaveBothEnds, AreClosed};
 
 use crate::link_ends::LinkEnds;
-use sq_chunk::{Chunk, Note};
 use sq_plan::PartId;
 use sq_ranges::Link;
 use sq_shared::SharedLink;
+use sq_store::{Chunk, Note};
 use std::marker::Model;
 use std::sync::Wait;
 

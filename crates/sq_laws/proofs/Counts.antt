@@ -7,8 +7,8 @@ use Rattle.std.proofs.lemmas.List.{reverse-append}
 use Rattle.std.proofs.lemmas.List.Elements.{All-nil, All-cons, All-head, All-tail, All-append}
 use Rattle.std.proofs.lemmas.List.Sums.{sum_by-cons, sum_by-append}
 use Rattle.sq_schema.specs.Family.{FamilyValue}
-use Rattle.sq_chunk.specs.declared.chunk.Note.{Note}
-use Rattle.sq_chunk.specs.ChunkValue.{ChunkValue, are_within}
+use Rattle.sq_store.specs.declared.chunk.Note.{Note}
+use Rattle.sq_store.specs.ChunkValue.{ChunkValue, are_within}
 use Rattle.sq_store.specs.StoreValue.{family_in}
 use Rattle.sq_store.proofs.Rising.{rises, none_below}
 use Rattle.sq_model.specs.Orderly.{AreNumbered}

@@ -13,7 +13,7 @@ use Rattle.sq_store.proofs.Places.{starts_rise}
 use Rattle.sq_store.proofs.Between.{entries-rooted}
 use Rattle.sq_store.proofs.Spans.{between-store_of}
 use Rattle.sq_store.proofs.Cuts.{count_fits, cut_between}
-use Rattle.sq_slab.proofs.Betweens.{has_start}
+use Rattle.sq_store.proofs.Betweens.{has_start}
 use Rattle.sq_picture.specs.Cutting.{chunks_from, chunks_to_cut}
 use Rattle.sq_laws.specs.Cuts.{AreCutInto}
 

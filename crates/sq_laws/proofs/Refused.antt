@@ -6,7 +6,7 @@ use Rattle.sq_schema.specs.TxnValue.{TxnValue}
 use Rattle.sq_tree.specs.Node.{is_node}
 use Rattle.sq_tree.specs.declared.status.Status.TheVariants as status
 use Rattle.sq_tree.specs.Answer.{split_answer, claim_answer, begin_answer, complete_answer}
-use Rattle.sq_chunk.specs.ChunkValue.{ChunkValue}
+use Rattle.sq_store.specs.ChunkValue.{ChunkValue}
 use Rattle.sq_ranges.specs.ReconValue.{stage_on}
 use Rattle.sq_exec.specs.declared.fault.SubmitFault.{SubmitFault}
 use Rattle.sq_exec.specs.declared.outcome.Outcome.{Outcome}

@@ -5,8 +5,8 @@ use Rattle.sq_schema.specs.Effect.{reply}
 use Rattle.sq_schema.specs.declared.txn.Reply.{Reply}
 use Rattle.sq_tree.specs.declared.status.Status.TheVariants.{Free, Claimed, Partial}
 use Rattle.sq_tree.specs.Status.{is_live, reading}
-use Rattle.sq_chunk.specs.declared.chunk.Note.{Note}
-use Rattle.sq_chunk.specs.ChunkValue.{covers}
+use Rattle.sq_store.specs.declared.chunk.Note.{Note}
+use Rattle.sq_store.specs.ChunkValue.{covers}
 use Rattle.sq_ranges.specs.declared.opening.TheConstants.{MAX_WAITING}
 use Rattle.sq_ranges.specs.declared.recon.Range.{Range}
 use Rattle.sq_ranges.specs.ReconValue.{stage_in}

@@ -17,7 +17,7 @@ use sq_gather::{Gathered, reads_complete};
 use sq_node::Receipt;
 use sq_ranges::{Recon, SEGMENT_LIMIT, SegId};
 use sq_schema::Reply;
-use sq_slab::SlabStore;
+use sq_store::SlabStore;
 use sq_tree::{NODES, NodeId, Status};
 use std::alloc::{AllocError, Global};
 use std::thread::Threads;

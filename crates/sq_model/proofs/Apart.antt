@@ -7,8 +7,8 @@ use Rattle.sq_tree.specs.declared.status.Status.TheVariants.{Partial, Complete}
 use Rattle.sq_tree.specs.Node.{is_above}
 use Rattle.sq_tree.specs.Status.{is_free, is_split, is_begun, covering}
 use Rattle.sq_tree.proofs.Covering.{covering_touched}
-use Rattle.sq_chunk.specs.declared.chunk.Note.{Note}
-use Rattle.sq_chunk.specs.ChunkValue.{covers}
+use Rattle.sq_store.specs.declared.chunk.Note.{Note}
+use Rattle.sq_store.specs.ChunkValue.{covers}
 use Rattle.sq_ranges.specs.declared.recon.Range.{Range}
 use Rattle.sq_ranges.specs.ReconValue.{segment_of, leaf_of}
 use Rattle.sq_ranges.specs.OpeningValue.{OpeningValue}

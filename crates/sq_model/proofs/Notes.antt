@@ -4,7 +4,7 @@ use Rattle.std.proofs.lemmas.Bool.{and_parts, and_from, eqb-true, eq-eqb, not-tr
 use Rattle.std.proofs.lemmas.List.Elements.{Contains-append_right}
 use Rattle.sq_tree.specs.declared.status.Status.TheVariants.{Split, Claimed, Partial, Complete}
 use Rattle.sq_tree.specs.Status.{is_begun, is_complete}
-use Rattle.sq_chunk.specs.declared.chunk.Note.{Note}
+use Rattle.sq_store.specs.declared.chunk.Note.{Note}
 use Rattle.sq_ranges.specs.declared.recon.Range.{Range}
 use Rattle.sq_ranges.specs.OpeningValue.{OpeningValue}
 use Rattle.sq_model.specs.declared.step.Step.{Step}

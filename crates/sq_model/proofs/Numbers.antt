@@ -2,7 +2,7 @@
 use Rattle.std.proofs.Common.{◌≡◌, inl, inr, ℕ, suc, ◌<◌, ◌≤◌, Bool, ◌==◌, List, [], ◌∷◌, ◌++◌, length, find, Contains, Some, sym, ap, ◌∙◌, subst, length-append, arith}
 use Rattle.std.proofs.lemmas.Bool.{cases_Bool, cond-true, cond-false, eqb-true, eq-eqb, ne_eqb}
 use Rattle.std.proofs.lemmas.List.{nil_from_length}
-use Rattle.sq_chunk.specs.declared.chunk.Note.{Note}
+use Rattle.sq_store.specs.declared.chunk.Note.{Note}
 use Rattle.sq_model.specs.Orderly.{AreNumbered}
 use Rattle.sq_model.proofs.Lists.{Contains-nothing, Contains-cases, found_in}
 

@@ -14,7 +14,7 @@ use Rattle.sq_tree.specs.Node.{is_node}
 use Rattle.sq_tree.specs.Answer.{split_answer, claim_answer, begin_answer, complete_answer}
 use Rattle.sq_tree.specs.declared.status.Status.TheVariants.{Claimed, Partial}
 use Rattle.sq_tree.proofs.Went.{SplitWent, split_went, ClaimWent, claim_went, begin_went, complete_went}
-use Rattle.sq_chunk.specs.declared.chunk.Note.{Note}
+use Rattle.sq_store.specs.declared.chunk.Note.{Note}
 use Rattle.std.proofs.lemmas.Option.{slice_get_within}
 use Rattle.sq_ranges.specs.declared.recon.Range.{Range}
 use Rattle.sq_ranges.specs.ReconValue.{ReconValue, is_link, stage_on, stage_in, stages, of_stage}

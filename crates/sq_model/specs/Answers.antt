@@ -15,7 +15,7 @@ use Rattle.sq_tree.specs.Node.{is_node}
 use Rattle.sq_tree.specs.Reading.{is_complete_reading}
 use Rattle.sq_tree.specs.Status.{reading}
 use Rattle.sq_tree.specs.Answer.{split_answer, claim_answer, begin_answer, complete_answer}
-use Rattle.sq_chunk.specs.declared.chunk.Note.{Note}
+use Rattle.sq_store.specs.declared.chunk.Note.{Note}
 use Rattle.sq_ranges.specs.declared.recon.Range.{Range}
 use Rattle.sq_ranges.specs.declared.opening.TheConstants.{MAX_WAITING}
 use Rattle.sq_ranges.specs.ReconValue.{ReconValue, is_link, leaf_at, stage_on, stages, of_stage, moves_into}

@@ -1,8 +1,8 @@
 -- What a link carries next.
 use Rattle.std.specs.Prelude.{ℕ, Bool, false, ◌-◌, ◌%◌, ◌==◌, ◌&&◌, not, List, [], ◌∷◌, find, filter, length, Option, Some, None, slice_get}
 use Rattle.std.specs.List.{list_any, range_with_len}
-use Rattle.sq_chunk.specs.declared.chunk.Note.{Note}
-pub use Rattle.sq_chunk.specs.ChunkValue.{is_about}
+use Rattle.sq_store.specs.declared.chunk.Note.{Note}
+pub use Rattle.sq_store.specs.ChunkValue.{is_about}
 use Rattle.sq_ranges.specs.declared.recon.Range.{Range}
 use Rattle.sq_ranges.specs.CutEnd.{end_of}
 use Rattle.sq_ranges.specs.OpeningValue.{OpeningValue}

@@ -3,7 +3,7 @@
 use Rattle.std.specs.Prelude.{ℕ, ◌+◌, ◌==◌, ◌&&◌, if◌then◌else◌, List, [], ◌∷◌, ◌++◌, filter, length}
 use Rattle.sq_schema.specs.TxnValue.{TxnValue}
 use Rattle.sq_schema.specs.declared.txn.Reply.TheVariants.{Committed}
-use Rattle.sq_chunk.specs.declared.chunk.Note.{Note}
+use Rattle.sq_store.specs.declared.chunk.Note.{Note}
 use Rattle.sq_model.specs.declared.step.Step.{Step}
 use Rattle.sq_model.specs.declared.step.Step.TheVariants.{Submit, Resume, Cut, Push, Pop, Load, Next, Fold}
 use Rattle.sq_model.specs.declared.answer.Answer.{Answer}

@@ -2,7 +2,7 @@
 -- at its end.
 use Rattle.std.specs.Prelude.{ℕ, pos, true, List, [], ◌∷◌, ◌++◌}
 use Rattle.sq_schema.specs.declared.root.TheConstants.{ROOT_END}
-use Rattle.sq_chunk.specs.declared.chunk.Note.{Note}
+use Rattle.sq_store.specs.declared.chunk.Note.{Note}
 use Rattle.sq_plan.specs.declared.version.Stages.TheVariants.{Auto}
 use Rattle.sq_plan.specs.declared.version.Version.TheVariants.{First, Second}
 use Rattle.sq_ranges.specs.declared.recon.Range.{Range}

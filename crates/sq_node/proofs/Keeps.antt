@@ -4,7 +4,7 @@ use Rattle.std.proofs.Common.{◌≡◌, ℕ, Bool, true, false, List, slice_get
 use Rattle.std.specs.Prelude.{IfSome, ◌==◌, ◌&&◌}
 use Rattle.std.proofs.lemmas.Bool.{and_parts, eq-eqb}
 use Rattle.std.specs.Option.{option_map_or}
-use Rattle.sq_chunk.specs.ChunkValue.{ChunkValue, IsChunk}
+use Rattle.sq_store.specs.ChunkValue.{ChunkValue, IsChunk}
 use Rattle.sq_ranges.specs.declared.recon.Range.{Range}
 use Rattle.sq_ranges.specs.ReconValue.{ReconValue, stage_on, stage_in}
 use Rattle.sq_ranges.specs.OpeningValue.{OpeningValue}

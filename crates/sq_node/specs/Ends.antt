@@ -1,7 +1,7 @@
 -- The ends of links that a node has.
 use Rattle.std.specs.Prelude.{◌≡◌, ℕ, ◌<◌, ◌==◌, ◌&&◌, List, [], ◌∷◌, ◌++◌, length, position, slice_index_or, Option, Some, None, option_map}
 use Rattle.crossbeam_queue.specs.Fifo.{Held}
-use Rattle.sq_chunk.specs.ChunkValue.{ChunkValue}
+use Rattle.sq_store.specs.ChunkValue.{ChunkValue}
 use Rattle.sq_shared.specs.Values.{LinkValue, PassValue}
 use Rattle.sq_shared.specs.Order.{IsEndOf, ComesAfter}
 use Rattle.sq_node.specs.declared.ends.LinkEnd.{LinkEnd}

@@ -7,8 +7,8 @@ use Rattle.sq_ranges.specs.declared.recon.Range.{Range}
 use Rattle.sq_ranges.specs.ReconValue.{stage_on, stage_in}
 use Rattle.sq_shared.specs.Plays.{Won}
 use Rattle.sq_shared.specs.Seat.{SeatValue}
-use Rattle.sq_chunk.specs.declared.chunk.Note.{Note}
-use Rattle.sq_chunk.specs.ChunkValue.{ChunkValue, IsChunk}
+use Rattle.sq_store.specs.declared.chunk.Note.{Note}
+use Rattle.sq_store.specs.ChunkValue.{ChunkValue, IsChunk}
 use Rattle.sq_exec.specs.CoreValue.{CoreValue, out_at, with_out, inbox_at, with_inbox, loaded_at}
 use Rattle.sq_exec.specs.OutLink.{may_cut}
 use Rattle.sq_exec.specs.Runs.{is_whole}

@@ -2,8 +2,8 @@
 ghost use Rattle.std.specs.Prelude.{◌≡◌, ◌<◌, length, Some, None, OnOk, OnErr, IfErr, IfSome, IfNone};
 ghost use Rattle.sq_node.specs.Ends.{EndValue, passed_on, IsEnd, WasFull, WasEmpty};
 
-use sq_chunk::Chunk;
 use sq_shared::{LinkPass, Receives, RecvPass, SendPass, Sends, SharedLink, Side};
+use sq_store::Chunk;
 use std::marker::Model;
 use std::sync::Wait;
 

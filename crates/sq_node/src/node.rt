@@ -12,7 +12,7 @@ use sq_history::History;
 use sq_plan::PartId;
 use sq_ranges::SegId;
 use sq_shared::{Puller, TreeSeat};
-use sq_slab::SlabStore;
+use sq_store::SlabStore;
 use sq_tree::NodeId;
 use std::alloc::Global;
 use std::collections::VecDeque;

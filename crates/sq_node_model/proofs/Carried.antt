@@ -5,7 +5,7 @@ use Rattle.std.proofs.lemmas.Bool.Decides.{eqb_tells}
 use Rattle.sq_schema.specs.Family.{FamilyValue}
 use Rattle.sq_store.specs.StoreValue.{family_in}
 use Rattle.sq_store.proofs.Rising.{rises}
-use Rattle.sq_chunk.specs.ChunkValue.{ChunkValue, covers, are_within}
+use Rattle.sq_store.specs.ChunkValue.{ChunkValue, covers, are_within}
 use Rattle.sq_node_model.specs.FamiliesHold.{IsCarried}
 
 -- a family of rising ones lies between their bounds

@@ -6,7 +6,7 @@ use Rattle.sq_tree.specs.declared.status.Status.TheVariants.{Partial, Complete}
 use Rattle.sq_tree.specs.Node.{is_node}
 use Rattle.sq_tree.specs.Status.{is_begun}
 use Rattle.sq_tree.specs.Tree.{status_at}
-use Rattle.sq_chunk.specs.ChunkValue.{ChunkValue}
+use Rattle.sq_store.specs.ChunkValue.{ChunkValue}
 use Rattle.sq_ranges.specs.declared.recon.Range.{Range}
 use Rattle.sq_ranges.specs.declared.recon.Extent.{Extent}
 use Rattle.sq_ranges.specs.ReconValue.{extent}

@@ -6,7 +6,7 @@ use Rattle.std.proofs.lemmas.List.{get_or-replicate, length-replicate, get_or_pa
 use Rattle.sq_schema.specs.Family.{FamilyValue}
 use Rattle.sq_tree.specs.declared.node.TheConstants.{LEAVES}
 use Rattle.sq_store.specs.StoreValue.{StoreValue, absent}
-use Rattle.sq_chunk.specs.ChunkValue.{ChunkValue}
+use Rattle.sq_store.specs.ChunkValue.{ChunkValue}
 use Rattle.sq_ranges.specs.OpeningValue.{OpeningValue}
 use Rattle.sq_exec.specs.declared.run.Run.{Run}
 use Rattle.sq_exec.specs.GivenUp.{none_given_up}

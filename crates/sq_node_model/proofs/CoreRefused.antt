@@ -6,7 +6,7 @@ use Rattle.std.specs.FinMap.{get}
 use Rattle.std.proofs.lemmas.Bool.{and_from, le-leb, lt-ltb, ltb-true}
 use Rattle.sq_schema.specs.Family.{FamilyValue}
 use Rattle.sq_store.specs.StoreValue.{StoreValue, family_in, has_none_of}
-use Rattle.sq_chunk.specs.ChunkValue.{ChunkValue, IsChunk, covers}
+use Rattle.sq_store.specs.ChunkValue.{ChunkValue, IsChunk, covers}
 use Rattle.sq_ranges.specs.ReconValue.{ReconValue, extent}
 use Rattle.sq_ranges.specs.OpeningValue.{OpeningValue}
 use Rattle.sq_ranges.specs.Opening.{IsOpening}

@@ -5,7 +5,7 @@ use Rattle.std.proofs.lemmas.Bool.{cases_Bool, eqb-true, eq-eqb, ltb-true}
 use Rattle.sq_schema.specs.TxnValue.{TxnValue}
 use Rattle.sq_tree.specs.Node.{is_above}
 use Rattle.sq_store.specs.StoreValue.{StoreValue, store_reply, store_after}
-use Rattle.sq_chunk.specs.ChunkValue.{ChunkValue, covers}
+use Rattle.sq_store.specs.ChunkValue.{ChunkValue, covers}
 use Rattle.sq_plan.specs.PlanValue.{owner}
 use Rattle.sq_ranges.specs.declared.recon.Range.{Range}
 use Rattle.sq_ranges.specs.ReconValue.{ReconValue, segment_of, leaf_of, leaf_at, stage_on}

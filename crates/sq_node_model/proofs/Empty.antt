@@ -15,8 +15,8 @@ use Rattle.sq_tree.specs.Status.{is_free, is_split, is_begun, is_complete}
 use Rattle.sq_tree.proofs.Nested.{above_within}
 use Rattle.sq_tree.proofs.Covering.{covering_touched}
 use Rattle.sq_model.proofs.Statuses.{all_complete}
-use Rattle.sq_chunk.specs.declared.chunk.Note.{Note}
-use Rattle.sq_chunk.specs.ChunkValue.{ChunkValue}
+use Rattle.sq_store.specs.declared.chunk.Note.{Note}
+use Rattle.sq_store.specs.ChunkValue.{ChunkValue}
 use Rattle.sq_ranges.specs.ReconValue.{stage_on, stage_in}
 use Rattle.sq_ranges.specs.OpeningValue.{OpeningValue}
 use Rattle.sq_model.specs.Links.{is_about, has_last}

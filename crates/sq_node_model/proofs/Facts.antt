@@ -2,7 +2,7 @@
 use Rattle.std.proofs.Common.{◌≡◌, ℕ, true}
 use Rattle.std.specs.Prelude.{◌≢◌}
 use Rattle.sq_schema.specs.Family.{FamilyValue}
-use Rattle.sq_chunk.specs.ChunkValue.{ChunkValue, covers}
+use Rattle.sq_store.specs.ChunkValue.{ChunkValue, covers}
 use Rattle.sq_ranges.specs.OpeningValue.{OpeningValue}
 use Rattle.sq_ranges.specs.Opening.{IsOpening}
 use Rattle.sq_model.specs.Place.{extent_of, is_within}

@@ -13,7 +13,7 @@ use Rattle.sq_schema.specs.Effect.{RowList, replay_rows, reply}
 use Rattle.sq_schema.specs.Family.{FamilyValue, logged}
 use Rattle.sq_store.specs.StoreValue.{StoreValue, absent, family_at, family_in, store_reply}
 use Rattle.sq_store.proofs.Applies.{found_family, absent_family}
-use Rattle.sq_chunk.specs.ChunkValue.{ChunkValue, covers}
+use Rattle.sq_store.specs.ChunkValue.{ChunkValue, covers}
 use Rattle.sq_ranges.specs.OpeningValue.{OpeningValue}
 use Rattle.sq_model.specs.Tables.{opening_rows}
 use Rattle.sq_model.specs.Staged.{owner_in}

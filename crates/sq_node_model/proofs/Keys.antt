@@ -2,8 +2,8 @@
 use Rattle.std.proofs.Common.{◌≡◌, ℕ, true, nat_le, nat_lt, sym, ap, ◌∙◌, true≢false, arith}
 use Rattle.std.specs.Prelude.{◌≢◌, not, is_some}
 use Rattle.std.proofs.lemmas.Bool.{and_from, le-leb, lt-ltb, eq-eqb}
-use Rattle.sq_chunk.specs.declared.chunk.Note.{Note}
-use Rattle.sq_chunk.specs.ChunkValue.{covers}
+use Rattle.sq_store.specs.declared.chunk.Note.{Note}
+use Rattle.sq_store.specs.ChunkValue.{covers}
 use Rattle.sq_ranges.specs.declared.recon.Range.{Range}
 use Rattle.sq_ranges.specs.OpeningValue.{OpeningValue}
 use Rattle.sq_ranges.specs.Opening.{IsOpening}

@@ -12,8 +12,8 @@ use Rattle.sq_tree.specs.Status.{covering}
 use Rattle.sq_tree.proofs.Covering.{covering_is}
 use Rattle.sq_model.proofs.Statuses.{all_complete}
 use Rattle.sq_store.specs.StoreValue.{StoreValue, absent}
-use Rattle.sq_chunk.specs.declared.chunk.Note.{Note}
-use Rattle.sq_chunk.specs.ChunkValue.{ChunkValue, covers}
+use Rattle.sq_store.specs.declared.chunk.Note.{Note}
+use Rattle.sq_store.specs.ChunkValue.{ChunkValue, covers}
 use Rattle.sq_ranges.specs.declared.recon.Range.{Range}
 use Rattle.sq_ranges.specs.ReconValue.{segment_of, leaf_of, stage_on}
 use Rattle.sq_ranges.specs.OpeningValue.{OpeningValue}

@@ -2,7 +2,7 @@
 use Rattle.std.proofs.Common.{◌≡◌, inl, inr, ℕ, true, nat_le, nat_lt, [], ◌∷◌, ◌++◌, length, slice_get, Contains, Some, None, sym, ap, ap₂, ◌∙◌, subst, append-nil, arith}
 use Rattle.std.specs.Prelude.{reverse, option_to_list}
 use Rattle.std.proofs.lemmas.Bool.{cases_Bool, and_from, le-leb, lt-ltb}
-use Rattle.sq_chunk.specs.ChunkValue.{ChunkValue, covers}
+use Rattle.sq_store.specs.ChunkValue.{ChunkValue, covers}
 use Rattle.sq_store.specs.StoreValue.{families_between, without_between}
 use Rattle.sq_ranges.specs.OpeningValue.{OpeningValue}
 use Rattle.sq_ranges.specs.Opening.{IsOpening}

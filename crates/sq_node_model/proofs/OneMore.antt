@@ -1,7 +1,7 @@
 -- Chunks with one more.
 use Rattle.std.proofs.Common.{◌≡◌, ◌⊎◌, inl, inr, ⊎_elim, ℕ, List, [], ◌∷◌, ◌++◌, Contains, sym, ◌∙◌, subst}
 use Rattle.std.proofs.lemmas.List.Elements.{Contains-push, Contains-push_cases, Contains-append_left}
-use Rattle.sq_chunk.specs.ChunkValue.{ChunkValue}
+use Rattle.sq_store.specs.ChunkValue.{ChunkValue}
 use Rattle.sq_node_model.specs.NodeValue.{put}
 use Rattle.sq_node_model.specs.Chunks.{IsInOne}
 use Rattle.sq_node_model.proofs.Puts.{put_each, put_same}

@@ -4,8 +4,8 @@ use Rattle.std.specs.Prelude.{◌≢◌, reverse}
 use Rattle.std.proofs.lemmas.Bool.{cases_Bool, and_parts, or_parts, ne_eqb, eq-eqb}
 use Rattle.std.proofs.lemmas.List.{reverse-append, length-reverse, map-append}
 use Rattle.std.proofs.lemmas.List.Elements.{Contains-push, Contains-push_cases, Contains-append_left}
-use Rattle.sq_chunk.specs.declared.chunk.Note.{Note}
-use Rattle.sq_chunk.specs.ChunkValue.{ChunkValue, covers}
+use Rattle.sq_store.specs.declared.chunk.Note.{Note}
+use Rattle.sq_store.specs.ChunkValue.{ChunkValue, covers}
 use Rattle.sq_ranges.specs.OpeningValue.{OpeningValue}
 use Rattle.sq_exec.specs.Work.{WorkValue, work_from, work_after}
 use Rattle.sq_model.specs.Place.{extent_of, is_within}

@@ -2,8 +2,8 @@
 use Rattle.std.proofs.Common.{◌≡◌, ⊎_elim, ℕ, ◌<◌, true, List, length, get_or, slice_get, find, Contains, Some, sym, ap, ap₂, ◌∙◌, subst, true≢false, arith}
 use Rattle.std.proofs.lemmas.Option.{same_Some, slice_get-get_or}
 use Rattle.sq_schema.specs.Family.{FamilyValue}
-use Rattle.sq_chunk.specs.declared.chunk.Note.{Note}
-use Rattle.sq_chunk.specs.ChunkValue.{ChunkValue, covers}
+use Rattle.sq_store.specs.declared.chunk.Note.{Note}
+use Rattle.sq_store.specs.ChunkValue.{ChunkValue, covers}
 use Rattle.sq_ranges.specs.OpeningValue.{OpeningValue}
 use Rattle.sq_ranges.specs.Opening.{IsOpening}
 use Rattle.sq_model.specs.Place.{Place, At, Under_way, loaded_place}

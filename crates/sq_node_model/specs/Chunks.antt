@@ -1,6 +1,6 @@
 -- The chunks that a node cut, and those that it loaded.
 use Rattle.std.specs.Prelude.{◌≡◌, ℕ, ◌-◌, true, List, ◌++◌, length, take, Contains, option_to_list}
-use Rattle.sq_chunk.specs.ChunkValue.{ChunkValue, covers}
+use Rattle.sq_store.specs.ChunkValue.{ChunkValue, covers}
 use Rattle.sq_model.specs.Links.{is_about}
 use Rattle.sq_node_model.specs.NodeValue.{NodeValue}
 

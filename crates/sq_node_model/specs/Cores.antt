@@ -2,7 +2,7 @@
 use Rattle.std.specs.Prelude.{◌≡◌, ℕ, true, ◌==◌, if◌then◌else◌, List, [], length, Some, None}
 use Rattle.std.specs.FinMap.{get}
 use Rattle.sq_store.specs.StoreValue.{StoreValue}
-use Rattle.sq_chunk.specs.ChunkValue.{ChunkValue, IsChunk, covers}
+use Rattle.sq_store.specs.ChunkValue.{ChunkValue, IsChunk, covers}
 use Rattle.sq_ranges.specs.OpeningValue.{OpeningValue}
 use Rattle.sq_model.specs.Staged.{owner_in}
 use Rattle.sq_exec.specs.CoreValue.{CoreValue, opened_core}

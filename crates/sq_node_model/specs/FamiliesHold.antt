@@ -4,7 +4,7 @@ use Rattle.std.specs.Prelude.{◌≡◌, ◌⊎◌, ℕ, true, false, ◌&&◌, 
 use Rattle.std.specs.FinMap.{get}
 use Rattle.sq_schema.specs.Family.{FamilyValue}
 use Rattle.sq_store.specs.StoreValue.{StoreValue, absent, family_in}
-use Rattle.sq_chunk.specs.ChunkValue.{ChunkValue, covers}
+use Rattle.sq_store.specs.ChunkValue.{ChunkValue, covers}
 use Rattle.sq_ranges.specs.OpeningValue.{OpeningValue}
 use Rattle.sq_model.specs.Staged.{owner_in}
 use Rattle.sq_shared.specs.View.{one_if}

@@ -2,8 +2,8 @@
 -- those that were loaded.
 use Rattle.std.specs.Prelude.{◌≡◌, ℕ, ◌≤◌, true, List, ◌++◌, Option, Contains, option_to_list}
 use Rattle.sq_tree.specs.Node.{is_node}
-use Rattle.sq_chunk.specs.declared.chunk.Note.{Note}
-use Rattle.sq_chunk.specs.ChunkValue.{ChunkValue, are_within}
+use Rattle.sq_store.specs.declared.chunk.Note.{Note}
+use Rattle.sq_store.specs.ChunkValue.{ChunkValue, are_within}
 use Rattle.sq_ranges.specs.OpeningValue.{OpeningValue}
 use Rattle.sq_model.specs.Place.{extent_of}
 use Rattle.sq_node_model.specs.Stages.{is_on_link_in}

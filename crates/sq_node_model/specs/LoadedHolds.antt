@@ -1,6 +1,6 @@
 -- The invariant of the runs of keys that a partition loaded.
 use Rattle.std.specs.Prelude.{◌≡◌, ℕ, true, List}
-use Rattle.sq_chunk.specs.ChunkValue.{ChunkValue, covers}
+use Rattle.sq_store.specs.ChunkValue.{ChunkValue, covers}
 use Rattle.sq_exec.specs.declared.run.Run.{Run}
 use Rattle.sq_exec.specs.Runs.{is_loaded, is_whole}
 use Rattle.sq_node_model.specs.Chunks.{HasLast}

@@ -6,8 +6,8 @@ use Rattle.sq_schema.specs.Family.{FamilyValue}
 use Rattle.sq_tree.specs.declared.status.Status.{Status}
 use Rattle.sq_tree.specs.Tree.{status_at, IsGrown}
 use Rattle.sq_store.specs.StoreValue.{family_in}
-use Rattle.sq_chunk.specs.declared.chunk.Note.{Note}
-use Rattle.sq_chunk.specs.ChunkValue.{ChunkValue}
+use Rattle.sq_store.specs.declared.chunk.Note.{Note}
+use Rattle.sq_store.specs.ChunkValue.{ChunkValue}
 use Rattle.sq_ranges.specs.OpeningValue.{OpeningValue}
 use Rattle.sq_model.specs.Place.{Place, At, Under_way, place_from}
 use Rattle.sq_model.specs.Staged.{owner_in}

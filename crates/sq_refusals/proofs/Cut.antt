@@ -7,7 +7,7 @@ use Rattle.sq_store.specs.InOrder.{are_within}
 use Rattle.sq_store.specs.StoreValue.{StoreValue, without_between, has_none_of}
 use Rattle.sq_store.proofs.Between.{get-without}
 use Rattle.sq_store.proofs.Taken.{has_none_of-absent}
-use Rattle.sq_slab.proofs.Within.{within_each}
+use Rattle.sq_store.proofs.Within.{within_each}
 
 -- what is left has none of them
 pub cut_absent : (store : StoreValue) (lo hi : ℕ) (families : List FamilyValue) → are_within lo hi families ≡ true → has_none_of (without_between store lo hi) families ≡ true

@@ -3,8 +3,8 @@ use Rattle.std.specs.Prelude.{ℕ, ◌+◌, List, length, sum_by, slice_get}
 use Rattle.std.specs.Option.{option_map_or}
 use Rattle.sq_schema.specs.Family.{FamilyValue, rows_of, rows_size}
 use Rattle.sq_store.specs.StoreValue.{StoreValue, families_between}
-use Rattle.sq_chunk.specs.ChunkValue.{ChunkValue}
-use Rattle.sq_chunk.specs.declared.chunk.Note.{Note}
+use Rattle.sq_store.specs.ChunkValue.{ChunkValue}
+use Rattle.sq_store.specs.declared.chunk.Note.{Note}
 use Rattle.sq_node_model.specs.Gathered.{GatheredLink}
 use Rattle.sq_report.specs.declared.measure.Measure.{Measure}
 use Rattle.sq_report.specs.declared.measure.Measure.TheVariants.{Rows, Bytes}

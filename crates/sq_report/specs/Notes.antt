@@ -1,7 +1,7 @@
 -- The counts of the notes of a link.
 use Rattle.std.specs.Prelude.{ℕ, ◌-◌, ◌^◌, min, length}
 use Rattle.sq_store.specs.StoreValue.{StoreValue, families_between}
-use Rattle.sq_chunk.specs.declared.chunk.Note.{Note}
+use Rattle.sq_store.specs.declared.chunk.Note.{Note}
 
 -- a count, or the largest 64-bit number if it doesn't fit
 abbrev pub told : ℕ → ℕ

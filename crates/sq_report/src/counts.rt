@@ -8,7 +8,7 @@ use sq_gather::ClosedLink;
 use sq_live::count_commits;
 use sq_node::Receipt;
 use sq_plan::PartId;
-use sq_slab::SlabStore;
+use sq_store::SlabStore;
 
 /// What moved along a link.
 #[derive(Clone, Copy, Debug, PartialEq, Eq)]

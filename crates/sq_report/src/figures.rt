@@ -6,7 +6,7 @@ use crate::counts::{LinkCount, count_link};
 use crate::measure::Measure;
 use crate::summary_figures::LinkFigures;
 use sq_gather::{ClosedLink, Gathered};
-use sq_slab::SlabStore;
+use sq_store::SlabStore;
 use std::alloc::{AllocError, Global};
 use std::sync::atomic::{AtomicBool, Ordering};
 use std::sync::{Mutex, Wait};

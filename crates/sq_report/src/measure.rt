@@ -5,10 +5,9 @@ ghost use Rattle.sq_report.specs.Notes.{told};
 ghost use Rattle.sq_report.specs.Measures.{measure_of, stored_measure, carried_measure, link_measure};
 
 use crate::notes::first;
-use sq_chunk::{Chunk, Note};
 use sq_gather::ClosedLink;
 use sq_schema::Family;
-use sq_slab::SlabStore;
+use sq_store::{Chunk, Note, SlabStore};
 
 /// What is summed over families.
 #[derive(Clone, Copy, Debug, PartialEq, Eq)]

@@ -3,10 +3,8 @@ ghost use Rattle.std.specs.Prelude.{◌≡◌, length, sum_by, option_copied};
 ghost use Rattle.sq_store.specs.Prelude.{families_between, FirstIs};
 ghost use Rattle.sq_report.specs.Notes.{told, covered_keys, stored_in};
 
-use sq_chunk::{Chunk, Note};
 use sq_schema::Family;
-use sq_slab::SlabStore;
-use sq_store::FamilyStore;
+use sq_store::{Chunk, FamilyStore, Note, SlabStore};
 
 /// How many root keys `notes` cover. Here and below a count stays at the largest 64-bit number if
 /// it doesn't fit.

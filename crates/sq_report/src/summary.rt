@@ -7,7 +7,7 @@ ghost use Rattle.sq_report.specs.SummaryValue.{count_after, counts_after};
 use crate::counts::{LinkCount, PartCount, count_link};
 use sq_driver::{Collector, TellingNode};
 use sq_gather::{ClosedLink, Gathered};
-use sq_slab::SlabStore;
+use sq_store::SlabStore;
 use std::alloc::{AllocError, Global};
 use std::marker::Model;
 

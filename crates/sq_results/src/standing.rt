@@ -6,10 +6,9 @@ ghost use Rattle.sq_results.specs.RowLines.{lent_values};
 ghost use Rattle.sq_results.specs.Standing.{carried, gathered_families, stored_families, link_families, source_families, world_families, WritesRows};
 
 use crate::row_lines::write_families;
-use sq_chunk::Chunk;
 use sq_gather::Gathered;
 use sq_schema::Family;
-use sq_slab::SlabStore;
+use sq_store::{Chunk, SlabStore};
 use sq_world::World;
 use std::alloc::{AllocError, Global};
 use std::io;

@@ -10,7 +10,7 @@ use crate::desk::ServeDesk;
 use crate::ending::{InputOutcome, ServeEnding};
 use sq_audit::Verdict;
 use sq_engine::Engine;
-use sq_slab::SlabStore;
+use sq_store::SlabStore;
 use std::alloc::Global;
 use std::io::Write;
 use std::sync::Wait;

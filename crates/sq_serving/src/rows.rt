@@ -15,7 +15,7 @@ use crate::watch::ServeWatch;
 use sq_engine::{Engine, NotEnded};
 use sq_results::write_stored_rows;
 use sq_schema::OUT_OF_MEMORY;
-use sq_slab::SlabStore;
+use sq_store::SlabStore;
 use std::alloc::Global;
 use std::io;
 use std::io::Write;

@@ -1,7 +1,7 @@
 -- Links and their passes, apart from where they are in memory.
 use Rattle.std.specs.Prelude.{ℕ, List}
 use Rattle.atomic_table.specs.Seated.{TableId}
-use Rattle.sq_chunk.specs.ChunkValue.{ChunkValue}
+use Rattle.sq_store.specs.ChunkValue.{ChunkValue}
 
 -- a link: its queue, its source and destination, and how many chunks it holds at most
 pub record LinkValue : Type 0 where

@@ -5,9 +5,9 @@ ghost use Rattle.sq_shared.specs.Order.{IsEndOf, ComesAfter};
 
 use crate::order::{Ends, LinkQueue, Receives, Sends};
 use crate::pass::{LinkPass, RecvPass, SendPass};
-use sq_chunk::Chunk;
 use sq_plan::PartId;
 use sq_ranges::Link;
+use sq_store::Chunk;
 use std::alloc::{AllocError, Global};
 use std::marker::Model;
 use std::sync::Wait;

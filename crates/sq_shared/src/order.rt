@@ -1,7 +1,7 @@
 // The rule of a link's queue, and what its steps show.
 use crossbeam_queue::protocol::{Join, Lesson, Outcome, Protocol, Split};
 use crossbeam_queue::{Pass, RuledArrayQueue};
-use sq_chunk::Chunk;
+use sq_store::Chunk;
 use std::collections::LinkedList;
 
 // What a pass knows: which ends of the link it has, what it sent and what it received. No value of

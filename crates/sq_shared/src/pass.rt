@@ -11,7 +11,7 @@ use std::marker::{Model, PhantomData};
 /// that it leads to.
 pub trait Side: Drop {
     ghost use Rattle.std.specs.Prelude.{◌≡◌, ℕ, List};
-    ghost use Rattle.sq_chunk.specs.ChunkValue.{ChunkValue};
+    ghost use Rattle.sq_store.specs.ChunkValue.{ChunkValue};
     ghost use Rattle.sq_shared.specs.declared.order.EndView.{EndView};
     ghost use Rattle.sq_shared.specs.Values.{LinkValue};
 

@@ -11,3 +11,9 @@ pub mod First
 pub mod PutIn
 pub mod Opened
 pub mod Prelude
+pub mod Run
+pub mod Indexed
+pub mod Runs
+pub mod ChunkValue
+pub mod NextChunk
+pub mod ChunkLaws

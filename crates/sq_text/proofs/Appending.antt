@@ -8,7 +8,7 @@ use Rattle.std.proofs.lemmas.List.Folds.{flat_map-map}
 use Rattle.std.specs.Io.KnownBytes.{Appends, Keeps}
 use Rattle.sq_schema.specs.declared.txn.OpAnswer.{OpAnswer}
 use Rattle.sq_schema.specs.Family.{FamilyValue, rows_of}
-use Rattle.sq_chunk.specs.ChunkValue.{ChunkValue}
+use Rattle.sq_store.specs.ChunkValue.{ChunkValue}
 use Rattle.sq_text.specs.Texts.{line, op_answer_text, commit_words, note_words, entry_text, family_words, at_line, in_line, way_lines}
 
 -- bytes, and then more

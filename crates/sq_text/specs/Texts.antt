@@ -17,8 +17,8 @@ use Rattle.sq_tree.specs.declared.status.Reading.{Reading}
 use Rattle.sq_tree.specs.declared.status.Reading.TheVariants as reading
 use Rattle.sq_ranges.specs.declared.recon.Range.{Range as MovingRange}
 use Rattle.sq_ranges.specs.ReconValue.{ReconValue, stages, stage_in}
-use Rattle.sq_chunk.specs.declared.chunk.Note.{Note}
-use Rattle.sq_chunk.specs.ChunkValue.{ChunkValue}
+use Rattle.sq_store.specs.declared.chunk.Note.{Note}
+use Rattle.sq_store.specs.ChunkValue.{ChunkValue}
 use Rattle.sq_model.specs.declared.answer.Answer.{Answer}
 use Rattle.sq_model.specs.declared.answer.Answer.TheVariants as answer
 use Rattle.sq_model.specs.Refusal.{refusal_number}

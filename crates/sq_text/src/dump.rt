@@ -9,10 +9,10 @@ use crate::answer_text::put_note;
 use crate::output_fault::{WriteFault, write_bytes};
 use crate::row_text::write_entry;
 use crate::text::Text;
-use sq_chunk::Note;
 use sq_model::Phase;
 use sq_plan::PartId;
 use sq_schema::{Family, RowIter};
+use sq_store::Note;
 use std::io::Write;
 
 fn phase_text(phase: Phase) -> &'static str

@@ -15,7 +15,7 @@ use Rattle.sq_tree.specs.Node.{is_node, is_above}
 use Rattle.sq_tree.specs.Status.{is_claimed}
 use Rattle.sq_tree.specs.Answer.{begin_answer}
 use Rattle.sq_tree.proofs.Went.{begin_went}
-use Rattle.sq_chunk.specs.declared.chunk.Note.{Note}
+use Rattle.sq_store.specs.declared.chunk.Note.{Note}
 use Rattle.sq_ranges.specs.declared.recon.Range.{Range}
 use Rattle.sq_ranges.specs.ReconValue.{extent, is_link}
 use Rattle.sq_ranges.specs.OpeningValue.{OpeningValue}

@@ -9,8 +9,8 @@ use Rattle.std.proofs.lemmas.Option.{get_or_from_slice_get, slice_get-map}
 use Rattle.std.proofs.lemmas.List.{map-append, reverse-append, length-reverse, drop-append-le, get_or-set_same, get_or-set_other}
 use Rattle.std.proofs.lemmas.Bool.{ne_eqb, eqb-true, lt-ltb, le-ltb, le-leb, and_parts, not-true}
 use Rattle.sq_schema.specs.Family.{FamilyValue, rows_of, rows_size}
-use Rattle.sq_chunk.specs.declared.chunk.Note.{Note}
-use Rattle.sq_chunk.specs.ChunkValue.{ChunkValue, covers}
+use Rattle.sq_store.specs.declared.chunk.Note.{Note}
+use Rattle.sq_store.specs.ChunkValue.{ChunkValue, covers}
 use Rattle.sq_store.specs.StoreValue.{families_between, without_between, stored_size, take_end}
 use Rattle.sq_store.proofs.Rising.{roots-within}
 use Rattle.sq_store.proofs.Between.{IsRooted, family_in-between, within-between, get-without}

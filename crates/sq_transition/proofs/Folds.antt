@@ -5,7 +5,7 @@ use Rattle.std.specs.FinMap.{get}
 use Rattle.std.proofs.lemmas.Bool.{ne_eqb, cases_eq, leb-false}
 use Rattle.sq_schema.specs.Effect.{RowList, only}
 use Rattle.sq_schema.specs.Family.{FamilyValue, rows_of, family_stands}
-use Rattle.sq_chunk.specs.ChunkValue.{ChunkValue, covers}
+use Rattle.sq_store.specs.ChunkValue.{ChunkValue, covers}
 use Rattle.sq_store.specs.StoreValue.{fold_of, folded_store}
 use Rattle.sq_store.proofs.Folds.{get-folded}
 use Rattle.sq_ranges.specs.OpeningValue.{OpeningValue}

@@ -5,7 +5,7 @@ use Rattle.std.proofs.lemmas.List.{length-set, length-map, length-drop, get_or_p
 use Rattle.std.proofs.lemmas.Bool.{cases_lt, ne_eqb}
 use Rattle.sq_ranges.specs.declared.recon.Range.{Range}
 use Rattle.sq_ranges.specs.OpeningValue.{OpeningValue}
-use Rattle.sq_chunk.specs.ChunkValue.{ChunkValue}
+use Rattle.sq_store.specs.ChunkValue.{ChunkValue}
 use Rattle.sq_exec.specs.declared.run.Run.{Run}
 use Rattle.sq_exec.specs.OutLink.{OutLinkValue, new_out_link}
 use Rattle.sq_exec.specs.CoreValue.{CoreValue, out_at, with_out, inbox_at, with_inbox}

@@ -1,7 +1,7 @@
 -- What Cut, Push, Pop and Load do to a world.
 use Rattle.std.specs.Prelude.{ℕ, ◌==◌, not, nat_le, if◌then◌else◌, List, [], ◌∷◌, ◌++◌, length, Option, Some, None, is_some}
-use Rattle.sq_chunk.specs.declared.chunk.Note.{Note}
-use Rattle.sq_chunk.specs.ChunkValue.{ChunkValue}
+use Rattle.sq_store.specs.declared.chunk.Note.{Note}
+use Rattle.sq_store.specs.ChunkValue.{ChunkValue}
 use Rattle.sq_store.specs.StoreValue.{families_between}
 use Rattle.sq_exec.specs.Work.{next_work}
 use Rattle.sq_exec.specs.OutLink.{cut_here}

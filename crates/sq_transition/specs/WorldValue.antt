@@ -10,7 +10,7 @@ use Rattle.sq_ranges.specs.declared.opening.Config.{Config}
 use Rattle.sq_ranges.specs.declared.recon.Range.{Range}
 use Rattle.sq_ranges.specs.ReconValue.{ReconValue, of_stage}
 use Rattle.sq_leader.specs.declared.leader.Leader.{Leader}
-use Rattle.sq_chunk.specs.ChunkValue.{ChunkValue}
+use Rattle.sq_store.specs.ChunkValue.{ChunkValue}
 use Rattle.sq_exec.specs.OutLink.{OutLinkValue}
 use Rattle.sq_exec.specs.CoreValue.{CoreValue, out_at, inbox_at}
 use Rattle.sq_transition.specs.Leading.{stage_of}

@@ -2,7 +2,7 @@
 ghost use Rattle.std.specs.Prelude.{◌≡◌, ℕ};
 ghost use Rattle.std.specs.FinMap.{get};
 ghost use Rattle.sq_ranges.specs.Prelude.{OpeningValue};
-ghost use Rattle.sq_chunk.specs.ChunkValue.{ChunkValue};
+ghost use Rattle.sq_store.specs.ChunkValue.{ChunkValue};
 ghost use Rattle.sq_exec.specs.CoreValue.{CoreValue};
 ghost use Rattle.sq_model.specs.Trace.{Trace};
 ghost use Rattle.sq_transition.specs.EachStep.{EachStepKeepsHeadline};

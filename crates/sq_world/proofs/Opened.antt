@@ -18,7 +18,7 @@ use Rattle.sq_ranges.specs.OpeningValue.{OpeningValue}
 use Rattle.sq_ranges.specs.SetUp.{IsSetUp}
 use Rattle.sq_ranges.proofs.LinksFrom.{one_at, each_link}
 use Rattle.sq_leader.specs.declared.leader.Leader.TheVariants.{Idle}
-use Rattle.sq_chunk.specs.ChunkValue.{ChunkValue}
+use Rattle.sq_store.specs.ChunkValue.{ChunkValue}
 use Rattle.sq_exec.specs.declared.run.Run.{Run}
 use Rattle.sq_exec.specs.GivenUp.{is_given_up, none_given_up}
 use Rattle.sq_exec.specs.Runs.{is_loaded, is_whole}

@@ -13,7 +13,7 @@ use Rattle.sq_ranges.specs.ReconValue.{is_link}
 use Rattle.sq_ranges.specs.declared.opening.TheConstants.{MAX_CAPACITY}
 use Rattle.sq_ranges.specs.OpeningValue.{OpeningValue}
 use Rattle.sq_ranges.specs.Opening.{IsOpening}
-use Rattle.sq_chunk.specs.ChunkValue.{ChunkValue}
+use Rattle.sq_store.specs.ChunkValue.{ChunkValue}
 use Rattle.sq_exec.specs.CoreValue.{inbox_at}
 use Rattle.sq_exec.specs.Location.{location, is_coming_here, route}
 use Rattle.sq_exec.specs.Moving.{can_load}

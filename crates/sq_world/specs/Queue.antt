@@ -1,6 +1,6 @@
 -- The queue of a link.
 use Rattle.std.specs.Prelude.{◌≡◌, [], ◌∷◌, Option, Some, None}
-use Rattle.sq_chunk.specs.ChunkValue.{ChunkValue}
+use Rattle.sq_store.specs.ChunkValue.{ChunkValue}
 use Rattle.sq_ranges.specs.declared.recon.Link.{Link}
 use Rattle.sq_transition.specs.WorldValue.{QueueValue}
 

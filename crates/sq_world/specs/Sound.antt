@@ -4,7 +4,7 @@ use Rattle.sq_schema.specs.TxnValue.{TxnValue}
 use Rattle.sq_ranges.specs.declared.opening.TheConstants.{MAX_CAPACITY}
 use Rattle.sq_ranges.specs.declared.segment.TheConstants.{SEGMENT_LIMIT}
 use Rattle.sq_ranges.specs.declared.recon.Range.{Range}
-use Rattle.sq_chunk.specs.ChunkValue.{ChunkValue}
+use Rattle.sq_store.specs.ChunkValue.{ChunkValue}
 use Rattle.sq_exec.specs.CoreValue.{inbox_at}
 use Rattle.sq_exec.specs.Location.{is_coming_here, route}
 use Rattle.sq_exec.specs.Moving.{can_load}

@@ -26,15 +26,13 @@ pub use ending::{Ending, RefusedLine, ScriptManner};
 pub use input::run;
 pub use listing::{list, ranges};
 pub use move_step::{MoveStep, write_step};
-pub use sq_chunk::{Chunk, Note};
 pub use sq_model::{Answer, Phase, Refusal, Step};
 pub use sq_plan::{PartId, Plan, PlanFault, PlanRange};
 pub use sq_ranges::{Config, GivenRow, Opening, OpeningFault, OpeningParts, RefusedOpening, SegId};
 pub use sq_schema::{
     Cause, Family, Op, OpAnswer, OpAnswers, Reply, Root, Row, RowKey, Rows, Schema, Txn, TxnFault,
 };
-pub use sq_slab::SlabStore;
-pub use sq_store::FamilyStore;
+pub use sq_store::{Chunk, FamilyStore, Note, SlabStore};
 pub use sq_text::WriteFault;
 pub use sq_tree::{Leaf, NodeId, Reading, Status};
 pub use steps_script::write_script;

@@ -4,9 +4,9 @@ ghost use Rattle.std.specs.Option.{option_copied};
 ghost use Rattle.sq_ranges.specs.declared.opening.TheConstants.{MAX_CAPACITY};
 ghost use Rattle.sq_world.specs.Queue.{opened_queue, IsPopped};
 
-use sq_chunk::Chunk;
 use sq_plan::PartId;
 use sq_ranges::{Link, MAX_CAPACITY};
+use sq_store::Chunk;
 use std::alloc::{AllocError, Global};
 use std::collections::VecDeque;
 use std::marker::Model;

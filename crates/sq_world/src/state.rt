@@ -14,7 +14,7 @@ use sq_leader::Leader;
 use sq_model::Refusal;
 use sq_plan::Plan;
 use sq_ranges::{Config, Recon, SegId};
-use sq_slab::SlabStore;
+use sq_store::SlabStore;
 use sq_tree::{NodeId, PlainTree};
 use std::alloc::Global;
 use std::marker::Model;

@@ -6,12 +6,11 @@ ghost use Rattle.sq_transition.specs.Prelude.{IsTransition, Holds, KeepsHeadline
 ghost use Rattle.sq_world.specs.History.{IsNotOpened};
 
 use crate::state::State;
-use sq_chunk::Chunk;
 use sq_model::{Answer, Phase, Step};
 use sq_plan::Plan;
 use sq_ranges::{Config, GivenRow, Opening, RefusedOpening};
 use sq_schema::Schema;
-use sq_slab::SlabStore;
+use sq_store::{Chunk, SlabStore};
 use sq_text::WriteFault;
 use sq_tree::Status;
 use std::alloc::Global;

@@ -2,7 +2,7 @@
 ghost use Rattle.std.specs.Prelude.{◌≡◌, ◌<◌, true, if◌then◌else◌, length, map, Some, None, is_some, IfSome, IfOk, IfErr, IsErr, ◌↔◌, OnOk, OnErr, IsTrue};
 ghost use Rattle.std.specs.List.{list_all};
 ghost use Rattle.sq_store.specs.Prelude.{has_none_of};
-ghost use Rattle.sq_chunk.specs.ChunkValue.{ChunkValue, IsChunk};
+ghost use Rattle.sq_store.specs.ChunkValue.{ChunkValue, IsChunk};
 ghost use Rattle.sq_exec.specs.Runs.{is_whole};
 ghost use Rattle.sq_exec.specs.OutLink.{cut_fault, may_cut};
 ghost use Rattle.sq_exec.specs.CoreValue.{out_at, with_out, inbox_at, with_inbox, loaded_at};
@@ -13,11 +13,10 @@ use crate::out_link::OutLink;
 use crate::part_core::PartCore;
 use crate::run::{add, is_met, is_whole};
 use crate::work::Work;
-use sq_chunk::{Chunk, Note};
 use sq_plan::PartId;
 use sq_ranges::{Link, SegId};
 use sq_schema::Family;
-use sq_store::FamilyStore;
+use sq_store::{Chunk, FamilyStore, Note};
 use sq_tree::NodeId;
 use std::alloc::AllocError;
 

@@ -12,12 +12,10 @@ use crate::given_up::GivenUp;
 use crate::out_link::OutLink;
 use crate::part_core::PartCore;
 use crate::run::Run;
-use sq_chunk::Chunk;
 use sq_plan::{PartId, Plan};
 use sq_ranges::{Opening, Recon};
 use sq_schema::{Root, Rows};
-use sq_slab::{Place, SlabStore};
-use sq_store::FamilyStore;
+use sq_store::{Chunk, FamilyStore, Place, SlabStore};
 use sq_waiting::Waiting;
 use std::alloc::{AllocError, Global};
 

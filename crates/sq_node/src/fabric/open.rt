@@ -16,7 +16,7 @@ use sq_history::History;
 use sq_plan::PartId;
 use sq_ranges::{Link, Opening, Recon};
 use sq_shared::{SharedLink, StatusTree, TreeSeat};
-use sq_slab::SlabStore;
+use sq_store::SlabStore;
 use std::alloc::{AllocError, Global};
 use std::sync::atomic::AtomicU64;
 use std::thread;

@@ -15,7 +15,7 @@ use crate::run_parts::RunParts;
 use sq_history::History;
 use sq_ranges::Opening;
 use sq_schema::Txn;
-use sq_slab::SlabStore;
+use sq_store::SlabStore;
 use std::alloc::Global;
 
 /// The arguments of a stage that doesn't begin, unchanged.

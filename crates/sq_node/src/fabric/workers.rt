@@ -14,7 +14,7 @@ use sq_exec::PartCore;
 use sq_plan::PartId;
 use sq_ranges::Opening;
 use sq_shared::{Pump, SharedLink, Side, StatusTree, TreeSeat};
-use sq_slab::SlabStore;
+use sq_store::SlabStore;
 use std::alloc::{AllocError, Global};
 
 // The ends of links that were not handed out yet, each at the place of its link.

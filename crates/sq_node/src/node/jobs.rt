@@ -11,7 +11,7 @@ use crate::receipt::Receipt;
 use crate::stepped::Stepped;
 use sq_exec::{Outcome, PartCore, ResumeFault, Resumed, SubmitFault};
 use sq_schema::{Reply, Txn};
-use sq_slab::SlabStore;
+use sq_store::SlabStore;
 use std::sync::Wait;
 
 impl Node {

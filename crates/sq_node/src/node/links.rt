@@ -1,6 +1,6 @@
 // The steps of a node on its links.
 ghost use Rattle.std.specs.Prelude.{◌≡◌, ℕ, ◌<◌, true, false, length, MatchBool, IfSome, IfNone};
-ghost use Rattle.sq_chunk.specs.ChunkValue.{IsChunk};
+ghost use Rattle.sq_store.specs.ChunkValue.{IsChunk};
 ghost use Rattle.sq_exec.specs.Prelude.{out_at, inbox_at, may_cut};
 ghost use Rattle.sq_node.specs.FabricValue.{FabricValue};
 ghost use Rattle.sq_node.specs.NodeState.{IsNodeOf};
@@ -10,8 +10,8 @@ ghost use Rattle.sq_node.specs.Steps.{SendsChunk, Receives, HasNoneToCut, HasNon
 use super::Node;
 use crate::fabric::Fabric;
 use crate::stepped::Stepped;
-use sq_chunk::Chunk;
 use sq_plan::PartId;
+use sq_store::Chunk;
 use std::sync::Wait;
 
 impl Node {

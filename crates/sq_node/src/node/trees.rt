@@ -16,7 +16,7 @@ use crate::stepped::Stepped;
 use sq_exec::PartCore;
 use sq_ranges::SegId;
 use sq_shared::{Request, StatusTree, TreeSeat};
-use sq_slab::SlabStore;
+use sq_store::SlabStore;
 use sq_tree::{NodeId, Status};
 use std::sync::Wait;
 

@@ -1,11 +1,11 @@
 // What the tests of several crates start from, read from the texts of a run.
 ghost use Rattle.std.specs.Prelude.{◌≡◌, [], IfOk};
 
-use sq_chunk::Note;
 use sq_model::Step;
 use sq_plan::{PartId, Plan};
 use sq_ranges::{Opening, Recon, SegId};
 use sq_schema::{Family, Root, Row, RowKey, Rows, Schema, Table, Txn};
+use sq_store::Note;
 use sq_text::{LineReader, read_header, read_step};
 use sq_tree::NodeId;
 use std::alloc::Global;

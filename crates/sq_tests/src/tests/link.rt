@@ -2,10 +2,10 @@
 ghost use Rattle.std.specs.Prelude.{◌≡◌, ◌<◌, [], IfOk};
 
 use super::fixtures::{family, note};
-use sq_chunk::{Chunk, Note};
 use sq_plan::PartId;
 use sq_schema::RowKey;
 use sq_shared::{RecvPass, SendPass, SharedLink};
+use sq_store::{Chunk, Note};
 use std::alloc::Global;
 use std::sync::Wait;
 use std::test::Fail;

@@ -2,8 +2,7 @@
 use super::fixtures::{family, have, transaction};
 use sq_ranges::Extent;
 use sq_schema::{Family, Reply, Root, RowKey};
-use sq_slab::SlabStore;
-use sq_store::{Cut, FamilyStore, StoreAnswer, StoreCommand, VecStore, run_store};
+use sq_store::{Cut, FamilyStore, SlabStore, StoreAnswer, StoreCommand, VecStore, run_store};
 use std::alloc::Global;
 use std::test::Fail;
 

@@ -2,8 +2,7 @@
 use super::run::TestRun;
 use sq_driver::OpenGate;
 use sq_schema::{Root, RowKey};
-use sq_slab::SlabStore;
-use sq_store::FamilyStore;
+use sq_store::{FamilyStore, SlabStore};
 use std::alloc::Global;
 use std::process::Abort;
 use std::sync::Wait;

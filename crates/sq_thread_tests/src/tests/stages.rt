@@ -10,7 +10,7 @@ use sq_history::History;
 use sq_node::{Fabric, RunParts};
 use sq_ranges::Opening;
 use sq_schema::Txn;
-use sq_slab::SlabStore;
+use sq_store::SlabStore;
 use std::alloc::{AllocError, Global};
 use std::process::Abort;
 use std::test::Fail;

@@ -11,9 +11,8 @@ ghost use Rattle.sq_world.specs.Dump.{part_lines, link_lines, source_lines, dump
 
 use crate::queue::Queue;
 use crate::state::State;
-use sq_chunk::Chunk;
 use sq_plan::PartId;
-use sq_slab::SlabStore;
+use sq_store::{Chunk, SlabStore};
 use sq_text::{WriteFault, write_at, write_end, write_way};
 use std::io::Write;
 

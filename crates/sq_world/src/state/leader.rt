@@ -15,7 +15,7 @@ use sq_exec::PartCore;
 use sq_leader::{Idle, Leader, NextFault, Report, ReportFault};
 use sq_model::{Answer, Phase, Refusal};
 use sq_ranges::{Recon, SEGMENT_LIMIT};
-use sq_slab::SlabStore;
+use sq_store::SlabStore;
 use sq_tree::PlainTree;
 use std::mem;
 

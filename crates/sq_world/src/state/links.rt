@@ -7,10 +7,10 @@ ghost use Rattle.sq_world.specs.Results.{answer_of, running_link, cut_refused, l
 ghost use Rattle.sq_world.specs.Sound.{IsSound};
 
 use crate::state::State;
-use sq_chunk::Chunk;
 use sq_exec::{CutFault, LoadFault};
 use sq_model::{Answer, Refusal};
 use sq_plan::PartId;
+use sq_store::Chunk;
 
 // The place of a link's queue, and the partitions at the link's ends.
 #[derive(Clone, Copy)]

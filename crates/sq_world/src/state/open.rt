@@ -11,7 +11,7 @@ use crate::state::State;
 use sq_exec::{PartCore, fill_partitions, open_blank_partitions};
 use sq_leader::{Idle, Leader};
 use sq_ranges::{Opening, Range, Recon};
-use sq_slab::SlabStore;
+use sq_store::SlabStore;
 use sq_tree::PlainTree;
 use std::alloc::{AllocError, Global};
 

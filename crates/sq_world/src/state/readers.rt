@@ -6,10 +6,9 @@ ghost use Rattle.sq_world.specs.Readers.{store_at, chunk_at, status_there};
 
 use crate::queue::Queue;
 use crate::state::State;
-use sq_chunk::Chunk;
 use sq_leader::Leader;
 use sq_model::Phase;
-use sq_slab::SlabStore;
+use sq_store::{Chunk, SlabStore};
 use sq_tree::{NodeId, Status};
 
 impl State {

@@ -1,8 +1,8 @@
 use Rattle.std.proofs.Common.{⊎_elim, ◌≡◌, ℕ, ◌<◌, ◌≤◌, Bool, true, false, ◌||◌, List, [], ◌∷◌, inl, inr, refl, sym, ap, ◌∙◌, arith}
 use Rattle.std.specs.Prelude.{◌&&◌, nat_le, nat_lt, max, min}
 use Rattle.std.proofs.lemmas.Bool.{and_parts, and_from, or_cases, leb-true, ltb-true, le-leb, lt-ltb, true≢false}
-use Rattle.sq_chunk.specs.declared.chunk.Note.{Note}
-use Rattle.sq_chunk.specs.ChunkValue.{covers}
+use Rattle.sq_store.specs.declared.chunk.Note.{Note}
+use Rattle.sq_store.specs.ChunkValue.{covers}
 use Rattle.sq_exec.specs.declared.run.Run.{Run}
 use Rattle.sq_exec.specs.Runs.{run_has, meets, is_loaded, is_met}
 use Rattle.sq_exec.proofs.laws.a_chunk_meets_the_keys_that_are_loaded.Goals as goal

@@ -1,6 +1,6 @@
 use Rattle.std.proofs.Common.{Option, subst}
 use Rattle.std.specs.Prelude.{IfSome}
-use Rattle.sq_chunk.specs.ChunkValue.{ChunkValue, IsChunk}
+use Rattle.sq_store.specs.ChunkValue.{ChunkValue, IsChunk}
 use Rattle.sq_node_model.proofs.CoreRefused.{came_loaded}
 use Rattle.sq_node_model.proofs.laws.what_belongs_here_can_be_loaded.Goals as goal
 

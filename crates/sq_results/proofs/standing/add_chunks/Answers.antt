@@ -1,6 +1,6 @@
 use Rattle.std.proofs.Common.{List, ◌++◌, ap, ◌∙◌}
 use Rattle.std.proofs.lemmas.List.{take_all}
-use Rattle.sq_chunk.specs.ChunkValue.{ChunkValue}
+use Rattle.sq_store.specs.ChunkValue.{ChunkValue}
 use Rattle.sq_results.specs.RowLines.{lent_values}
 use Rattle.sq_results.specs.Standing.{carried}
 use Rattle.sq_results.proofs.Lent.{more_lent}

@@ -1,6 +1,6 @@
 use Rattle.std.proofs.Common.{◌≡◌, ℕ, false, sym, ap, ◌∙◌, subst, below_more}
 use Rattle.std.specs.Prelude.{IfSome}
-use Rattle.sq_chunk.specs.ChunkValue.{IsChunk}
+use Rattle.sq_store.specs.ChunkValue.{IsChunk}
 use Rattle.sq_exec.specs.CoreValue.{inbox_at}
 use Rattle.sq_node.specs.Steps.{may_load_now}
 use Rattle.sq_node.proofs.node.Node.next_load.Goals as goal

@@ -3,7 +3,7 @@ use Rattle.std.proofs.lemmas.Bool.{and_parts}
 use Rattle.sq_ranges.specs.ReconValue.{stage_on}
 use Rattle.std.specs.Prelude.{◌==◌, Option, IfSome, Bool, if◌then◌else◌}
 use Rattle.sq_exec.specs.CoreValue.{CoreValue}
-use Rattle.sq_chunk.specs.ChunkValue.{ChunkValue, IsChunk}
+use Rattle.sq_store.specs.ChunkValue.{ChunkValue, IsChunk}
 use Rattle.sq_exec.specs.Moving.{may_load, LoadsFrom}
 use Rattle.sq_node.specs.NodeState.{NodeState}
 use Rattle.sq_node.specs.Settled.{IsNode}

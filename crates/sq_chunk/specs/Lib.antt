@@ -1,3 +1,0 @@
-pub mod ChunkValue
-pub mod NextChunk
-pub mod Laws

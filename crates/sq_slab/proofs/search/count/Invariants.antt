@@ -1,7 +1,0 @@
-use Rattle.std.proofs.Common.{◌≡◌, length, take}
-use Rattle.sq_slab.specs.Runs.{families_in_runs}
-use Rattle.sq_slab.proofs.search.count.Given as goal
-
--- the families of the runs so far are counted
-abbrev pub invariant-loop-at : goal.invariant-loop-at
-invariant-loop-at l = l.count ≡ length (families_in_runs (take l.at l.runs))
