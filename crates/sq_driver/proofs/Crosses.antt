@@ -20,7 +20,7 @@ use Rattle.sq_schema.specs.contracts.txn.Txn as Txn
 use Rattle.sq_schema.proofs.txn.Txn.TheSendSync as txn
 use Rattle.sq_shared.specs.contracts.request.Request as Request
 use Rattle.sq_shared.proofs.request.Request.TheSendSync as request
-use Rattle.sq_ranges.proofs.recon.Recon.TheSendSync as recon
+use Rattle.sq_moves.proofs.recon.Recon.TheSendSync as recon
 use Rattle.sq_shared.specs.contracts.tree.StatusTree as StatusTree
 use Rattle.sq_shared.specs.contracts.tree.TreeSeat as TreeSeat
 use Rattle.sq_shared.specs.contracts.tree.TreeSeat.TheInside as Held

@@ -1,8 +1,8 @@
 -- A stage of a run whose workers were driven, and what is gathered of it.
 use Rattle.std.proofs.Common.{List, ◌++◌, ◌∙◌, sym, ap}
 use Rattle.std.specs.List.{flat_map}
-use Rattle.sq_ranges.specs.OpeningValue.{OpeningValue}
-use Rattle.sq_ranges.specs.Opening.{IsOpening}
+use Rattle.sq_moves.specs.OpeningValue.{OpeningValue}
+use Rattle.sq_moves.specs.Opening.{IsOpening}
 use Rattle.sq_shared.specs.Pump.{PumpValue}
 use Rattle.sq_node_model.specs.NodeValue.{ReceiptValue}
 use Rattle.sq_node_model.specs.BeganWith.{BeganWith}

@@ -2,7 +2,7 @@
 use Rattle.std.proofs.Common.{◌≡◌, ℕ, Bool, true, false, Option, Some, None, refl, ap, ◌∙◌}
 use Rattle.std.specs.Prelude.{slice_get}
 use Rattle.sq_schema.specs.TxnValue.{TxnValue}
-use Rattle.sq_ranges.specs.declared.recon.Range.{Range}
+use Rattle.sq_moves.specs.declared.recon.Range.{Range}
 use Rattle.sq_exec.specs.declared.outcome.Outcome.{Outcome}
 use Rattle.sq_exec.specs.CoreValue.{CoreValue}
 use Rattle.sq_exec.specs.Moving.{begun_in}

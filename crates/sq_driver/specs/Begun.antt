@@ -1,6 +1,6 @@
 -- The workers that a stage of a run begins with.
 use Rattle.std.specs.Prelude.{ℕ, List}
-use Rattle.sq_ranges.specs.OpeningValue.{OpeningValue}
+use Rattle.sq_moves.specs.OpeningValue.{OpeningValue}
 use Rattle.sq_shared.specs.Pump.{PumpValue}
 use Rattle.sq_store.specs.StoreValue.{StoreValue}
 use Rattle.sq_node_model.specs.NodeValue.{ReceiptValue}

@@ -1,6 +1,6 @@
 -- How driven pumps change.
 use Rattle.std.specs.Prelude.{◌≡◌, ◌⊎◌, ℕ, List}
-use Rattle.sq_ranges.specs.ReconValue.{ReconValue}
+use Rattle.sq_moves.specs.ReconValue.{ReconValue}
 use Rattle.sq_shared.specs.declared.pump.PumpTurn.{PumpTurn}
 use Rattle.sq_shared.specs.Seats.{AreSeatsOf, OnlyClaimed}
 use Rattle.sq_shared.specs.Pump.{PumpValue, HasTurned, PutsOff, SplitsNext}

@@ -1,7 +1,7 @@
 //! Laws of the workers of a run. The functions do nothing: each states a law, which the checker
 //! proves.
 ghost use Rattle.std.specs.Prelude.{ℕ, Bool, List, All};
-ghost use Rattle.sq_ranges.specs.Prelude.{OpeningValue, IsOpening};
+ghost use Rattle.sq_moves.specs.Prelude.{OpeningValue, IsOpening};
 ghost use Rattle.sq_shared.specs.Pump.{PumpValue};
 ghost use Rattle.sq_node_model.specs.Prelude.{ReceiptValue, BeganWith, first_began};
 ghost use Rattle.sq_node.specs.Prelude.{FabricValue, NodeState, IsNodeOf, HoldsUnder, IsOpened};

@@ -6,10 +6,9 @@ ghost use Rattle.sq_driver.specs.Pumps.{PumpDriven};
 use crate::attendance::Attendance;
 use crate::gate::{Gate, NodeStep, OwnGate, WorkerEvent};
 use crate::worker::{Turn, Worker, take_turns};
+use sq_moves::{LEAVES, NodeId, SegId};
 use sq_node::Fabric;
-use sq_ranges::SegId;
 use sq_shared::{Pump, PumpTurn};
-use sq_tree::{LEAVES, NodeId};
 use std::sync::Wait;
 
 // With this many requests waiting at a partition, a pump asks it for no more. It has enough work

@@ -1,7 +1,7 @@
 // A stage of a run.
 ghost use Rattle.std.specs.Prelude.{◌≡◌, ◌≤◌, ◌++◌, false, IfOk, OnOk};
 ghost use Rattle.sq_schema.specs.Prelude.{TableValue};
-ghost use Rattle.sq_ranges.specs.Prelude.{OpeningValue, IsOpening, IsSetUp};
+ghost use Rattle.sq_moves.specs.Prelude.{OpeningValue, IsOpening, IsSetUp};
 ghost use Rattle.sq_shared.specs.declared.numbers.TheConstants.{MAX_PUMPS};
 ghost use Rattle.sq_node_model.specs.Prelude.{BeganWith, first_began, folded_opening};
 ghost use Rattle.sq_driver.specs.Nodes.{AllDriven};
@@ -17,8 +17,8 @@ use crate::gate::Gate;
 use crate::teller::TellingNode;
 use crate::workers::run_workers;
 use sq_gather::{Gathered, gather, reopen};
+use sq_moves::Opening;
 use sq_node::{Fabric, Node, Receipt, RunParts};
-use sq_ranges::Opening;
 use sq_shared::Pump;
 use std::alloc::{AllocError, Global};
 use std::marker::Model;

@@ -13,8 +13,8 @@ use Rattle.sq_store.specs.Listed.{roots_rise}
 use Rattle.sq_store.proofs.Order.{is_below, first_rises, less_from_cmp}
 use Rattle.sq_store.proofs.Firsts.{rising_in}
 use Rattle.sq_store.proofs.Between.{family_in-entries, sorted_is}
-use Rattle.sq_ranges.specs.OpeningValue.{OpeningValue}
-use Rattle.sq_ranges.specs.Opening.{IsOpening}
+use Rattle.sq_moves.specs.OpeningValue.{OpeningValue}
+use Rattle.sq_moves.specs.Opening.{IsOpening}
 use Rattle.sq_model.specs.Staged.{owner_in}
 use Rattle.sq_model.proofs.Lists.{Contains-cases, Contains-first, Contains-later, Contains-nothing}
 use Rattle.sq_audit.proofs.Knowing.{count_first}

@@ -1,9 +1,9 @@
 -- An engine by its fields, and what holds of it after a step that changes them.
 use Rattle.std.proofs.Common.{◌≡◌, ◌+◌, ◌<◌, Bool, true, false, List, [], ◌∷◌, ◌++◌, sym, ap, ◌∙◌, subst}
 use Rattle.sq_plan.specs.PlanValue.{PlanValue}
-use Rattle.sq_ranges.specs.ReconValue.{stages}
-use Rattle.sq_ranges.specs.OpeningValue.{OpeningValue}
-use Rattle.sq_ranges.specs.SetUp.{IsSetUp}
+use Rattle.sq_moves.specs.ReconValue.{stages}
+use Rattle.sq_moves.specs.OpeningValue.{OpeningValue}
+use Rattle.sq_moves.specs.SetUp.{IsSetUp}
 use Rattle.sq_node_model.specs.Gathered.{GatheredValue}
 use Rattle.sq_node.specs.declared.run_parts.RunParts.{RunParts}
 use Rattle.sq_engine.specs.declared.at.At.TheVariants as place

@@ -1,10 +1,10 @@
 -- After the last stage of a move each root key is at its owner by the new plan.
 use Rattle.std.proofs.Common.{◌≡◌, ℕ, ◌<◌, true, Option, Some, None, refl, sym, ap, ◌∙◌, subst}
 use Rattle.std.proofs.lemmas.Bool.{lt-ltb}
-use Rattle.sq_ranges.specs.ReconValue.{segment_of, is_link, stages}
-use Rattle.sq_ranges.specs.OpeningValue.{OpeningValue}
-use Rattle.sq_ranges.specs.Opening.{IsOpening}
-use Rattle.sq_ranges.proofs.Stages.{stage_below}
+use Rattle.sq_moves.specs.ReconValue.{segment_of, is_link, stages}
+use Rattle.sq_moves.specs.OpeningValue.{OpeningValue}
+use Rattle.sq_moves.specs.Opening.{IsOpening}
+use Rattle.sq_moves.proofs.Stages.{stage_below}
 use Rattle.sq_model.specs.Place.{source, destination}
 use Rattle.sq_model.specs.Staged.{owner_in}
 use Rattle.sq_model.proofs.Keys.{found_in_segment, unfound_stays, linked}

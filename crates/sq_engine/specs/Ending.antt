@@ -8,7 +8,7 @@ use Rattle.sq_store.specs.InOrder.{families_in}
 use Rattle.sq_model.specs.Place.{destination}
 use Rattle.sq_model.specs.Staged.{owner_in}
 use Rattle.sq_model.specs.Tables.{opening_rows}
-use Rattle.sq_ranges.specs.OpeningValue.{OpeningValue}
+use Rattle.sq_moves.specs.OpeningValue.{OpeningValue}
 use Rattle.sq_gather.specs.Prelude.{one_if}
 use Rattle.sq_node_model.specs.declared.spot.Spot.{Spot}
 use Rattle.sq_node_model.specs.declared.spot.Spot.TheVariants.{Store}

@@ -1,8 +1,8 @@
 -- The progress of a stage.
 use Rattle.std.specs.Prelude.{ℕ, ◌==◌, ◌&&◌, Bool, count_by}
 use Rattle.std.specs.List.{enumerate_from}
-use Rattle.sq_ranges.specs.declared.recon.Range.{Range}
-use Rattle.sq_ranges.specs.ReconValue.{ReconValue, stage_in}
+use Rattle.sq_moves.specs.declared.recon.Range.{Range}
+use Rattle.sq_moves.specs.ReconValue.{ReconValue, stage_in}
 use Rattle.sq_node_model.specs.Gathered.{GatheredValue}
 use Rattle.sq_node_model.specs.Next.{is_complete_in}
 

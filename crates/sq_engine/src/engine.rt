@@ -1,8 +1,8 @@
 // A long-running engine.
 ghost use Rattle.std.specs.Prelude.{◌≡◌, ◌≤◌, true, option_copied, IfOk, IfErr, OnOk, OnErr};
 ghost use Rattle.sq_shared.specs.declared.numbers.TheConstants.{MAX_PUMPS};
-ghost use Rattle.sq_ranges.specs.Prelude.{IsSetUp};
-ghost use Rattle.sq_ranges.specs.Between.{recon_fault};
+ghost use Rattle.sq_moves.specs.Prelude.{IsSetUp};
+ghost use Rattle.sq_moves.specs.Between.{recon_fault};
 ghost use Rattle.sq_engine.specs.Engine.{IsReached, HasOpened, HasProgress, rests, rows_in};
 ghost use Rattle.sq_engine.specs.Engine.{Keeps, IsPosted, IsNotPosted, HasBegunMove, IsNotMoved};
 ghost use Rattle.sq_engine.specs.Engine.{ServesEpoch, IsPaused, IsNotEnded, HasClosed, verdict_on};
@@ -17,9 +17,9 @@ use crate::serving::{EpochEnd, ServedRun, make_ready, run_ready};
 use crate::stage_progress::{StageProgress, complete_segments, progress_at_start, stage_segments};
 use sq_audit::{Defect, Job, Verdict};
 use sq_history::Kept;
+use sq_moves::{Opening, Recon, ReconFault};
 use sq_node::Fabric;
 use sq_plan::Plan;
-use sq_ranges::{Opening, Recon, ReconFault};
 use sq_schema::Table;
 use sq_store::SlabStore;
 use std::alloc::{AllocError, Global};
@@ -87,7 +87,7 @@ impl Model for Engine {
     ghost use Rattle.std.specs.Prelude.{◌≤◌};
     ghost use Rattle.std.specs.Coded.{codes};
     ghost use Rattle.sq_shared.specs.declared.numbers.TheConstants.{MAX_PUMPS};
-    ghost use Rattle.sq_ranges.specs.Prelude.{IsSetUp};
+    ghost use Rattle.sq_moves.specs.Prelude.{IsSetUp};
     ghost use Rattle.sq_store.specs.Prelude.{store_coded};
     ghost use Rattle.sq_engine.specs.Values.{EngineValue, engine_value, at_value};
     ghost use Rattle.sq_engine.specs.Engine.{IsReached};

@@ -1,6 +1,6 @@
 //! Laws of engines. The functions do nothing: each states a law, which the checker proves.
 ghost use Rattle.std.specs.Prelude.{◌≡◌, ◌+◌, ◌∷◌, ℕ, List, [], is_some};
-ghost use Rattle.sq_ranges.specs.Prelude.{OpeningValue, IsOpening};
+ghost use Rattle.sq_moves.specs.Prelude.{OpeningValue, IsOpening};
 ghost use Rattle.sq_gather.specs.Prelude.{one_if};
 ghost use Rattle.sq_node_model.specs.Prelude.{IsPlaced};
 ghost use Rattle.sq_audit.specs.declared.verdict.Verdict.TheVariants.{Sound};

@@ -5,9 +5,8 @@ ghost use Rattle.sq_engine.specs.Progress.{stage_segments, is_complete_in_stage}
 ghost use Rattle.sq_engine.specs.Progress.{complete_segments_in};
 
 use sq_gather::{Gathered, reads_complete};
+use sq_moves::{NodeId, Opening, Range, Recon};
 use sq_node::Fabric;
-use sq_ranges::{Opening, Range, Recon};
-use sq_tree::NodeId;
 
 /// How many segments move in a stage, how many of them are complete, and how much was moved.
 #[derive(Clone, Copy, Debug, PartialEq, Eq)]

@@ -1,7 +1,7 @@
 // How an engine goes from one epoch to the next.
 ghost use Rattle.std.specs.Prelude.{◌≡◌, ◌<◌};
 ghost use Rattle.std.specs.Bool.{OnTrue, OnFalse};
-ghost use Rattle.sq_ranges.specs.Prelude.{IsSetUp, stages};
+ghost use Rattle.sq_moves.specs.Prelude.{IsSetUp, stages};
 ghost use Rattle.sq_engine.specs.Engine.{IsReached, Keeps, KeepsOpening, IsPaused, HasBegunMove};
 ghost use Rattle.sq_engine.specs.Engine.{EndsMove, BeginsNext, FollowsStage};
 ghost use Rattle.sq_engine.specs.History.{onward_opening};
@@ -12,9 +12,9 @@ use crate::at::At;
 use crate::engine::Engine;
 use crate::stage_progress::progress_at_start;
 use sq_gather::{Gathered, gather, move_on, reopen};
+use sq_moves::Opening;
 use sq_node::RunParts;
 use sq_plan::Plan;
-use sq_ranges::Opening;
 use std::alloc::Global;
 use std::mem;
 use std::sync::Wait;

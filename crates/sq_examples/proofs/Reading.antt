@@ -7,11 +7,11 @@ use Rattle.sq_schema.specs.Family.{FamilyValue, rows_of}
 use Rattle.sq_schema.specs.Effect.{RowList, root_key, replay}
 use Rattle.sq_plan.specs.PlanValue.{PlanValue}
 use Rattle.sq_store.specs.StoreValue.{StoreValue}
-use Rattle.sq_ranges.specs.declared.opening.Config.{Config}
-use Rattle.sq_ranges.specs.declared.opening.GivenRow.{GivenRow}
-use Rattle.sq_ranges.specs.OpeningValue.{OpeningValue}
-use Rattle.sq_ranges.specs.Opening.{IsOpening}
-use Rattle.sq_ranges.specs.Given.{IsOpeningOf, given_rows, no_rows}
+use Rattle.sq_moves.specs.declared.opening.Config.{Config}
+use Rattle.sq_moves.specs.declared.opening.GivenRow.{GivenRow}
+use Rattle.sq_moves.specs.OpeningValue.{OpeningValue}
+use Rattle.sq_moves.specs.Opening.{IsOpening}
+use Rattle.sq_moves.specs.Given.{IsOpeningOf, given_rows, no_rows}
 use Rattle.sq_model.specs.declared.step.Step.{Step}
 use Rattle.sq_model.specs.declared.step.Step.TheVariants.{Prepare, Start, Submit, Resume, Split, Claim, Begin, Cut, Push, Pop, Load, Complete, Report, Next, Finish, Fold, Status}
 use Rattle.sq_model.specs.declared.answer.Answer.{Answer}

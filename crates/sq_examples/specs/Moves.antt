@@ -1,8 +1,8 @@
 -- Worlds with one row, in which only a move takes place.
 use Rattle.std.specs.Prelude.{◌≡◌, ℤ, Bool, true, false, [], ◌∷◌}
 use Rattle.sq_schema.specs.Effect.{RowList, root_key}
-use Rattle.sq_ranges.specs.OpeningValue.{OpeningValue}
-use Rattle.sq_ranges.specs.Opening.{IsOpening}
+use Rattle.sq_moves.specs.OpeningValue.{OpeningValue}
+use Rattle.sq_moves.specs.Opening.{IsOpening}
 use Rattle.sq_model.specs.declared.step.Step.{Step}
 use Rattle.sq_model.specs.declared.step.Step.TheVariants.{Submit, Resume}
 use Rattle.sq_model.specs.Trace.{Trace, committed}

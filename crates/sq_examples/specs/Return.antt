@@ -1,7 +1,7 @@
 -- What is left of an engine whose rows moved to another plan and back.
 use Rattle.std.specs.Prelude.{◌≡◌}
 use Rattle.sq_plan.specs.PlanValue.{PlanValue}
-use Rattle.sq_ranges.specs.OpeningValue.{OpeningValue}
+use Rattle.sq_moves.specs.OpeningValue.{OpeningValue}
 use Rattle.sq_engine.specs.Values.{EngineValue}
 use Rattle.sq_engine.specs.Engine.{verdict_on}
 use Rattle.sq_engine.specs.Ending.{EndsAsPlanned}

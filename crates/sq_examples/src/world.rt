@@ -5,7 +5,7 @@ ghost use Rattle.std.specs.Prelude.{◌≡◌, IfSome};
 ghost use Rattle.std.specs.List.{AllPass};
 ghost use Rattle.sq_examples.specs.Moves.{LeadsWithRow, is_of_the_move};
 
-use sq_ranges::LOG_LIMIT;
+use sq_moves::LOG_LIMIT;
 use sq_world::{Config, FamilyStore, GivenRow, Plan, Root, RowKey, Schema, Step, World};
 use std::alloc::Global;
 

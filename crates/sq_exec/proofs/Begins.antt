@@ -3,9 +3,9 @@ use Rattle.std.proofs.Common.{◌≡◌, Bool, ℕ, ◌<◌, List, length, get_o
 use Rattle.std.specs.Prelude.{slice_get, option_map}
 use Rattle.std.proofs.lemmas.List.{get_or_default}
 use Rattle.std.proofs.lemmas.Option.{slice_get_read, same_Some}
-use Rattle.sq_ranges.specs.declared.recon.Extent.{Extent}
-use Rattle.sq_ranges.specs.declared.recon.Range.{Range}
-use Rattle.sq_ranges.specs.ReconValue.{extent, extent_at}
+use Rattle.sq_moves.specs.declared.recon.Extent.{Extent}
+use Rattle.sq_moves.specs.declared.recon.Range.{Range}
+use Rattle.sq_moves.specs.ReconValue.{extent, extent_at}
 use Rattle.sq_exec.specs.GivenUp.{none_given_up, given_up_with}
 use Rattle.sq_exec.specs.Work.{WorkValue}
 use Rattle.sq_exec.specs.OutLink.{RoomyOutLink, new_out_link}

@@ -6,8 +6,8 @@ use Rattle.std.specs.List.{list_all}
 use Rattle.std.proofs.lemmas.Bool.{cases_eq, cases_lt, cases_Bool, and_parts}
 use Rattle.std.proofs.lemmas.List.{length-set, get_or-set_same, get_or-set_other, set_past}
 use Rattle.std.proofs.lemmas.List.Folds.{list_all-map}
-use Rattle.sq_ranges.specs.declared.recon.Range.{Range}
-use Rattle.sq_ranges.specs.ReconValue.{ReconValue, leaf_at, stage_in}
+use Rattle.sq_moves.specs.declared.recon.Range.{Range}
+use Rattle.sq_moves.specs.ReconValue.{ReconValue, leaf_at, stage_in}
 use Rattle.sq_store.specs.declared.chunk.Note.{Note}
 use Rattle.sq_store.specs.ChunkValue.{ChunkValue, covers}
 use Rattle.sq_waiting.specs.Index.{is_between}

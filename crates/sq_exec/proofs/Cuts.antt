@@ -2,8 +2,8 @@
 use Rattle.std.proofs.Common.{◌≡◌, ℕ, ◌<◌, ◌≤◌, false, List, [], ◌∷◌, ◌++◌, length, get_or, set, Some, Result, Ok, Err, sym, ap, subst, ◌∙◌, arith}
 use Rattle.std.specs.Prelude.{is_some, IfOk, OnErr}
 use Rattle.std.proofs.lemmas.List.{get_or_default}
-use Rattle.sq_ranges.specs.declared.recon.Extent.{Extent}
-use Rattle.sq_ranges.specs.declared.recon.Link.{Link}
+use Rattle.sq_moves.specs.declared.recon.Extent.{Extent}
+use Rattle.sq_moves.specs.declared.recon.Link.{Link}
 use Rattle.sq_store.specs.declared.chunk.Note.{Note}
 use Rattle.sq_store.specs.ChunkValue.{ChunkValue}
 use Rattle.sq_store.specs.StoreValue.{StoreValue, families_between, without_between, take_end}

@@ -15,7 +15,7 @@ use Rattle.sq_schema.specs.Family.{FamilyValue}
 use Rattle.sq_schema.specs.Rows.{is_rooted}
 use Rattle.sq_schema.specs.Table.{TableValue, is_opening}
 use Rattle.sq_plan.specs.PlanValue.{PlanValue, owner}
-use Rattle.sq_ranges.specs.OpeningValue.{OpeningValue}
+use Rattle.sq_moves.specs.OpeningValue.{OpeningValue}
 use Rattle.sq_store.specs.StoreValue.{StoreValue, with_families}
 use Rattle.sq_store.specs.Opened.{blank, opened_family, owned_entries, opened_families}
 use Rattle.sq_store.proofs.Keys.{same_store, at_key, get-insert_same, get-insert_other}

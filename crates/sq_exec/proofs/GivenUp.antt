@@ -4,7 +4,7 @@ use Rattle.std.specs.Prelude.{◌&&◌, nat_le, nat_lt}
 use Rattle.std.specs.List.{range_with_len}
 use Rattle.std.proofs.lemmas.List.{same_lists, get_or_default, length-map}
 use Rattle.std.proofs.lemmas.List.FromFn.{get_or-map-range_with_len, length-range_with_len}
-use Rattle.sq_tree.specs.Node.{is_above, first_leaf, span}
+use Rattle.sq_moves.specs.Node.{is_above, first_leaf, span}
 use Rattle.sq_exec.specs.GivenUp.{is_given_up, given_up_with}
 
 -- a list is the values of a function that it has at each place

@@ -3,7 +3,7 @@ use Rattle.std.proofs.Common.{◌≡◌, Bool, true, List}
 use Rattle.std.specs.Prelude.{is_some}
 use Rattle.std.specs.List.{list_all}
 use Rattle.sq_schema.specs.TxnValue.{TxnValue}
-use Rattle.sq_ranges.specs.ReconValue.{leaf_at}
+use Rattle.sq_moves.specs.ReconValue.{leaf_at}
 use Rattle.sq_store.specs.StoreValue.{StoreValue}
 use Rattle.sq_waiting.specs.Waiting.{Arrival}
 use Rattle.sq_exec.specs.CoreValue.{CoreValue}

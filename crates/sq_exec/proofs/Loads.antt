@@ -3,7 +3,7 @@ use Rattle.std.proofs.Common.{◌≡◌, ℕ, ◌<◌, Bool, true, false, not, �
 use Rattle.std.specs.Prelude.{◌==◌, ◌&&◌, slice_get, IsTrue, OnErr}
 use Rattle.std.proofs.lemmas.List.{get_or_default, set-get_or}
 use Rattle.std.proofs.lemmas.Option.{same_Some, slice_get_within}
-use Rattle.sq_ranges.specs.declared.recon.Range.{Range}
+use Rattle.sq_moves.specs.declared.recon.Range.{Range}
 use Rattle.sq_store.specs.ChunkValue.{ChunkValue}
 use Rattle.sq_schema.specs.TxnValue.{TxnValue}
 use Rattle.sq_waiting.specs.Waiting.{Arrival, WaitingValue, txns_of, numbers_of, due_if, with_due}
@@ -11,7 +11,7 @@ use Rattle.sq_waiting.specs.Index.{is_between}
 use Rattle.sq_waiting.proofs.Arrivals.{txns-due, numbers-due}
 use Rattle.sq_store.specs.StoreValue.{StoreValue, with_families, has_none_of}
 use Rattle.sq_exec.specs.declared.run.Run.{Run}
-use Rattle.sq_ranges.specs.ReconValue.{extent}
+use Rattle.sq_moves.specs.ReconValue.{extent}
 use Rattle.sq_exec.specs.Runs.{is_met, runs_with}
 use Rattle.sq_exec.specs.CoreValue.{CoreValue, Numbering, PartCoreValue, inbox_at, loaded_at}
 use Rattle.sq_exec.specs.Moving.{lies_in, can_load, can_load_in, loaded_core, LoadsFrom}

@@ -6,13 +6,13 @@ use Rattle.std.proofs.lemmas.Bool.{lt-ltb}
 use Rattle.sq_schema.specs.declared.root.TheConstants.{ROOT_END}
 use Rattle.sq_plan.specs.PlanValue.{PlanValue, IsPlan, owner}
 use Rattle.sq_plan.proofs.Owners.{owner_exists}
-use Rattle.sq_ranges.specs.declared.recon.Range.{Range}
-use Rattle.sq_ranges.specs.ReconValue.{IsRecon}
-use Rattle.sq_ranges.specs.Moves.{IsMovingRun}
-use Rattle.sq_ranges.specs.OpeningValue.{OpeningValue}
-use Rattle.sq_ranges.specs.SetUp.{IsSetUp}
-use Rattle.sq_ranges.proofs.Rows.{Row}
-use Rattle.sq_ranges.proofs.Segments.{segments_are_runs}
+use Rattle.sq_moves.specs.declared.recon.Range.{Range}
+use Rattle.sq_moves.specs.ReconValue.{IsRecon}
+use Rattle.sq_moves.specs.Moves.{IsMovingRun}
+use Rattle.sq_moves.specs.OpeningValue.{OpeningValue}
+use Rattle.sq_moves.specs.SetUp.{IsSetUp}
+use Rattle.sq_moves.proofs.Rows.{Row}
+use Rattle.sq_moves.proofs.Segments.{segments_are_runs}
 use Rattle.sq_exec.specs.CoreValue.{has_ends}
 
 ends_in_row : (old new : PlanValue) (at : ℕ) (ranges : List Range) → IsPlan old → IsPlan new → new.parts ≡ old.parts → Row (IsMovingRun old new) at ROOT_END ranges → list_all (has_ends old.parts) ranges ≡ true

@@ -8,8 +8,8 @@ use Rattle.std.proofs.lemmas.List.Elements.{filter-append}
 use Rattle.std.proofs.lemmas.List.Folds.{list_any-append}
 use Rattle.sq_store.specs.declared.chunk.Note.{Note}
 use Rattle.sq_store.specs.ChunkValue.{is_about}
-use Rattle.sq_ranges.specs.declared.recon.Extent.{Extent}
-use Rattle.sq_ranges.specs.declared.recon.Link.{Link}
+use Rattle.sq_moves.specs.declared.recon.Extent.{Extent}
+use Rattle.sq_moves.specs.declared.recon.Link.{Link}
 use Rattle.sq_store.specs.StoreValue.{StoreValue, take_end}
 use Rattle.sq_exec.specs.declared.run.Run.{Run}
 use Rattle.sq_exec.specs.Work.{WorkValue, is_work_on, no_work, work_at, work_from, work_after}

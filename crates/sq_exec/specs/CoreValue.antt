@@ -2,10 +2,10 @@
 use Rattle.std.specs.Prelude.{ℕ, Bool, false, ◌&&◌, nat_lt, List, [], replicate, length, slice_set, slice_index_or, Option, None}
 use Rattle.sq_schema.specs.TxnValue.{TxnValue}
 use Rattle.sq_plan.specs.PlanValue.{PlanValue}
-use Rattle.sq_ranges.specs.declared.recon.Link.{Link}
-use Rattle.sq_ranges.specs.declared.recon.Range.{Range}
-use Rattle.sq_ranges.specs.ReconValue.{ReconValue}
-use Rattle.sq_ranges.specs.OpeningValue.{OpeningValue}
+use Rattle.sq_moves.specs.declared.recon.Link.{Link}
+use Rattle.sq_moves.specs.declared.recon.Range.{Range}
+use Rattle.sq_moves.specs.ReconValue.{ReconValue}
+use Rattle.sq_moves.specs.OpeningValue.{OpeningValue}
 use Rattle.sq_store.specs.StoreValue.{StoreValue, folded_store}
 use Rattle.sq_store.specs.ChunkValue.{ChunkValue}
 use Rattle.sq_exec.specs.declared.run.Run.{Run}

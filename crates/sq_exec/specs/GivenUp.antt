@@ -1,8 +1,8 @@
 -- The leaves of a segment that its source gave up.
 use Rattle.std.specs.Prelude.{ℕ, Bool, false, ◌||◌, List, map, replicate, slice_index_or}
 use Rattle.std.specs.List.{range_with_len}
-use Rattle.sq_tree.specs.declared.node.TheConstants.{LEAVES}
-use Rattle.sq_tree.specs.Node.{is_above}
+use Rattle.sq_moves.specs.declared.node.TheConstants.{LEAVES}
+use Rattle.sq_moves.specs.Node.{is_above}
 
 abbrev pub none_given_up : List Bool
 none_given_up = replicate LEAVES false

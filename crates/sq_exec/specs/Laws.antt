@@ -2,7 +2,7 @@
 use Rattle.std.specs.Prelude.{◌≡◌, ℕ, ◌<◌, ◌≤◌, ◌⊎◌, ◌==◌, ◌&&◌, Bool, true, false, List, [], ◌∷◌, Some, filter, slice_get}
 use Rattle.std.specs.List.{list_any}
 use Rattle.sq_schema.specs.Prelude.{TxnValue}
-use Rattle.sq_ranges.specs.declared.recon.Extent.{Extent}
+use Rattle.sq_moves.specs.declared.recon.Extent.{Extent}
 use Rattle.sq_store.specs.declared.chunk.Note.{Note}
 use Rattle.sq_store.specs.ChunkValue.{is_about}
 use Rattle.sq_exec.specs.declared.location.Location.{Location}

@@ -2,8 +2,8 @@
 use Rattle.std.specs.Prelude.{ℕ, Bool, false, ◌==◌, ◌&&◌, not, nat_lt, if◌then◌else◌, Option, Some, None, slice_get, option_and_then, option_map}
 use Rattle.std.specs.List.{list_any}
 use Rattle.sq_plan.specs.PlanValue.{owner}
-use Rattle.sq_ranges.specs.declared.recon.Range.{Range}
-use Rattle.sq_ranges.specs.ReconValue.{leaf_at, stage_in}
+use Rattle.sq_moves.specs.declared.recon.Range.{Range}
+use Rattle.sq_moves.specs.ReconValue.{leaf_at, stage_in}
 use Rattle.sq_exec.specs.declared.location.Location.{Location}
 use Rattle.sq_exec.specs.GivenUp.{is_given_up}
 use Rattle.sq_exec.specs.Runs.{is_loaded}

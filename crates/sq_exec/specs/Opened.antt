@@ -8,7 +8,7 @@ use Rattle.sq_schema.specs.Effect.{RowList}
 use Rattle.sq_schema.specs.Family.{FamilyValue}
 use Rattle.sq_schema.specs.Table.{TableValue, rows_in}
 use Rattle.sq_plan.specs.PlanValue.{PlanValue, owner}
-use Rattle.sq_ranges.specs.OpeningValue.{OpeningValue}
+use Rattle.sq_moves.specs.OpeningValue.{OpeningValue}
 use Rattle.sq_store.specs.StoreValue.{StoreValue, with_families}
 use Rattle.sq_store.specs.Opened.{blank, opened_family, opened_families}
 use Rattle.sq_exec.specs.CoreValue.{CoreValue, opened_core}

@@ -2,7 +2,7 @@
 use Rattle.std.specs.Prelude.{◌≡◌, ℕ, Bool, false, ◌==◌, ◌&&◌, ◌≤◌, if◌then◌else◌, List, [], ◌∷◌, ◌++◌, length, Option, Some, None, is_some, is_none}
 use Rattle.sq_store.specs.declared.chunk.Note.{Note}
 use Rattle.sq_store.specs.ChunkValue.{ChunkValue}
-use Rattle.sq_ranges.specs.declared.recon.Link.{Link}
+use Rattle.sq_moves.specs.declared.recon.Link.{Link}
 use Rattle.sq_store.specs.StoreValue.{StoreValue, families_between, without_between, take_end}
 use Rattle.sq_exec.specs.declared.fault.CutFault.{CutFault}
 use Rattle.sq_exec.specs.declared.fault.CutFault.TheVariants as fault

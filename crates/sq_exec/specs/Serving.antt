@@ -5,7 +5,7 @@ use Rattle.std.specs.List.{list_all}
 use Rattle.sq_schema.specs.TxnValue.{TxnValue}
 use Rattle.sq_schema.specs.declared.family.TheConstants.{MAX_LOG}
 use Rattle.sq_store.specs.StoreValue.{StoreValue, log_length, store_reply, store_after}
-use Rattle.sq_ranges.specs.declared.opening.TheConstants.{MAX_WAITING}
+use Rattle.sq_moves.specs.declared.opening.TheConstants.{MAX_WAITING}
 use Rattle.sq_exec.specs.declared.fault.SubmitFault.{SubmitFault}
 use Rattle.sq_exec.specs.declared.fault.SubmitFault.TheVariants as submit
 use Rattle.sq_exec.specs.declared.fault.ResumeFault.{ResumeFault}

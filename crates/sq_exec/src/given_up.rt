@@ -2,7 +2,7 @@
 ghost use Rattle.std.specs.Prelude.{◌≡◌};
 ghost use Rattle.sq_exec.specs.GivenUp.{none_given_up, is_given_up, given_up_with};
 
-use sq_tree::{LEAVES, Leaf, NodeId};
+use sq_moves::{LEAVES, Leaf, NodeId};
 use std::marker::Model;
 
 /// The leaves of a segment that its source gave up: those of each node that was begun. To a

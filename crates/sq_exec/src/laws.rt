@@ -1,12 +1,12 @@
 // Laws of what a partition gave up and loaded, and of the transactions that it runs or lets wait.
 ghost use Rattle.std.specs.Prelude.{◌≡◌, ◌≢◌, ℕ, ◌<◌, ◌==◌, ◌&&◌, ◌||◌, ◌∷◌, [], true, Bool, List, Option, Some, position, slice_get};
 ghost use Rattle.std.specs.List.{list_all};
-ghost use Rattle.sq_tree.specs.declared.node.TheConstants.{LEAVES};
-ghost use Rattle.sq_tree.specs.Prelude.{is_above};
+ghost use Rattle.sq_moves.specs.declared.node.TheConstants.{LEAVES};
+ghost use Rattle.sq_moves.specs.Prelude.{is_above};
 ghost use Rattle.sq_store.specs.declared.chunk.Note.{Note};
 ghost use Rattle.sq_store.specs.ChunkValue.{ChunkValue, covers};
-ghost use Rattle.sq_ranges.specs.declared.recon.Extent.{Extent};
-ghost use Rattle.sq_ranges.specs.declared.recon.Link.{Link};
+ghost use Rattle.sq_moves.specs.declared.recon.Extent.{Extent};
+ghost use Rattle.sq_moves.specs.declared.recon.Link.{Link};
 ghost use Rattle.sq_exec.specs.declared.run.Run.{Run};
 ghost use Rattle.sq_exec.specs.GivenUp.{is_given_up, given_up_with};
 ghost use Rattle.sq_schema.specs.Prelude.{TxnValue};

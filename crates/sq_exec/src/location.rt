@@ -1,7 +1,6 @@
 // The locations of root keys that move.
+use sq_moves::{Leaf, SegId};
 use sq_plan::PartId;
-use sq_ranges::SegId;
-use sq_tree::Leaf;
 
 /// The location of a root key that moves, as far as a single partition can know it.
 #[derive(Clone, Copy, Debug)]

@@ -5,7 +5,7 @@ ghost use Rattle.sq_exec.specs.OutLink.{new_out_link, note_for, may_cut, cut_fau
 
 use crate::fault::CutFault;
 use crate::work::{Work, go_on, next_work};
-use sq_ranges::Link;
+use sq_moves::Link;
 use sq_store::{Chunk, FamilyStore, Note, cut_next};
 use std::alloc::{AllocError, Global};
 use std::marker::Model;

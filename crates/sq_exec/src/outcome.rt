@@ -1,8 +1,7 @@
 // The outcomes of transactions.
+use sq_moves::{Leaf, SegId};
 use sq_plan::PartId;
-use sq_ranges::SegId;
 use sq_schema::{Reply, Txn};
-use sq_tree::Leaf;
 
 /// The outcome of a transaction at a partition.
 #[derive(Debug, Drop)]

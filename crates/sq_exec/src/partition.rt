@@ -4,8 +4,8 @@ ghost use Rattle.std.specs.List.{range_with_len};
 ghost use Rattle.sq_exec.specs.Opened.{blank_part, with_opened, AreBlank, IsOpenStore};
 
 use crate::part_core::PartCore;
+use sq_moves::Opening;
 use sq_plan::{PartId, Plan};
-use sq_ranges::Opening;
 use sq_schema::Table;
 use sq_store::{Place, SlabStore};
 use std::alloc::{AllocError, Global};

@@ -2,9 +2,9 @@
 ghost use Rattle.std.specs.Prelude.{◌≡◌, ◌<◌, position, vec_len, vec_capacity};
 ghost use Rattle.sq_exec.specs.Runs.{run_has, meets, goes_on, run_with, is_loaded, is_met, is_whole, runs_with};
 
+use sq_moves::NodeId;
 use sq_schema::Root;
 use sq_store::Note;
-use sq_tree::NodeId;
 
 /// Root keys of a node that were loaded without a gap, from `lo` up to, not including, `hi`; empty
 /// unless `lo` is below `hi`.

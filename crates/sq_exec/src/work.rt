@@ -2,8 +2,7 @@
 ghost use Rattle.std.specs.Prelude.{◌≡◌, ◌≤◌, ◌<◌, position, vec_len, vec_capacity, slice_index_or};
 ghost use Rattle.sq_exec.specs.Work.{is_reactive_work, next_work, no_work, work_after};
 
-use sq_ranges::{Extent, SegId};
-use sq_tree::NodeId;
+use sq_moves::{Extent, NodeId, SegId};
 use std::marker::Model;
 
 /// The rest of a node that was begun and isn't cut to its end yet. To a contract it is a

@@ -9,8 +9,8 @@ use Rattle.std.proofs.lemmas.List.{length-map, same_lists}
 use Rattle.std.proofs.lemmas.List.Sorted.{IsPermutation-sym, IsPermutation-map, length_permutation, Contains-permutation}
 use Rattle.std.proofs.lemmas.Map.Keys.{IsDistinct-from_apart, IsDistinct-IsPermutation, IsStrictlyIncreasing-from_distinct}
 use Rattle.std.proofs.lemmas.Option.{slice_get_within, get_or_from_slice_get}
-use Rattle.sq_ranges.specs.declared.recon.Range.{Range}
-use Rattle.sq_ranges.specs.ReconValue.{ReconValue, IsRecon, is_link, stage_on}
+use Rattle.sq_moves.specs.declared.recon.Range.{Range}
+use Rattle.sq_moves.specs.ReconValue.{ReconValue, IsRecon, is_link, stage_on}
 use Rattle.sq_exec.specs.CoreValue.{has_ends}
 use Rattle.sq_shared.specs.Values.{LinkValue}
 use Rattle.sq_model.proofs.Lists.{any_in, Contains-slice_get, slice_get-Contains, list_all-Contains}

@@ -5,7 +5,7 @@ use Rattle.std.proofs.lemmas.Bool.{cases_lt}
 use Rattle.std.proofs.lemmas.List.{length-map, length-set, map-append, get_or-set_same, get_or-set_other}
 use Rattle.std.proofs.lemmas.Option.{same_Some, slice_get_within}
 use Rattle.atomic_table.specs.Seated.{TableId}
-use Rattle.sq_tree.specs.declared.status.Status.{Status}
+use Rattle.sq_moves.specs.declared.status.Status.{Status}
 use Rattle.sq_shared.specs.Seat.{SeatValue}
 use Rattle.sq_shared.specs.Rule.{IsTreeOf}
 use Rattle.sq_shared.specs.Seats.{AreSeatsOf}

@@ -4,11 +4,11 @@ use Rattle.std.specs.Prelude.{slice_get, Contains}
 use Rattle.std.proofs.lemmas.Nat.{le-div}
 use Rattle.std.proofs.lemmas.List.FromFn.{length-map-range_with_len, get_or-map-range_with_len}
 use Rattle.sq_schema.specs.declared.root.TheConstants.{ROOT_END}
-use Rattle.sq_ranges.specs.declared.recon.Range.{Range}
-use Rattle.sq_ranges.specs.ReconValue.{ReconValue, IsRecon, segment_width, segment_at, segment_count, segments_in}
-use Rattle.sq_ranges.proofs.Cuts.{Moves, row_from_rising, segment_width_some}
-use Rattle.sq_ranges.proofs.Rows.{row_at}
-use Rattle.sq_ranges.proofs.Segments.{width_bounds}
+use Rattle.sq_moves.specs.declared.recon.Range.{Range}
+use Rattle.sq_moves.specs.ReconValue.{ReconValue, IsRecon, segment_width, segment_at, segment_count, segments_in}
+use Rattle.sq_moves.proofs.Cuts.{Moves, row_from_rising, segment_width_some}
+use Rattle.sq_moves.proofs.Rows.{row_at}
+use Rattle.sq_moves.proofs.Segments.{width_bounds}
 use Rattle.sq_model.proofs.Lists.{Contains-slice_get}
 use Rattle.sq_node_model.proofs.Lists.{Contains-flat_map}
 

@@ -4,7 +4,7 @@ use Rattle.std.specs.Prelude.{slice_get, slice_set}
 use Rattle.std.proofs.lemmas.Bool.{cases_lt}
 use Rattle.std.proofs.lemmas.List.{length-set, length-map, map-set, map-append}
 use Rattle.std.proofs.lemmas.Option.{same_Some, slice_get_within}
-use Rattle.sq_ranges.specs.declared.opening.TheConstants.{MAX_WAITING}
+use Rattle.sq_moves.specs.declared.opening.TheConstants.{MAX_WAITING}
 use Rattle.sq_node.specs.declared.fabric.TheConstants.{JOB_PLACES}
 use Rattle.sq_schema.specs.TxnValue.{TxnValue}
 use Rattle.sq_node_model.proofs.Lists.{stands_at, map_at, at_map}

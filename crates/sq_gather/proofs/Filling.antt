@@ -14,7 +14,7 @@ use Rattle.sq_node.proofs.Bridges.{stands_below}
 use Rattle.sq_node.proofs.Taken.{found_link}
 use Rattle.sq_gather.specs.LinkEnds.{LinkEndsValue}
 use Rattle.sq_gather.specs.Ends.{WasPut, HavePut, AreApart, SourcesPut, DestinationsPut, with_source, with_destination}
-use Rattle.sq_ranges.proofs.LinksFrom.{stands_from}
+use Rattle.sq_moves.proofs.LinksFrom.{stands_from}
 use Rattle.sq_gather.proofs.Staged.{ranges_in, as_links}
 
 -- a node's end for the other partition is among its ends, and it is of this link

@@ -4,7 +4,7 @@ use Rattle.std.specs.Prelude.{slice_get}
 use Rattle.std.specs.List.{flat_map}
 use Rattle.std.proofs.lemmas.List.{length-map}
 use Rattle.std.proofs.lemmas.Option.{same_Some, slice_get_within}
-use Rattle.sq_tree.specs.declared.status.Status.{Status}
+use Rattle.sq_moves.specs.declared.status.Status.{Status}
 use Rattle.sq_shared.specs.declared.view.View.{View}
 use Rattle.sq_shared.specs.View.{took}
 use Rattle.sq_shared.specs.Seat.{SeatValue}

@@ -1,16 +1,16 @@
 -- Whether nodes read complete.
 use Rattle.std.proofs.Common.{◌≡◌, ℕ, zero, suc, ◌+◌, ◌*◌, ◌^◌, ◌≤◌, Bool, true, false, List, slice_index_or, refl, sym, ap, ◌∙◌, subst, arith, true≢false, mul-le-mul_right, le_trans}
 use Rattle.std.proofs.lemmas.Bool.{leb-false}
-use Rattle.sq_tree.proofs.Covering.{deeper}
-use Rattle.sq_tree.specs.declared.status.Status.{Status}
-use Rattle.sq_tree.specs.declared.status.Status.TheVariants.{Free, Split}
-use Rattle.sq_tree.specs.declared.status.Reading.{Reading}
-use Rattle.sq_tree.specs.declared.status.Reading.TheVariants as reads
-use Rattle.sq_tree.specs.Node.{is_leaf}
-use Rattle.sq_tree.specs.Status.{is_split, both, reading_of, reading_within}
-use Rattle.sq_tree.specs.Tree.{status_at}
-use Rattle.sq_tree.proofs.Readings.{reads_whole}
-use Rattle.sq_tree.specs.Reading.{is_complete_reading}
+use Rattle.sq_moves.proofs.Covering.{deeper}
+use Rattle.sq_moves.specs.declared.status.Status.{Status}
+use Rattle.sq_moves.specs.declared.status.Status.TheVariants.{Free, Split}
+use Rattle.sq_moves.specs.declared.status.Reading.{Reading}
+use Rattle.sq_moves.specs.declared.status.Reading.TheVariants as reads
+use Rattle.sq_moves.specs.Node.{is_leaf}
+use Rattle.sq_moves.specs.Status.{is_split, both, reading_of, reading_within}
+use Rattle.sq_moves.specs.Tree.{status_at}
+use Rattle.sq_moves.proofs.Readings.{reads_whole}
+use Rattle.sq_moves.specs.Reading.{is_complete_reading}
 
 -- the status that is at a place is the status of the node behind it
 pub stands_at : (statuses : List Status) (node place : ℕ) (status : Status) → place + 1 ≡ node → slice_index_or statuses place Free ≡ status → status_at statuses node ≡ status

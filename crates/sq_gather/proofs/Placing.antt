@@ -7,10 +7,10 @@ use Rattle.std.proofs.lemmas.List.Sorted.{IsPermutation-sym, length_permutation,
 use Rattle.sq_model.proofs.Lists.{Contains-slice_get, slice_get-Contains}
 use Rattle.std.proofs.lemmas.List.Concat.{flat_map-append}
 use Rattle.std.proofs.lemmas.List.Folds.{flat_map-map}
-use Rattle.sq_ranges.specs.declared.recon.Link.{Link}
-use Rattle.sq_ranges.specs.ReconValue.{ReconValue, AreLinks}
-use Rattle.sq_ranges.specs.OpeningValue.{OpeningValue}
-use Rattle.sq_ranges.specs.Opening.{IsOpening}
+use Rattle.sq_moves.specs.declared.recon.Link.{Link}
+use Rattle.sq_moves.specs.ReconValue.{ReconValue, AreLinks}
+use Rattle.sq_moves.specs.OpeningValue.{OpeningValue}
+use Rattle.sq_moves.specs.Opening.{IsOpening}
 use Rattle.sq_shared.specs.declared.view.View.{View}
 use Rattle.sq_shared.specs.Seat.{SeatValue}
 use Rattle.sq_shared.specs.Pump.{PumpValue}
@@ -28,7 +28,7 @@ use Rattle.sq_node.specs.Opened.{IsFabricOf}
 use Rattle.sq_gather.specs.Trees.{view_with}
 use Rattle.sq_gather.specs.Gathered.{AreAllOf, IsGathered, AllHold, owners_of, closed_ends}
 use Rattle.sq_gather.proofs.Lists.{map_twice, flat_map_none}
-use Rattle.sq_ranges.proofs.LinksFrom.{one_each, each_link}
+use Rattle.sq_moves.proofs.LinksFrom.{one_each, each_link}
 use Rattle.sq_gather.proofs.Staged.{ranges_in, linked_in, as_links}
 use Rattle.sq_gather.proofs.Joined.{begun_grows, completed_grows}
 

@@ -13,7 +13,7 @@ pub use Rattle.sq_node_model.proofs.Next.{stands_fit, stands_next}
 pub use Rattle.sq_node_model.proofs.Staged.{key_stage, moved_source, source_below, staying_source, unmoved_source}
 pub use Rattle.sq_node_model.proofs.Stands.{of_some}
 pub use Rattle.sq_node_model.proofs.Trees.{begun_apart}
-pub use Rattle.sq_ranges.proofs.Stages.{stage_below}
+pub use Rattle.sq_moves.proofs.Stages.{stage_below}
 pub use Rattle.sq_schema.proofs.Equal.{reply_same, rows_same, txn_same}
 pub use Rattle.sq_store.proofs.Between.{family_in-entries, sorted_is}
 pub use Rattle.sq_store.proofs.Firsts.{first_is, first_none, none_between, rising_in}
@@ -21,4 +21,4 @@ pub use Rattle.sq_store.proofs.Folds.{get-folded}
 pub use Rattle.sq_store.proofs.Given.{FirstDiffers, first_differs, get-with_new, names, or_false}
 pub use Rattle.sq_store.proofs.Order.{cmp_less, first_rises, is_below, less_from_cmp, rising_differ}
 pub use Rattle.sq_store.proofs.Rising.{rises}
-pub use Rattle.sq_tree.proofs.Grown.{grown-free}
+pub use Rattle.sq_moves.proofs.Grown.{grown-free}

@@ -3,9 +3,9 @@ use Rattle.std.proofs.Common.{◌≡◌, inl, inr, ℕ, ◌+◌, ◌<◌, ◌≤
 use Rattle.std.specs.Prelude.{slice_get}
 use Rattle.std.proofs.lemmas.Bool.{cases_lt}
 use Rattle.std.proofs.lemmas.Option.{slice_get_within}
-use Rattle.sq_ranges.specs.declared.recon.Range.{Range}
-use Rattle.sq_ranges.specs.ReconValue.{stage_in, stage_at, stage_found}
-use Rattle.sq_ranges.specs.OpeningValue.{OpeningValue}
+use Rattle.sq_moves.specs.declared.recon.Range.{Range}
+use Rattle.sq_moves.specs.ReconValue.{stage_in, stage_at, stage_found}
+use Rattle.sq_moves.specs.OpeningValue.{OpeningValue}
 use Rattle.sq_node_model.specs.Gathered.{GatheredValue}
 use Rattle.sq_node_model.specs.Next.{is_complete_in, IsStageDone}
 

@@ -1,9 +1,9 @@
 -- The links of a stage are those of the ranges that move in it.
 use Rattle.std.proofs.Common.{◌≡◌, ℕ, Bool, true, false, ◌&&◌, ◌||◌, ◌==◌, if◌then◌else◌, List, [], ◌∷◌, filter, refl, sym, ap, ap₂, ◌∙◌, true≢false}
 use Rattle.std.proofs.lemmas.Bool.{and_parts, eqb-true}
-use Rattle.sq_ranges.specs.declared.recon.Range.{Range}
-use Rattle.sq_ranges.specs.declared.recon.Link.{Link}
-use Rattle.sq_ranges.specs.ReconValue.{ReconValue, is_link, stage_on, stage_in, AreLinks}
+use Rattle.sq_moves.specs.declared.recon.Range.{Range}
+use Rattle.sq_moves.specs.declared.recon.Link.{Link}
+use Rattle.sq_moves.specs.ReconValue.{ReconValue, is_link, stage_on, stage_in, AreLinks}
 use Rattle.sq_node.specs.FabricValue.{AreStageLinks}
 
 -- the ranges that move in a stage

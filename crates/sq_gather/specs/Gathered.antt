@@ -3,8 +3,8 @@ use Rattle.std.specs.Prelude.{◌≡◌, ℕ, ◌+◌, List, [], ◌++◌, lengt
 use Rattle.std.specs.List.{flat_map}
 use Rattle.std.specs.List.Sorted.{IsPermutation}
 use Rattle.sq_schema.specs.TxnValue.{TxnValue}
-use Rattle.sq_ranges.specs.declared.recon.Link.{Link}
-use Rattle.sq_ranges.specs.OpeningValue.{OpeningValue}
+use Rattle.sq_moves.specs.declared.recon.Link.{Link}
+use Rattle.sq_moves.specs.OpeningValue.{OpeningValue}
 use Rattle.sq_shared.specs.Seat.{SeatValue}
 use Rattle.sq_shared.specs.Seats.{AreSeatsOf}
 use Rattle.sq_shared.specs.Pump.{PumpValue}

@@ -1,6 +1,6 @@
 -- The unanswered jobs, by partition.
 use Rattle.std.specs.Prelude.{◌≡◌, ℕ, ◌+◌, ◌≤◌, List, [], length, slice_get, Some}
-use Rattle.sq_ranges.specs.declared.opening.TheConstants.{MAX_WAITING}
+use Rattle.sq_moves.specs.declared.opening.TheConstants.{MAX_WAITING}
 use Rattle.sq_schema.specs.TxnValue.{TxnValue}
 use Rattle.sq_node.specs.declared.fabric.TheConstants.{JOB_PLACES}
 use Rattle.sq_node_model.specs.BeganWith.{BeginsWith}

@@ -19,13 +19,13 @@ pub use Rattle.sq_node_model.specs.Stages.{cut_place_in, is_link_in, runs_in}
 pub use Rattle.sq_node_model.specs.declared.spot.Spot.{Spot}
 pub use Rattle.sq_node_model.specs.declared.spot.Spot.TheVariants.{Chunk, Store}
 pub use Rattle.sq_plan.specs.PlanValue.{PlanValue, owner}
-pub use Rattle.sq_ranges.specs.Moves.{IsMovingRun}
-pub use Rattle.sq_ranges.specs.Prelude.{IsOpening, IsSetUp, OpeningValue, stages}
-pub use Rattle.sq_ranges.specs.ReconValue.{AreLinks, ReconValue, is_link, segment_of, segments_of, stage_on}
-pub use Rattle.sq_ranges.specs.declared.fault.OpeningFault.{OpeningFault}
-pub use Rattle.sq_ranges.specs.declared.recon.Extent.{Extent}
-pub use Rattle.sq_ranges.specs.declared.recon.Link.{Link}
-pub use Rattle.sq_ranges.specs.declared.recon.Range.{Range}
+pub use Rattle.sq_moves.specs.Moves.{IsMovingRun}
+pub use Rattle.sq_moves.specs.Prelude.{IsOpening, IsSetUp, OpeningValue, stages}
+pub use Rattle.sq_moves.specs.ReconValue.{AreLinks, ReconValue, is_link, segment_of, segments_of, stage_on}
+pub use Rattle.sq_moves.specs.declared.ranges_fault.OpeningFault.{OpeningFault}
+pub use Rattle.sq_moves.specs.declared.recon.Extent.{Extent}
+pub use Rattle.sq_moves.specs.declared.recon.Link.{Link}
+pub use Rattle.sq_moves.specs.declared.recon.Range.{Range}
 pub use Rattle.sq_schema.specs.Effect.{RowList, RowTable, effect, replay_rows, reply}
 pub use Rattle.sq_schema.specs.Family.{logged, rows_of}
 pub use Rattle.sq_schema.specs.Prelude.{FamilyValue, rows_in}
@@ -38,8 +38,8 @@ pub use Rattle.sq_store.specs.InOrder.{AreKeyed}
 pub use Rattle.sq_store.specs.Listed.{roots_rise}
 pub use Rattle.sq_store.specs.Prelude.{HoldsByRoot, families_in, family_from, family_in, folded_store}
 pub use Rattle.sq_store.specs.StoreValue.{StoreValue, absent, fold_of, has_none_of, roots_differ, with_families}
-pub use Rattle.sq_tree.specs.Node.{is_leaf}
-pub use Rattle.sq_tree.specs.Prelude.{IsGrown, is_begun, is_live, is_node, status_at}
-pub use Rattle.sq_tree.specs.Status.{is_complete, is_free, is_split}
-pub use Rattle.sq_tree.specs.declared.status.Status.{Status}
-pub use Rattle.sq_tree.specs.declared.status.Status.TheVariants.{Free}
+pub use Rattle.sq_moves.specs.Node.{is_leaf}
+pub use Rattle.sq_moves.specs.Prelude.{IsGrown, is_begun, is_live, is_node, status_at}
+pub use Rattle.sq_moves.specs.Status.{is_complete, is_free, is_split}
+pub use Rattle.sq_moves.specs.declared.status.Status.{Status}
+pub use Rattle.sq_moves.specs.declared.status.Status.TheVariants.{Free}

@@ -1,7 +1,7 @@
 -- Runs, and how they continue from one stage to the next.
 use Rattle.std.specs.Prelude.{◌≡◌, ℕ, List, length, slice_get, Some}
-use Rattle.sq_ranges.specs.OpeningValue.{OpeningValue}
-use Rattle.sq_ranges.specs.Opening.{IsOpening}
+use Rattle.sq_moves.specs.OpeningValue.{OpeningValue}
+use Rattle.sq_moves.specs.Opening.{IsOpening}
 use Rattle.sq_shared.specs.Seats.{AreSeatsOf, OnlyClaimed}
 use Rattle.sq_shared.specs.Pump.{PumpValue}
 use Rattle.sq_node_model.specs.BeganWith.{BeganWith, CanBegin}

@@ -1,7 +1,7 @@
 -- Trees whose seats were joined into the first seats, and that were then closed.
 use Rattle.std.specs.Prelude.{◌≡◌, ℕ, ◌+◌, List, [], ◌∷◌, length, map, fold, slice_get, slice_index_or, Some}
 use Rattle.atomic_table.specs.Seated.{TableId}
-use Rattle.sq_tree.specs.declared.status.Status.{Status}
+use Rattle.sq_moves.specs.declared.status.Status.{Status}
 use Rattle.sq_shared.specs.declared.view.View.{View}
 use Rattle.sq_shared.specs.View.{took}
 use Rattle.sq_shared.specs.Seat.{SeatValue}

@@ -6,10 +6,10 @@ ghost use Rattle.sq_node_model.specs.Prelude.{GatheredValue};
 
 use crate::links::ClosedLink;
 use sq_history::History;
+use sq_moves::{NODES, Status};
 use sq_node::Receipt;
 use sq_schema::Txn;
 use sq_store::SlabStore;
-use sq_tree::{NODES, Status};
 use std::marker::Model;
 
 /// What a run left, after its threads are done. To a contract it is a `GatheredValue`.

@@ -1,6 +1,6 @@
 // Gathering a run, node by node.
 ghost use Rattle.std.specs.Prelude.{◌≡◌, ℕ, ◌+◌, ◌<◌, ◌≤◌, ◌∷◌, [], ◌++◌, length, map, slice_get, Some, IfOk, OnOk};
-ghost use Rattle.sq_ranges.specs.Prelude.{IsRecon};
+ghost use Rattle.sq_moves.specs.Prelude.{IsRecon};
 ghost use Rattle.sq_node.specs.Prelude.{NodeState};
 ghost use Rattle.sq_gather.specs.Links.{AreClosed as AreClosedLinks};
 ghost use Rattle.sq_gather.specs.Trees.{AreClosed as AreClosedTrees};
@@ -16,11 +16,11 @@ use crate::trees::close_trees;
 use crossbeam_queue::ArrayQueue;
 use sq_exec::CoreParts;
 use sq_history::History;
+use sq_moves::{NODES, Status};
 use sq_node::{Fabric, Node, NodeParts, Post, Receipt};
 use sq_schema::Txn;
 use sq_shared::{Pump, SharedLink, StatusTree, TreeSeat};
 use sq_store::SlabStore;
-use sq_tree::{NODES, Status};
 use sq_waiting::Waiting;
 use std::alloc::{AllocError, Global};
 use std::collections::VecDeque;

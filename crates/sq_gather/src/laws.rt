@@ -1,6 +1,6 @@
 // Laws of runs, and of what can be gathered.
 ghost use Rattle.std.specs.Prelude.{ℕ, List};
-ghost use Rattle.sq_ranges.specs.Prelude.{OpeningValue};
+ghost use Rattle.sq_moves.specs.Prelude.{OpeningValue};
 ghost use Rattle.sq_shared.specs.Seats.{AreSeatsOf, OnlyClaimed};
 ghost use Rattle.sq_shared.specs.Pump.{PumpValue};
 ghost use Rattle.sq_node_model.specs.Prelude.{BeganWith, first_began};

@@ -5,9 +5,9 @@ ghost use Rattle.sq_node_model.specs.BeganWith.{BeginsWith};
 ghost use Rattle.sq_gather.specs.Left.{AreRooms, BeginWithWaiting, OnlyGrow};
 
 use crossbeam_queue::ArrayQueue;
+use sq_moves::MAX_WAITING;
 use sq_node::{JOB_PLACES, Node, Post};
 use sq_plan::PartId;
-use sq_ranges::MAX_WAITING;
 use sq_schema::Txn;
 use sq_waiting::Waiting;
 use std::alloc::{AllocError, Global};

@@ -19,11 +19,12 @@ pub use link_ends::LinkEnds;
 pub use links::{ClosedLink, close_link, close_links};
 pub use reopened::{move_on, reopen};
 pub use run::gather;
+pub use sq_moves::{
+    Config, Extent, Link, NODES, NodeId, Opening, OpeningFault, Range, Recon, SegId, Status,
+};
 pub use sq_node::Receipt;
 pub use sq_plan::{PartId, Plan};
-pub use sq_ranges::{Config, Extent, Link, Opening, OpeningFault, Range, Recon, SegId};
 pub use sq_schema::{Family, Reply, Root, Rows, Schema, Table, Txn};
 pub use sq_store::{Chunk, FamilyStore, Note, SlabStore};
-pub use sq_tree::{NODES, NodeId, Status};
 pub use stage_done::reads_complete;
 pub use trees::close_trees;

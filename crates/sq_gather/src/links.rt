@@ -3,8 +3,8 @@ ghost use Rattle.std.specs.Prelude.{◌≡◌, [], ◌+◌, ◌<◌, ◌≤◌, 
 ghost use Rattle.sq_gather.specs.Links.{HasBothEnds, IsClosed, HaveBothEnds, AreClosed};
 
 use crate::link_ends::LinkEnds;
+use sq_moves::Link;
 use sq_plan::PartId;
-use sq_ranges::Link;
 use sq_shared::SharedLink;
 use sq_store::{Chunk, Note};
 use std::marker::Model;

@@ -2,15 +2,15 @@
 ghost use Rattle.std.specs.Prelude.{◌≡◌, ◌+◌, ◌≤◌, length, IfOk, IfErr, OnOk};
 ghost use Rattle.sq_schema.specs.Prelude.{TableValue};
 ghost use Rattle.sq_shared.specs.declared.numbers.TheConstants.{MAX_PUMPS};
-ghost use Rattle.sq_ranges.specs.Prelude.{IsOpening};
+ghost use Rattle.sq_moves.specs.Prelude.{IsOpening};
 ghost use Rattle.sq_node_model.specs.Prelude.{folded_opening};
 ghost use Rattle.sq_node.specs.Prelude.{IsFabric, IsReopened, AllHoldAsBegun};
 ghost use Rattle.sq_gather.specs.Gathered.{AreAllOf};
 ghost use Rattle.sq_gather.specs.Reopened.{IsNextStageOf, IsFirstStageAfter};
 
 use crate::gathered::Gathered;
+use sq_moves::Opening;
 use sq_node::{Fabric, RunParts, Unresumed};
-use sq_ranges::Opening;
 use std::alloc::Global;
 
 // The stage that a move begins with.

@@ -1,6 +1,6 @@
 // Gathering a run.
 ghost use Rattle.std.specs.Prelude.{IfOk, IfErr, ◌≡◌};
-ghost use Rattle.sq_ranges.specs.Prelude.{OpeningValue, IsOpening};
+ghost use Rattle.sq_moves.specs.Prelude.{OpeningValue, IsOpening};
 ghost use Rattle.sq_node_model.specs.Prelude.{IsPlaced, GoOn, BeganWith};
 ghost use Rattle.sq_gather.specs.Gathered.{AreAllOf, IsGathered, HoldsInStage};
 

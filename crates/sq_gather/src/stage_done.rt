@@ -1,12 +1,11 @@
 // Whether the segments of the gathered stage are complete.
 ghost use Rattle.std.specs.Prelude.{◌≡◌, ◌≤◌, ◌*◌, ◌^◌, ℕ};
 ghost use Rattle.std.specs.Bool.{Decides};
-ghost use Rattle.sq_tree.specs.Prelude.{reading_within, is_complete_reading, status_at, IsGrown};
+ghost use Rattle.sq_moves.specs.Prelude.{reading_within, is_complete_reading, status_at, IsGrown};
 ghost use Rattle.sq_node_model.specs.Prelude.{is_complete_in, IsStageDone, AllGrown};
 
 use crate::gathered::Gathered;
-use sq_ranges::{Opening, SegId};
-use sq_tree::{NODES, NodeId, Status};
+use sq_moves::{NODES, NodeId, Opening, SegId, Status};
 
 impl Gathered {
     /// Returns true if each segment of the gathered stage is complete.

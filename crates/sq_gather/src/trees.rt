@@ -4,8 +4,8 @@ ghost use Rattle.sq_shared.specs.Seats.{AreSeatsOf};
 ghost use Rattle.sq_node.specs.Prelude.{AreFirst};
 ghost use Rattle.sq_gather.specs.Trees.{AllAreSeatsOf, AwaitOwners, AreJoined, AreWhole, AreTreesOf, AreClosed};
 
+use sq_moves::{NODES, Status};
 use sq_shared::{StatusTree, TreeSeat};
-use sq_tree::{NODES, Status};
 
 /// Closes the trees, after all other seats were joined into those that the trees were opened with.
 /// Each of `owners` brings a seat of each tree. The result, in `room`, is the statuses of each

@@ -4,15 +4,15 @@ use Rattle.std.proofs.Math.Nat.{lt-div-mul-add, mul-le-mul_left}
 use Rattle.std.proofs.lemmas.Nat.{div_below}
 use Rattle.std.proofs.lemmas.Bool.{and_from, le-leb, le-ltb}
 use Rattle.sq_plan.specs.PlanValue.{PlanValue}
-use Rattle.sq_ranges.specs.declared.recon.TheConstants.{MAX_WIDTH}
-use Rattle.sq_ranges.specs.declared.recon.Range.{Range}
-use Rattle.sq_ranges.specs.declared.fault.ReconFault.TheVariants.{PartitionsDiffer, Width, TooManySegments}
-use Rattle.sq_ranges.specs.ReconValue.{segment_width, segment_count, segments_in, segments_of, is_width}
-use Rattle.sq_ranges.specs.Moves.{moves_of}
-use Rattle.sq_ranges.specs.Between.{segment_limit, recon_fault}
-use Rattle.sq_ranges.proofs.Cuts.{length-segments_in, segment_width_some}
-use Rattle.sq_ranges.proofs.Made.{IsFine, fine}
-use Rattle.sq_ranges.proofs.Segments.{width_bounds}
+use Rattle.sq_moves.specs.declared.recon.TheConstants.{MAX_WIDTH}
+use Rattle.sq_moves.specs.declared.recon.Range.{Range}
+use Rattle.sq_moves.specs.declared.ranges_fault.ReconFault.TheVariants.{PartitionsDiffer, Width, TooManySegments}
+use Rattle.sq_moves.specs.ReconValue.{segment_width, segment_count, segments_in, segments_of, is_width}
+use Rattle.sq_moves.specs.Moves.{moves_of}
+use Rattle.sq_moves.specs.Between.{segment_limit, recon_fault}
+use Rattle.sq_moves.proofs.Cuts.{length-segments_in, segment_width_some}
+use Rattle.sq_moves.proofs.Made.{IsFine, fine}
+use Rattle.sq_moves.proofs.Segments.{width_bounds}
 
 -- a wider piece goes less often into a length
 less_often : (d s t : ℕ) → 0 < s → s ≤ t → (d + t - 1) / t ≤ (d + s - 1) / s

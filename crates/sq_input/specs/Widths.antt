@@ -2,9 +2,9 @@
 -- another.
 use Rattle.std.specs.Prelude.{◌≡◌, ◌≢◌, ℕ, ◌≤◌, length, None}
 use Rattle.sq_plan.specs.PlanValue.{PlanValue}
-use Rattle.sq_ranges.specs.ReconValue.{segments_of}
-use Rattle.sq_ranges.specs.Moves.{moves_of}
-use Rattle.sq_ranges.specs.Between.{segment_limit, recon_fault}
+use Rattle.sq_moves.specs.ReconValue.{segments_of}
+use Rattle.sq_moves.specs.Moves.{moves_of}
+use Rattle.sq_moves.specs.Between.{segment_limit, recon_fault}
 use Rattle.sq_input.specs.declared.widths.SegmentFlaw.{SegmentFlaw}
 use Rattle.sq_input.specs.declared.widths.SegmentFlaw.TheVariants.{Narrow, Large}
 

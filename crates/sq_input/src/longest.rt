@@ -1,7 +1,7 @@
 // The longest of the ranges that a move has.
+use sq_moves::LEAVES;
 use sq_plan::{Plan, PlanRange};
 use sq_schema::ROOT_END;
-use sq_tree::LEAVES;
 use std::fmt;
 use std::fmt::{Display, Formatter, Write};
 

@@ -1,13 +1,14 @@
 // Moves that are cut into too many segments.
 ghost use Rattle.std.specs.Prelude.{◌≡◌, ◌↔◌, None, IsTrue, IfSome, MatchOption};
-ghost use Rattle.sq_ranges.specs.Between.{segment_limit, recon_fault};
+ghost use Rattle.sq_moves.specs.Between.{segment_limit, recon_fault};
 ghost use Rattle.sq_input.specs.Widths.{HasNoWidth, IsLeastWidth, IsSegmentFlaw};
 
 use crate::longest::{LongRange, longest_range};
+use sq_moves::{
+    FIRST_SEGMENT_LIMIT, LEAVES, MAX_WIDTH, OpeningFault, Recon, ReconFault, SEGMENT_LIMIT,
+};
 use sq_plan::{Plan, Version};
-use sq_ranges::{FIRST_SEGMENT_LIMIT, MAX_WIDTH, OpeningFault, Recon, ReconFault, SEGMENT_LIMIT};
 use sq_text::{Words, unsigned};
-use sq_tree::LEAVES;
 use std::alloc::Global;
 use std::fmt;
 use std::fmt::{Display, Formatter, Write};

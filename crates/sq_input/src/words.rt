@@ -3,7 +3,7 @@ ghost use Rattle.std.specs.Prelude.{◌≡◌};
 ghost use Rattle.sq_input.specs.Places.{row_word, opening_word};
 
 use crate::form::{TXN, op_form};
-use sq_ranges::{OpeningFault, ReconFault};
+use sq_moves::{OpeningFault, ReconFault};
 use sq_schema::{MAX_NOTE, MAX_OPS, MAX_TABLES, TxnFault};
 use sq_text::{OpName, Words, unsigned};
 

@@ -11,7 +11,7 @@ use Rattle.sq_schema.specs.declared.txn.Reply.TheVariants.{Committed}
 use Rattle.sq_schema.specs.Effect.{replay_rows, only}
 use Rattle.sq_schema.specs.Family.{rows_of}
 use Rattle.sq_schema.specs.TxnValue.{TxnValue}
-use Rattle.sq_ranges.specs.OpeningValue.{OpeningValue}
+use Rattle.sq_moves.specs.OpeningValue.{OpeningValue}
 use Rattle.sq_model.specs.declared.step.Step.TheVariants.{Submit, Resume}
 use Rattle.sq_model.specs.declared.answer.Answer.{Answer}
 use Rattle.sq_model.specs.declared.answer.Answer.TheVariants.{Replied, Waits, Resumed, Refused}

@@ -15,7 +15,7 @@ use Rattle.std.proofs.lemmas.List.Sums.{AllPass-from_list_all}
 use Rattle.sq_rows.specs.declared.row.RowKey.{RowKey}
 use Rattle.sq_rows.specs.Values.{RowValue}
 use Rattle.sq_schema.specs.Effect.{is_i64}
-use Rattle.sq_ranges.specs.Given.{GivenValue}
+use Rattle.sq_moves.specs.Given.{GivenValue}
 use Rattle.sq_text.specs.declared.input_fault.InputFault.TheVariants.{BadHeader}
 use Rattle.sq_text.specs.Words.{Word, words_of, ◌>>=◌}
 use Rattle.sq_text.specs.Numbers.{unsigned_in, signed_in, positive_of, negative_of}

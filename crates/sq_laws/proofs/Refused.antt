@@ -3,11 +3,11 @@ use Rattle.std.proofs.Common.{◌≡◌, inl, inr, ℕ, ◌==◌, ◌||◌, ◌&
 use Rattle.std.specs.List.{list_all, range_with_len}
 use Rattle.std.proofs.lemmas.Bool.{cond_both}
 use Rattle.sq_schema.specs.TxnValue.{TxnValue}
-use Rattle.sq_tree.specs.Node.{is_node}
-use Rattle.sq_tree.specs.declared.status.Status.TheVariants as status
-use Rattle.sq_tree.specs.Answer.{split_answer, claim_answer, begin_answer, complete_answer}
+use Rattle.sq_moves.specs.Node.{is_node}
+use Rattle.sq_moves.specs.declared.status.Status.TheVariants as status
+use Rattle.sq_moves.specs.Answer.{split_answer, claim_answer, begin_answer, complete_answer}
 use Rattle.sq_store.specs.ChunkValue.{ChunkValue}
-use Rattle.sq_ranges.specs.ReconValue.{stage_on}
+use Rattle.sq_moves.specs.ReconValue.{stage_on}
 use Rattle.sq_exec.specs.declared.fault.SubmitFault.{SubmitFault}
 use Rattle.sq_exec.specs.declared.outcome.Outcome.{Outcome}
 use Rattle.sq_exec.specs.declared.outcome.Outcome.TheVariants as outcome

@@ -4,21 +4,21 @@ use Rattle.std.specs.List.{list_all}
 use Rattle.std.proofs.lemmas.Bool.{cond_both, leb-true, leb-false, eqb-true, eqb-false, eq-eqb, or_cases, not-false, false_from_ne_true}
 use Rattle.sq_schema.specs.TxnValue.{TxnValue}
 use Rattle.sq_schema.specs.Effect.{reply}
-use Rattle.sq_tree.specs.declared.fault.SplitFault.{SplitFault}
-use Rattle.sq_tree.specs.declared.fault.SplitFault.TheVariants as split
-use Rattle.sq_tree.specs.declared.fault.ClaimFault.{ClaimFault}
-use Rattle.sq_tree.specs.declared.fault.ClaimFault.TheVariants as claim
-use Rattle.sq_tree.specs.declared.fault.BeginFault.{BeginFault}
-use Rattle.sq_tree.specs.declared.fault.BeginFault.TheVariants as begin
-use Rattle.sq_tree.specs.declared.fault.CompleteFault.{CompleteFault}
-use Rattle.sq_tree.specs.declared.fault.CompleteFault.TheVariants as complete
-use Rattle.sq_tree.specs.Node.{is_node}
-use Rattle.sq_tree.specs.Answer.{split_answer, claim_answer, begin_answer, complete_answer}
+use Rattle.sq_moves.specs.declared.tree_fault.SplitFault.{SplitFault}
+use Rattle.sq_moves.specs.declared.tree_fault.SplitFault.TheVariants as split
+use Rattle.sq_moves.specs.declared.tree_fault.ClaimFault.{ClaimFault}
+use Rattle.sq_moves.specs.declared.tree_fault.ClaimFault.TheVariants as claim
+use Rattle.sq_moves.specs.declared.tree_fault.BeginFault.{BeginFault}
+use Rattle.sq_moves.specs.declared.tree_fault.BeginFault.TheVariants as begin
+use Rattle.sq_moves.specs.declared.tree_fault.CompleteFault.{CompleteFault}
+use Rattle.sq_moves.specs.declared.tree_fault.CompleteFault.TheVariants as complete
+use Rattle.sq_moves.specs.Node.{is_node}
+use Rattle.sq_moves.specs.Answer.{split_answer, claim_answer, begin_answer, complete_answer}
 use Rattle.sq_store.specs.declared.chunk.Note.{Note}
 use Rattle.sq_store.specs.ChunkValue.{covers}
-use Rattle.sq_ranges.specs.declared.opening.TheConstants.{MAX_WAITING}
-use Rattle.sq_ranges.specs.OpeningValue.{OpeningValue}
-use Rattle.sq_ranges.specs.Opening.{IsOpening}
+use Rattle.sq_moves.specs.declared.opening.TheConstants.{MAX_WAITING}
+use Rattle.sq_moves.specs.OpeningValue.{OpeningValue}
+use Rattle.sq_moves.specs.Opening.{IsOpening}
 use Rattle.sq_model.specs.declared.step.Step.{Step}
 use Rattle.sq_model.specs.declared.step.Step.TheVariants.{Prepare, Start, Submit, Resume, Split, Claim, Begin, Cut, Push, Pop, Load, Complete, Report, Next, Finish, Status, Fold}
 use Rattle.sq_model.specs.declared.answer.Answer.{Answer}

@@ -10,7 +10,7 @@ use Rattle.sq_rows.specs.Values.{RowValue}
 use Rattle.sq_schema.specs.declared.txn.Op.{Op}
 use Rattle.sq_schema.specs.declared.txn.Op.TheVariants as op
 use Rattle.sq_schema.specs.Effect.{is_i64}
-use Rattle.sq_ranges.specs.Given.{GivenValue}
+use Rattle.sq_moves.specs.Given.{GivenValue}
 use Rattle.sq_text.specs.declared.verb.OpName.{OpName}
 use Rattle.sq_text.specs.declared.verb.OpName.TheVariants.{Get, Put, Add, Del, Check}
 use Rattle.sq_text.specs.Words.{Word, ◌>>=◌}

@@ -6,9 +6,9 @@ use Rattle.std.proofs.lemmas.Bool.{cases_Bool, cases_lt, cond-true, cond-false, 
 use Rattle.std.proofs.lemmas.List.Kept.{AllPairs-cons, AllPairs-filter}
 use Rattle.std.proofs.lemmas.List.Sums.{position_or_len_is}
 use Rattle.std.proofs.lemmas.Option.{slice_get-get_or, same_Some}
-use Rattle.sq_ranges.specs.declared.recon.Range.{Range}
-use Rattle.sq_ranges.specs.ReconValue.{ReconValue, is_link, destinations, place_on, stage_on, stage_in, stages_in, stages}
-use Rattle.sq_ranges.proofs.Stages.{stage_below}
+use Rattle.sq_moves.specs.declared.recon.Range.{Range}
+use Rattle.sq_moves.specs.ReconValue.{ReconValue, is_link, destinations, place_on, stage_on, stage_in, stages_in, stages}
+use Rattle.sq_moves.proofs.Stages.{stage_below}
 use Rattle.sq_model.proofs.Lists.{list_any-Contains, Contains-first, Contains-later, Contains-cases, Contains-nothing, Contains-filter, Contains-slice_get, kept_in}
 use Rattle.sq_laws.specs.Stages.{GoIn, DivideTheMove}
 

@@ -17,11 +17,11 @@ use Rattle.sq_schema.specs.declared.fault.RowFault.{RowFault}
 use Rattle.sq_schema.specs.declared.fault.TxnFault.{TxnFault}
 use Rattle.sq_schema.specs.declared.fault.TxnFault.TheVariants.{BadRoot}
 use Rattle.sq_schema.specs.declared.root.TheConstants.{ROOT_END}
-use Rattle.sq_ranges.specs.declared.fault.OpeningFault.{OpeningFault}
-use Rattle.sq_ranges.specs.declared.fault.OpeningFault.TheVariants as opening
-use Rattle.sq_ranges.specs.Fault.{of_row}
-use Rattle.sq_ranges.specs.Given.{GivenValue, with_one}
-use Rattle.sq_ranges.specs.Refused.{shape_fault, given_fault}
+use Rattle.sq_moves.specs.declared.ranges_fault.OpeningFault.{OpeningFault}
+use Rattle.sq_moves.specs.declared.ranges_fault.OpeningFault.TheVariants as opening
+use Rattle.sq_moves.specs.RangesFault.{of_row}
+use Rattle.sq_moves.specs.Given.{GivenValue, with_one}
+use Rattle.sq_moves.specs.Refused.{shape_fault, given_fault}
 use Rattle.sq_text.specs.declared.buffer.TheConstants.{MAX_UNENDED}
 use Rattle.sq_text.specs.Pieces.{PieceValue, InputEnd, Line, Endless, TooMany, cut_at_ends, next_line_number, pieces_of, pieces_in, next_begins}
 use Rattle.sq_text.specs.declared.input_fault.InputFault.{InputFault}

@@ -17,8 +17,8 @@ use Rattle.sq_store.specs.ChunkValue.{ChunkValue, covers, are_within}
 use Rattle.sq_store.specs.InOrder.{families_in}
 use Rattle.sq_store.specs.StoreValue.{StoreValue, family_in}
 use Rattle.sq_store.proofs.Between.{family_in-entries, within-entries, sorted_is}
-use Rattle.sq_ranges.specs.Opening.{IsOpening}
-use Rattle.sq_ranges.specs.OpeningValue.{OpeningValue}
+use Rattle.sq_moves.specs.Opening.{IsOpening}
+use Rattle.sq_moves.specs.OpeningValue.{OpeningValue}
 use Rattle.sq_exec.specs.CoreValue.{CoreValue}
 use Rattle.sq_model.specs.Trace.{Trace, notes, loads, link, load_count}
 use Rattle.sq_model.specs.Legal.{IsLegal}

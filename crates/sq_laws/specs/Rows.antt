@@ -4,11 +4,11 @@ use Rattle.std.specs.List.{AllZip}
 use Rattle.sq_rows.specs.RowList.{row_at}
 use Rattle.sq_schema.specs.Effect.{RowTable}
 use Rattle.sq_plan.specs.PlanValue.{PlanValue}
-use Rattle.sq_ranges.specs.declared.opening.Config.{Config}
-use Rattle.sq_ranges.specs.declared.opening.GivenRow.{GivenRow}
-use Rattle.sq_ranges.specs.Given.{GivenValue, IsOpeningOf}
-use Rattle.sq_ranges.specs.Refused.{opening_fault}
-use Rattle.sq_ranges.specs.OpeningValue.{OpeningValue}
+use Rattle.sq_moves.specs.declared.opening.Config.{Config}
+use Rattle.sq_moves.specs.declared.opening.GivenRow.{GivenRow}
+use Rattle.sq_moves.specs.Given.{GivenValue, IsOpeningOf}
+use Rattle.sq_moves.specs.Refused.{opening_fault}
+use Rattle.sq_moves.specs.OpeningValue.{OpeningValue}
 use Rattle.sq_text.specs.Pieces.{PieceValue, next_begins}
 use Rattle.sq_text.specs.Header.{HeaderValue, line_in, given_of, plans_of}
 

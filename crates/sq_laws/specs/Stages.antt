@@ -1,6 +1,6 @@
 -- The stages of a move, in the terms of a plan.
 use Rattle.std.specs.Prelude.{◌≡◌, ◌<◌, ℕ, true, false, length}
-use Rattle.sq_ranges.specs.ReconValue.{ReconValue, is_link, stage_on, stages}
+use Rattle.sq_moves.specs.ReconValue.{ReconValue, is_link, stage_on, stages}
 
 -- rows go from the one partition to the other in this stage
 pub record GoIn (recon : ReconValue) (src dst i : ℕ) : Type 0 where

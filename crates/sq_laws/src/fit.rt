@@ -4,7 +4,7 @@ ghost use Rattle.std.specs.Prelude.{◌≡◌, true, ℕ, List, Ok, All};
 ghost use Rattle.sq_rows.specs.RowList.{RowList};
 ghost use Rattle.sq_schema.specs.Effect.{replay_rows};
 ghost use Rattle.sq_schema.specs.TxnValue.{TxnValue};
-ghost use Rattle.sq_ranges.specs.OpeningValue.{OpeningValue};
+ghost use Rattle.sq_moves.specs.OpeningValue.{OpeningValue};
 ghost use Rattle.sq_text.specs.Pieces.{PieceValue};
 ghost use Rattle.sq_text.specs.Header.{HeaderValue, header_of};
 ghost use Rattle.sq_text.specs.Steps.{step_of};

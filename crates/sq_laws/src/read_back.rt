@@ -3,8 +3,8 @@
 ghost use Rattle.std.specs.Prelude.{◌∷◌, ℕ, List, []};
 ghost use Rattle.sq_schema.specs.Prelude.{FamilyValue};
 ghost use Rattle.sq_schema.specs.declared.schema.TheConstants.{MAX_TABLES};
-ghost use Rattle.sq_ranges.specs.OpeningValue.{OpeningValue};
-ghost use Rattle.sq_ranges.specs.Opening.{IsOpening};
+ghost use Rattle.sq_moves.specs.OpeningValue.{OpeningValue};
+ghost use Rattle.sq_moves.specs.Opening.{IsOpening};
 ghost use Rattle.sq_text.specs.Pieces.{PieceValue};
 ghost use Rattle.sq_model.specs.Prelude.{Trace, IsLegal};
 ghost use Rattle.sq_model.specs.Tables.{opening_rows};

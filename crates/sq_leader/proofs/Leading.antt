@@ -8,10 +8,10 @@ use Rattle.std.proofs.lemmas.Bool.{and_from, and_parts, lt-ltb, le-ltb, ltb-true
 use Rattle.std.proofs.lemmas.List.{length-set, length-replicate}
 use Rattle.std.proofs.lemmas.List.Sums.{AllPass-from_list_all, list_all-from_AllPass}
 use Rattle.std.proofs.lemmas.Option.{slice_get-get_or, slice_get_within, get_or_from_slice_get}
-use Rattle.sq_ranges.specs.declared.recon.Range.{Range}
-use Rattle.sq_ranges.specs.ReconValue.{ReconValue, stage_in, stages, of_stage, goes_into, moves_into}
-use Rattle.sq_ranges.specs.OpeningValue.{OpeningValue}
-use Rattle.sq_ranges.specs.Opening.{IsOpening}
+use Rattle.sq_moves.specs.declared.recon.Range.{Range}
+use Rattle.sq_moves.specs.ReconValue.{ReconValue, stage_in, stages, of_stage, goes_into, moves_into}
+use Rattle.sq_moves.specs.OpeningValue.{OpeningValue}
+use Rattle.sq_moves.specs.Opening.{IsOpening}
 use Rattle.sq_leader.specs.Marks.{none_marked, is_marked, with_mark, all_marked}
 use Rattle.sq_leader.specs.Segments.{is_marked_complete, all_marked_complete, have_reported}
 use Rattle.sq_leader.specs.LeaderValue.{IdleValue, PreparingValue, StageValue}

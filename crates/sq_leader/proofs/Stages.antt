@@ -7,8 +7,8 @@ use Rattle.std.proofs.Common.{get_or-set_other}
 use Rattle.std.proofs.lemmas.Bool.{cases_eq, cases_lt, eq-eqb, eqb-true, lt-ltb, ltb-true, and_parts, and_from, or_cases, or_left, or_right, not-true, both_ways}
 use Rattle.std.proofs.lemmas.List.Folds.{list_all-append}
 use Rattle.std.proofs.lemmas.List.Sums.{AllPass-from_list_all}
-use Rattle.sq_ranges.specs.declared.recon.Range.{Range}
-use Rattle.sq_ranges.specs.ReconValue.{ReconValue, IsRecon, segments_in, segment_at, segment_count, segments_of, stage_in, stages_in, stages}
+use Rattle.sq_moves.specs.declared.recon.Range.{Range}
+use Rattle.sq_moves.specs.ReconValue.{ReconValue, IsRecon, segments_in, segment_at, segment_count, segments_of, stage_in, stages_in, stages}
 use Rattle.sq_leader.specs.LeaderValue.{StageValue, ReportValue}
 use Rattle.sq_leader.specs.Marks.{is_marked, with_mark}
 use Rattle.sq_leader.specs.Segments.{is_heard, have_reported}

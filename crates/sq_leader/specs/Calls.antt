@@ -1,8 +1,8 @@
 -- A leader of a move over a whole list of calls.
 use Rattle.std.specs.Prelude.{◌≡◌, ℕ, Bool, true, false, ◌==◌, ◌&&◌, ◌||◌, List, [], ◌∷◌, Result, Ok, Err, Contains}
 use Rattle.std.specs.Result.{is_ok}
-use Rattle.sq_ranges.specs.declared.recon.Range.{Range}
-use Rattle.sq_ranges.specs.ReconValue.{ReconValue, stage_in}
+use Rattle.sq_moves.specs.declared.recon.Range.{Range}
+use Rattle.sq_moves.specs.ReconValue.{ReconValue, stage_in}
 use Rattle.sq_leader.specs.LeaderValue.{StageValue, ReportValue}
 use Rattle.sq_leader.specs.Leader.{first_stage, answer_to_report, answer_to_next, answer_to_finish}
 

@@ -1,7 +1,7 @@
 -- The answer to each call of the leader. A refused call returns the state as it was.
 use Rattle.std.specs.Prelude.{ℕ, Bool, ◌+◌, ◌==◌, ◌&&◌, nat_le, if◌then◌else◌, List, length, Option, None, Some, Result, Ok, Err}
 use Rattle.sq_plan.specs.PlanValue.{PlanValue}
-use Rattle.sq_ranges.specs.ReconValue.{ReconValue, stages}
+use Rattle.sq_moves.specs.ReconValue.{ReconValue, stages}
 use Rattle.sq_leader.specs.declared.fault.PrepareFault.{PrepareFault}
 use Rattle.sq_leader.specs.declared.fault.PrepareFault.TheVariants as prepare
 use Rattle.sq_leader.specs.declared.fault.StartFault.{StartFault}

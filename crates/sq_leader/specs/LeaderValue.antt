@@ -1,6 +1,6 @@
 -- The leader in each of its states, and the value of a report.
 use Rattle.std.specs.Prelude.{ℕ, Bool, List}
-use Rattle.sq_ranges.specs.ReconValue.{ReconValue}
+use Rattle.sq_moves.specs.ReconValue.{ReconValue}
 
 -- a leader before any partition has prepared: how many partitions there are, and what is to move
 -- between them

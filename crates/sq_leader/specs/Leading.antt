@@ -1,9 +1,9 @@
 -- The leader of a run in threads: which reports it heard in a stage, and that it moved on to the
 -- next stage, or ended the move.
 use Rattle.std.specs.Prelude.{◌≡◌, ℕ, ◌+◌, ◌&&◌, Bool, true, IsTrue, nat_lt, List, length, slice_get, Some, Ok}
-use Rattle.sq_ranges.specs.declared.recon.Range.{Range}
-use Rattle.sq_ranges.specs.ReconValue.{stage_in, stages, moves_into}
-use Rattle.sq_ranges.specs.OpeningValue.{OpeningValue}
+use Rattle.sq_moves.specs.declared.recon.Range.{Range}
+use Rattle.sq_moves.specs.ReconValue.{stage_in, stages, moves_into}
+use Rattle.sq_moves.specs.OpeningValue.{OpeningValue}
 use Rattle.sq_leader.specs.LeaderValue.{StageValue}
 use Rattle.sq_leader.specs.Marks.{none_marked, is_marked}
 use Rattle.sq_leader.specs.Segments.{all_marked_complete}

@@ -1,8 +1,8 @@
 -- The segments that move into a partition in a stage, and what the leader requires of them.
 use Rattle.std.specs.Prelude.{ℕ, Bool, false, ◌==◌, ◌&&◌, ◌||◌, not, nat_lt, List, length, slice_index_or}
 use Rattle.std.specs.List.{list_any, list_all, range_with_len}
-use Rattle.sq_ranges.specs.declared.recon.Range.{Range}
-use Rattle.sq_ranges.specs.ReconValue.{ReconValue, stage_in, moves_into}
+use Rattle.sq_moves.specs.declared.recon.Range.{Range}
+use Rattle.sq_moves.specs.ReconValue.{ReconValue, stage_in, moves_into}
 use Rattle.sq_leader.specs.LeaderValue.{StageValue}
 use Rattle.sq_leader.specs.Marks.{is_marked, marks_after}
 

@@ -1,7 +1,7 @@
 // Laws of what the partitions report to the leader.
 ghost use Rattle.std.specs.Prelude.{◌≡◌, ℕ, ◌==◌, ◌&&◌, nat_lt, true, List, length};
 ghost use Rattle.std.specs.List.{list_any, list_all, range_with_len};
-ghost use Rattle.sq_ranges.specs.Prelude.{ReconValue, IsRecon};
+ghost use Rattle.sq_moves.specs.Prelude.{ReconValue, IsRecon};
 ghost use Rattle.sq_leader.specs.LeaderValue.{StageValue};
 ghost use Rattle.sq_leader.specs.Marks.{is_marked, all_marked, marks_after};
 ghost use Rattle.sq_leader.specs.Segments.{have_reported, stage_after, counts_as_reported, owes_no_report};

@@ -5,8 +5,8 @@ ghost use Rattle.sq_leader.specs.Leader.{answer_to_first_prepare, answer_to_prep
 use crate::fault::{PrepareFault, StartFault};
 use crate::marks::Marks;
 use crate::moving::{Ended, Moving};
+use sq_moves::Recon;
 use sq_plan::Plan;
-use sq_ranges::Recon;
 use std::marker::Model;
 
 /// The state before any partition has prepared. To a contract it is an `IdleValue`.

@@ -2,7 +2,7 @@
 ghost use Rattle.std.specs.Prelude.{◌≡◌, ◌<◌, ◌≤◌, OnOk};
 ghost use Rattle.std.specs.List.{AllPass};
 ghost use Rattle.sq_plan.specs.declared.plan.TheConstants.{MAX_PARTS};
-ghost use Rattle.sq_ranges.specs.Prelude.{stages};
+ghost use Rattle.sq_moves.specs.Prelude.{stages};
 ghost use Rattle.sq_leader.specs.Segments.{is_heard, have_reported};
 ghost use Rattle.sq_leader.specs.Leader.{first_stage, answer_to_report, following, answer_to_next, answer_to_finish};
 
@@ -10,7 +10,7 @@ use crate::fault::{FinishFault, NextFault, StageFault};
 use crate::leader::Refused;
 use crate::marks::Marks;
 use crate::report::Report;
-use sq_ranges::Recon;
+use sq_moves::Recon;
 use std::marker::Model;
 
 /// The state while the move is under way. To a contract it is a `StageValue`.
@@ -30,7 +30,7 @@ pub struct Ended {
 
 impl Model for Moving {
     ghost use Rattle.std.specs.Prelude.{◌<◌};
-    ghost use Rattle.sq_ranges.specs.Prelude.{stages};
+    ghost use Rattle.sq_moves.specs.Prelude.{stages};
     ghost use Rattle.sq_leader.specs.LeaderValue.{StageValue};
 
     ghost Value = { StageValue };

@@ -1,12 +1,12 @@
 // Reports of partitions.
 ghost use Rattle.std.specs.Prelude.{◌≡◌, ℕ, IsTrue, OnOk};
-ghost use Rattle.sq_ranges.specs.Prelude.{moves_into};
+ghost use Rattle.sq_moves.specs.Prelude.{moves_into};
 ghost use Rattle.sq_leader.specs.Segments.{all_marked_complete, is_marked_complete};
 ghost use Rattle.sq_leader.specs.Leader.{made_answer};
 
 use crate::fault::ReportFault;
+use sq_moves::Recon;
 use sq_plan::{PartId, Plan};
-use sq_ranges::Recon;
 use std::marker::Model;
 
 /// A partition's report that each segment that moves into it in a stage is whole there. To a

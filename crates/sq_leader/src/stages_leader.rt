@@ -1,6 +1,6 @@
 // The leader of a run in threads.
 ghost use Rattle.std.specs.Prelude.{◌≡◌, length, true, IfOk};
-ghost use Rattle.sq_ranges.specs.Prelude.{IsOpening};
+ghost use Rattle.sq_moves.specs.Prelude.{IsOpening};
 ghost use Rattle.sq_leader.specs.Marks.{all_marked};
 ghost use Rattle.sq_leader.specs.Segments.{is_marked_complete};
 ghost use Rattle.sq_leader.specs.Leader.{is_last};
@@ -10,8 +10,8 @@ use crate::fault::NextFault;
 use crate::leader::{Idle, Preparing};
 use crate::moving::Moving;
 use crate::report::Report;
+use sq_moves::{Opening, Recon};
 use sq_plan::Plan;
-use sq_ranges::{Opening, Recon};
 use std::alloc::AllocError;
 
 /// What the leader does after a stage.

@@ -6,7 +6,7 @@ use Rattle.sq_model.proofs.Lists.{Contains-first, Contains-later, Contains-cases
 use Rattle.sq_node_model.specs.NodeValue.{ReceiptValue}
 use Rattle.sq_node_model.specs.Receipts.{is_commit}
 use Rattle.sq_node_model.specs.Gathered.{GatheredValue}
-use Rattle.sq_ranges.specs.OpeningValue.{OpeningValue}
+use Rattle.sq_moves.specs.OpeningValue.{OpeningValue}
 use Rattle.sq_audit.specs.declared.job.Job.{Job}
 use Rattle.sq_audit.specs.Answers.{is_of, AreKnown, AreAnswered}
 use Rattle.sq_audit.proofs.Knowing.{count_first}

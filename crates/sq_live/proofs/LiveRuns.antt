@@ -4,7 +4,7 @@ use Rattle.std.specs.Prelude.{Option, None, Ok, Err}
 use Rattle.sq_text.specs.declared.input_fault.InputFault.TheVariants.{Memory}
 use Rattle.sq_text.specs.Located.{located}
 use Rattle.sq_schema.specs.declared.schema.TheConstants.{MAX_TABLES}
-use Rattle.sq_ranges.specs.OpeningValue.{OpeningValue}
+use Rattle.sq_moves.specs.OpeningValue.{OpeningValue}
 use Rattle.sq_text.specs.Coming.{LinesValue, Leaves}
 use Rattle.sq_text.proofs.Comings.{some_more, some_pieces}
 use Rattle.sq_text.specs.declared.located.LocatedFault.{LocatedFault}

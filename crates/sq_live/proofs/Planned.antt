@@ -5,10 +5,10 @@ use Rattle.std.specs.Result.{is_ok}
 use Rattle.std.proofs.lemmas.Bool.{cases_Bool, and_parts, eqb-true, lt-ltb}
 use Rattle.sq_schema.specs.TxnValue.{TxnValue}
 use Rattle.sq_schema.specs.Family.{rows_of}
-use Rattle.sq_ranges.specs.ReconValue.{segment_of, is_link, stages}
-use Rattle.sq_ranges.specs.OpeningValue.{OpeningValue}
-use Rattle.sq_ranges.specs.Opening.{IsOpening}
-use Rattle.sq_ranges.proofs.Stages.{stage_below}
+use Rattle.sq_moves.specs.ReconValue.{segment_of, is_link, stages}
+use Rattle.sq_moves.specs.OpeningValue.{OpeningValue}
+use Rattle.sq_moves.specs.Opening.{IsOpening}
+use Rattle.sq_moves.proofs.Stages.{stage_below}
 use Rattle.sq_leader.specs.LeaderValue.{StageValue}
 use Rattle.sq_leader.specs.Segments.{have_reported}
 use Rattle.sq_leader.specs.Leader.{is_last}

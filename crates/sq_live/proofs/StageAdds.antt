@@ -9,8 +9,8 @@ use Rattle.sq_schema.specs.Effect.{RowList, replay_rows}
 use Rattle.sq_schema.specs.Family.{FamilyValue, rows_of}
 use Rattle.sq_schema.specs.Table.{TableValue, rows_in}
 use Rattle.sq_store.specs.StoreValue.{StoreValue, absent}
-use Rattle.sq_ranges.specs.OpeningValue.{OpeningValue}
-use Rattle.sq_ranges.specs.Opening.{IsOpening}
+use Rattle.sq_moves.specs.OpeningValue.{OpeningValue}
+use Rattle.sq_moves.specs.Opening.{IsOpening}
 use Rattle.sq_shared.specs.View.{one_if}
 use Rattle.sq_model.specs.Staged.{owner_in}
 use Rattle.sq_model.proofs.Lists.{Contains-slice_get}

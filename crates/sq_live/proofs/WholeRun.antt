@@ -10,8 +10,8 @@ use Rattle.sq_schema.specs.TxnValue.{TxnValue}
 use Rattle.sq_schema.specs.Effect.{RowList, effect, replay_rows, reply}
 use Rattle.sq_schema.specs.Family.{FamilyValue, rows_of}
 use Rattle.sq_schema.specs.Table.{TableValue, rows_in}
-use Rattle.sq_ranges.specs.OpeningValue.{OpeningValue}
-use Rattle.sq_ranges.specs.Opening.{IsOpening}
+use Rattle.sq_moves.specs.OpeningValue.{OpeningValue}
+use Rattle.sq_moves.specs.Opening.{IsOpening}
 use Rattle.sq_model.specs.Tables.{opening_rows}
 use Rattle.sq_model.proofs.Lists.{Contains-nothing, Contains-slice_get, slice_get-Contains, Contains-filter, kept_in}
 use Rattle.sq_node_model.specs.NodeValue.{ReceiptValue}

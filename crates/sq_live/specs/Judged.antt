@@ -1,12 +1,12 @@
 -- What is read from a gathered stage.
 use Rattle.std.specs.Prelude.{◌≡◌, ℕ, ◌<◌, ◌||◌, Bool, nat_lt, List, [], length, slice_index_or, count_by}
 use Rattle.std.specs.List.{range_with_len}
-use Rattle.sq_tree.specs.declared.status.Status.{Status}
-use Rattle.sq_tree.specs.Reading.{is_complete_reading}
-use Rattle.sq_tree.specs.Status.{reading}
-use Rattle.sq_tree.specs.Tree.{status_at}
-use Rattle.sq_ranges.specs.declared.segment.TheConstants.{SEGMENT_LIMIT}
-use Rattle.sq_ranges.specs.ReconValue.{ReconValue, stage_at}
+use Rattle.sq_moves.specs.declared.status.Status.{Status}
+use Rattle.sq_moves.specs.Reading.{is_complete_reading}
+use Rattle.sq_moves.specs.Status.{reading}
+use Rattle.sq_moves.specs.Tree.{status_at}
+use Rattle.sq_moves.specs.declared.segment.TheConstants.{SEGMENT_LIMIT}
+use Rattle.sq_moves.specs.ReconValue.{ReconValue, stage_at}
 use Rattle.sq_leader.specs.Segments.{is_marked_complete}
 
 -- segment `seg` is complete: its node 1 reads complete

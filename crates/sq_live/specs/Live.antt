@@ -1,8 +1,8 @@
 -- Live runs: what is written for an input.
 use Rattle.std.specs.Prelude.{◌≡◌, ◌≢◌, ◌⊎◌, ℕ, Bool, List, [], Option, Ok, Err}
 use Rattle.std.specs.Io.KnownBytes.{Appends}
-use Rattle.sq_ranges.specs.OpeningValue.{OpeningValue}
-use Rattle.sq_ranges.specs.Opening.{IsOpening}
+use Rattle.sq_moves.specs.OpeningValue.{OpeningValue}
+use Rattle.sq_moves.specs.Opening.{IsOpening}
 use Rattle.sq_text.specs.Pieces.{PieceValue}
 use Rattle.sq_text.specs.Coming.{LinesValue, CanCome}
 use Rattle.sq_text.specs.Given.{IsGiven}

@@ -3,8 +3,8 @@
 use Rattle.std.specs.Prelude.{◌≡◌, ◌⊎◌, ℕ, ◌+◌, ◌^◌, ◌<◌, ◌||◌, Bool, true, nat_lt, List, [], ◌∷◌, length, sum_by, count_by, codes, decimal}
 use Rattle.std.specs.List.{range_with_len}
 use Rattle.std.specs.FinMap.{len}
-use Rattle.sq_ranges.specs.ReconValue.{stage_at, stages}
-use Rattle.sq_ranges.specs.OpeningValue.{OpeningValue}
+use Rattle.sq_moves.specs.ReconValue.{stage_at, stages}
+use Rattle.sq_moves.specs.OpeningValue.{OpeningValue}
 use Rattle.sq_leader.specs.LeaderValue.{StageValue}
 use Rattle.sq_text.specs.Texts.{line}
 use Rattle.sq_node_model.specs.NodeValue.{ReceiptValue}

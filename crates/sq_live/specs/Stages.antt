@@ -2,7 +2,7 @@
 use Rattle.std.specs.Prelude.{◌≡◌, ◌+◌, Bool, true, false, List, [], ◌∷◌, length}
 use Rattle.std.specs.declared.ops.ControlFlow.{ControlFlow}
 use Rattle.std.specs.declared.ops.ControlFlow.TheVariants.{Continue, Break}
-use Rattle.sq_ranges.specs.OpeningValue.{OpeningValue}
+use Rattle.sq_moves.specs.OpeningValue.{OpeningValue}
 use Rattle.sq_leader.specs.LeaderValue.{StageValue}
 use Rattle.sq_node_model.specs.BeganWith.{BeganWith, first_began}
 use Rattle.sq_node_model.specs.Gathered.{GatheredValue}

@@ -1,11 +1,11 @@
 // Counts kept over the stages of a run.
 ghost use Rattle.std.specs.Prelude.{◌≡◌};
-ghost use Rattle.sq_ranges.specs.Prelude.{IsOpening};
+ghost use Rattle.sq_moves.specs.Prelude.{IsOpening};
 ghost use Rattle.sq_live.specs.Account.{first_account};
 
 use crate::job_list::JobList;
 use sq_audit::Job;
-use sq_ranges::Opening;
+use sq_moves::Opening;
 use std::marker::Model;
 
 /// The opening and the jobs that the next audit uses, and counts over the logs already folded. To a

@@ -15,7 +15,7 @@ use crate::outcome::{LiveOutcome, write_outcome};
 use crate::stages::{RunManner, run_stages};
 use crate::watch::Watch;
 use sq_leader::start_move;
-use sq_ranges::Opening;
+use sq_moves::Opening;
 use sq_schema::{MAX_TABLES, Schema};
 use sq_text::{LineReader, WriteFault, read_header, write_fault};
 use std::alloc::{AllocError, Global};

@@ -1,8 +1,8 @@
 // The outcome of a live run, judged by what was gathered of its last stage.
 ghost use Rattle.std.specs.Prelude.{◌≡◌, ◌≤◌, ◌<◌, ◌+◌, ◌^◌, ◌||◌, nat_lt, Bool, length, sum_by, IfOk};
 ghost use Rattle.std.specs.FinMap.{len};
-ghost use Rattle.sq_ranges.specs.declared.segment.TheConstants.{SEGMENT_LIMIT};
-ghost use Rattle.sq_ranges.specs.Prelude.{stages, stage_at};
+ghost use Rattle.sq_moves.specs.declared.segment.TheConstants.{SEGMENT_LIMIT};
+ghost use Rattle.sq_moves.specs.Prelude.{stages, stage_at};
 ghost use Rattle.sq_leader.specs.LeaderValue.{StageValue};
 ghost use Rattle.sq_leader.specs.Segments.{is_marked_complete};
 ghost use Rattle.sq_node_model.specs.Prelude.{is_complete_in, IsStageDone, AllGrown};
@@ -14,11 +14,10 @@ use crate::account::Account;
 use crate::outcome::LiveOutcome;
 use sq_audit::{Verdict, audit_in_threads, count_answered};
 use sq_gather::{Gathered, reads_complete};
+use sq_moves::{NODES, NodeId, Recon, SEGMENT_LIMIT, SegId, Status};
 use sq_node::Receipt;
-use sq_ranges::{Recon, SEGMENT_LIMIT, SegId};
 use sq_schema::Reply;
 use sq_store::SlabStore;
-use sq_tree::{NODES, NodeId, Status};
 use std::alloc::{AllocError, Global};
 use std::thread::Threads;
 

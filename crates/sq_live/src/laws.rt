@@ -1,7 +1,7 @@
 //! Laws of live runs. The functions do nothing: each states a law, which the checker proves.
 ghost use Rattle.std.specs.Prelude.{◌≡◌, ◌↔◌, ℕ, Bool, List, [], Ok, Err};
 ghost use Rattle.sq_text.specs.Pieces.{PieceValue};
-ghost use Rattle.sq_ranges.specs.Prelude.{OpeningValue};
+ghost use Rattle.sq_moves.specs.Prelude.{OpeningValue};
 ghost use Rattle.sq_shared.specs.declared.numbers.TheConstants.{MAX_OWNERS, MAX_PUMPS, MAX_CLAIMS};
 ghost use Rattle.sq_shared.specs.Numbers.{reactive_pull};
 ghost use Rattle.sq_node.specs.declared.fabric.TheConstants.{REQUEST_PLACES, JOB_PLACES};
@@ -14,7 +14,7 @@ ghost use Rattle.sq_live.specs.SpelledJobs.{SpellJobs, EndInFault};
 ghost use Rattle.sq_live.specs.Live.{WereRun, EndsLive};
 ghost use Rattle.sq_live.specs.WholeRun.{MeetsPlan, AreRunAsPlanned, sound_ending};
 
-/// The limits of live runs, in digits; the laws of the same name in `sq_schema`, `sq_ranges` and
+/// The limits of live runs, in digits; the laws of the same name in `sq_schema`, `sq_moves` and
 /// `sq_text` state further ones.
 pub fn the_limits()
     ensures pulls { (MAX_OWNERS ≡ 64) × (MAX_PUMPS ≡ 16) × (MAX_CLAIMS ≡ 33554432) }

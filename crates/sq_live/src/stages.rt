@@ -1,7 +1,7 @@
 // The stages of a live run.
 ghost use Rattle.std.specs.Prelude.{◌≡◌, ◌≤◌, ◌+◌, IfOk, IfErr, OnOk};
 ghost use Rattle.sq_shared.specs.declared.numbers.TheConstants.{MAX_PUMPS};
-ghost use Rattle.sq_ranges.specs.Prelude.{OpeningValue, IsOpening};
+ghost use Rattle.sq_moves.specs.Prelude.{OpeningValue, IsOpening};
 ghost use Rattle.sq_node_model.specs.Prelude.{BeganWith, first_began, IsPlaced, IsStageDone, next_began};
 ghost use Rattle.sq_driver.specs.StageRunValue.{BeganFrom, RanFrom};
 ghost use Rattle.sq_live.specs.Account.{first_account};

@@ -2,8 +2,8 @@
 use sq_audit::Job;
 use sq_driver::{Collector, Gate, OpenGate, TellingNode};
 use sq_gather::Gathered;
+use sq_moves::Opening;
 use sq_node::Receipt;
-use sq_ranges::Opening;
 
 /// A gate of a live run that is also called as the run proceeds: once its input is read, in each
 /// stage, and at its end. If memory or threads are lacking, only [`Watch::stage_ends`] and

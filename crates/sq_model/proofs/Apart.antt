@@ -2,17 +2,17 @@
 use Rattle.std.proofs.Common.{◌≡◌, ℕ, zero, suc, ◌<◌, ◌≤◌, true, false, nat_le, nat_lt, List, [], ◌∷◌, slice_get, find, Contains, Option, Some, None, refl, sym, ap, ap₂, ◌∙◌, subst, subst₂, true≢false, arith}
 use Rattle.std.proofs.lemmas.Bool.{and_parts, and_from, le-leb, leb-true, ltb-true, lt-ltb}
 use Rattle.std.proofs.lemmas.Option.{same_Some}
-use Rattle.sq_tree.specs.declared.status.Status.{Status}
-use Rattle.sq_tree.specs.declared.status.Status.TheVariants.{Partial, Complete}
-use Rattle.sq_tree.specs.Node.{is_above}
-use Rattle.sq_tree.specs.Status.{is_free, is_split, is_begun, covering}
-use Rattle.sq_tree.proofs.Covering.{covering_touched}
+use Rattle.sq_moves.specs.declared.status.Status.{Status}
+use Rattle.sq_moves.specs.declared.status.Status.TheVariants.{Partial, Complete}
+use Rattle.sq_moves.specs.Node.{is_above}
+use Rattle.sq_moves.specs.Status.{is_free, is_split, is_begun, covering}
+use Rattle.sq_moves.proofs.Covering.{covering_touched}
 use Rattle.sq_store.specs.declared.chunk.Note.{Note}
 use Rattle.sq_store.specs.ChunkValue.{covers}
-use Rattle.sq_ranges.specs.declared.recon.Range.{Range}
-use Rattle.sq_ranges.specs.ReconValue.{segment_of, leaf_of}
-use Rattle.sq_ranges.specs.OpeningValue.{OpeningValue}
-use Rattle.sq_ranges.specs.Opening.{IsOpening}
+use Rattle.sq_moves.specs.declared.recon.Range.{Range}
+use Rattle.sq_moves.specs.ReconValue.{segment_of, leaf_of}
+use Rattle.sq_moves.specs.OpeningValue.{OpeningValue}
+use Rattle.sq_moves.specs.Opening.{IsOpening}
 use Rattle.sq_model.specs.Trace.{Trace, notes, loads}
 use Rattle.sq_model.specs.Nodes.{status_of}
 use Rattle.sq_model.specs.Place.{source, destination, extent_of, is_within}

@@ -3,29 +3,29 @@ use Rattle.std.proofs.Common.{◌≡◌, inl, inr, ℕ, ◌<◌, true, false, �
 use Rattle.std.specs.List.{list_any, list_all}
 use Rattle.std.proofs.lemmas.Bool.{and_parts, and_from, lt-ltb, ltb-true, eq-eqb, eqb-true, or_cases, not-true, cond-true, cases_lt}
 use Rattle.std.proofs.lemmas.Option.{slice_get_within}
-use Rattle.sq_tree.specs.declared.status.Status.{Status}
-use Rattle.sq_tree.specs.declared.status.Status.TheVariants.{Complete}
-use Rattle.sq_tree.specs.declared.node.TheConstants.{LEAVES}
-use Rattle.sq_tree.specs.Status.{is_free, is_split, is_begun, is_complete, is_past, covering}
-use Rattle.sq_tree.proofs.Covering.{covering_is, covering_touched}
-use Rattle.sq_tree.proofs.Readings.{all_complete_is}
-use Rattle.sq_ranges.specs.declared.recon.Range.{Range}
-use Rattle.sq_ranges.specs.ReconValue.{segment_of, leaf_of, stage_in, of_stage, goes_into}
-use Rattle.sq_ranges.proofs.Stages.{stage_below}
-use Rattle.sq_ranges.specs.OpeningValue.{OpeningValue}
+use Rattle.sq_moves.specs.declared.status.Status.{Status}
+use Rattle.sq_moves.specs.declared.status.Status.TheVariants.{Complete}
+use Rattle.sq_moves.specs.declared.node.TheConstants.{LEAVES}
+use Rattle.sq_moves.specs.Status.{is_free, is_split, is_begun, is_complete, is_past, covering}
+use Rattle.sq_moves.proofs.Covering.{covering_is, covering_touched}
+use Rattle.sq_moves.proofs.Readings.{all_complete_is}
+use Rattle.sq_moves.specs.declared.recon.Range.{Range}
+use Rattle.sq_moves.specs.ReconValue.{segment_of, leaf_of, stage_in, of_stage, goes_into}
+use Rattle.sq_moves.proofs.Stages.{stage_below}
+use Rattle.sq_moves.specs.OpeningValue.{OpeningValue}
 use Rattle.sq_model.specs.declared.step.Step.{Step}
 use Rattle.sq_model.specs.declared.step.Step.TheVariants.{Prepare, Start, Split, Claim, Begin, Cut, Load, Complete as Complete_step, Report, Next, Finish}
 use Rattle.sq_model.specs.declared.step.Phase.{Phase}
 use Rattle.sq_model.specs.declared.step.Phase.TheVariants.{Moving, Ended}
 use Rattle.sq_model.specs.declared.answer.Answer.{Answer}
 use Rattle.sq_model.specs.declared.answer.Answer.TheVariants.{Done, WasCut, WasLoaded}
-use Rattle.sq_ranges.specs.Opening.{IsOpening}
+use Rattle.sq_moves.specs.Opening.{IsOpening}
 use Rattle.sq_model.specs.Trace.{Trace, stage, loads}
 use Rattle.sq_model.specs.Leader.{phase, is_moving_phase, is_reported}
 use Rattle.sq_model.specs.Nodes.{status_of}
 use Rattle.sq_model.specs.Place.{At, place, destination, is_covered, extent_of, is_within}
 use Rattle.sq_model.specs.Links.{reached}
-use Rattle.sq_tree.specs.Reading.{is_complete_reading}
+use Rattle.sq_moves.specs.Reading.{is_complete_reading}
 use Rattle.sq_model.specs.Answers.{is_complete_segment, is_into, segment_numbers, has_all, partitions, counts_reported}
 use Rattle.sq_model.specs.Legal.{IsLegal}
 use Rattle.sq_model.proofs.Lists.{list_any-Contains, list_all-Contains, row_has}

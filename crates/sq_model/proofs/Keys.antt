@@ -2,20 +2,20 @@
 use Rattle.std.proofs.Common.{◌≡◌, ⊎_elim, ℕ, ◌<◌, ◌≤◌, true, false, ◌==◌, ◌&&◌, not, nat_le, nat_lt, List, [], ◌∷◌, slice_get, find, Contains, Option, Some, None, is_some, refl, sym, ap, ◌∙◌, subst, true≢false, arith}
 use Rattle.std.specs.List.{range_with_len}
 use Rattle.std.proofs.lemmas.Bool.{and_parts, and_from, le-leb, leb-true, ltb-true, lt-ltb, eq-eqb, ne_eqb, cases_lt, cond-false, and_right, le-ltb}
-use Rattle.sq_tree.specs.declared.node.TheConstants.{LEAVES}
-use Rattle.sq_tree.specs.Node.{is_above}
+use Rattle.sq_moves.specs.declared.node.TheConstants.{LEAVES}
+use Rattle.sq_moves.specs.Node.{is_above}
 use Rattle.sq_plan.specs.declared.plan.PlanRange.{PlanRange}
 use Rattle.sq_schema.specs.declared.root.TheConstants.{ROOT_END}
 use Rattle.sq_plan.specs.PlanValue.{PlanValue, IsPlan, is_tiling, holds, owner, found_owner}
-use Rattle.sq_ranges.specs.declared.recon.Range.{Range}
-use Rattle.sq_ranges.specs.declared.recon.TheConstants.{MAX_WIDTH}
-use Rattle.sq_ranges.specs.ReconValue.{IsRecon, has_key, segment_at, segment_count, segments_in, segments_of, segment_of, leaf_of, extent, is_link}
-use Rattle.sq_ranges.specs.OpeningValue.{OpeningValue}
-use Rattle.sq_ranges.proofs.Tilings.{holds_past, tiling_parts, tiling_bounds}
-use Rattle.sq_ranges.proofs.Joins.{has_key-within}
-use Rattle.sq_ranges.proofs.Segments.{moves-rising, segment_stands, segment_of_held, segment_owners, found_owners, unfound_owner, found_moves}
-use Rattle.sq_ranges.proofs.Extents.{Covers, extent_low, extent_high, covers_from_above, above_from_covers, leaf_below}
-use Rattle.sq_ranges.specs.Opening.{IsOpening}
+use Rattle.sq_moves.specs.declared.recon.Range.{Range}
+use Rattle.sq_moves.specs.declared.recon.TheConstants.{MAX_WIDTH}
+use Rattle.sq_moves.specs.ReconValue.{IsRecon, has_key, segment_at, segment_count, segments_in, segments_of, segment_of, leaf_of, extent, is_link}
+use Rattle.sq_moves.specs.OpeningValue.{OpeningValue}
+use Rattle.sq_moves.proofs.Tilings.{holds_past, tiling_parts, tiling_bounds}
+use Rattle.sq_moves.proofs.Joins.{has_key-within}
+use Rattle.sq_moves.proofs.Segments.{moves-rising, segment_stands, segment_of_held, segment_owners, found_owners, unfound_owner, found_moves}
+use Rattle.sq_moves.proofs.Extents.{Covers, extent_low, extent_high, covers_from_above, above_from_covers, leaf_below}
+use Rattle.sq_moves.specs.Opening.{IsOpening}
 use Rattle.sq_model.specs.Place.{source, destination, moves, extent_in, extent_of, is_within}
 use Rattle.sq_model.proofs.Lists.{Contains-slice_get, found_in, list_any-Contains, list_all-Contains, map_in, flat_map_in}
 

@@ -2,11 +2,11 @@
 use Rattle.std.proofs.Common.{◌≡◌, inl, inr, ℕ, true, false, ◌==◌, ◌&&◌, not, List, [], ◌∷◌, ◌++◌, length, slice_get, find, Contains, Option, Some, None, refl, sym, ap, ◌∙◌, ap₂, subst, subst₂, true≢false, append_assoc}
 use Rattle.std.proofs.lemmas.Bool.{and_parts, and_from, eqb-true, eq-eqb, not-true, or_right, false_from_ne_true}
 use Rattle.std.proofs.lemmas.List.Elements.{Contains-append_right}
-use Rattle.sq_tree.specs.declared.status.Status.TheVariants.{Split, Claimed, Partial, Complete}
-use Rattle.sq_tree.specs.Status.{is_begun, is_complete}
+use Rattle.sq_moves.specs.declared.status.Status.TheVariants.{Split, Claimed, Partial, Complete}
+use Rattle.sq_moves.specs.Status.{is_begun, is_complete}
 use Rattle.sq_store.specs.declared.chunk.Note.{Note}
-use Rattle.sq_ranges.specs.declared.recon.Range.{Range}
-use Rattle.sq_ranges.specs.OpeningValue.{OpeningValue}
+use Rattle.sq_moves.specs.declared.recon.Range.{Range}
+use Rattle.sq_moves.specs.OpeningValue.{OpeningValue}
 use Rattle.sq_model.specs.declared.step.Step.{Step}
 use Rattle.sq_model.specs.declared.step.Step.TheVariants.{Split as Split_step, Claim, Begin, Cut, Load, Complete as Complete_step}
 use Rattle.sq_model.specs.declared.answer.Answer.{Answer}

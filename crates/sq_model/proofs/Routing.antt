@@ -2,15 +2,15 @@
 -- loaded.
 use Rattle.std.proofs.Common.{◌≡◌, ℕ, ◌<◌, true, false, ◌&&◌, nat_le, nat_lt, List, slice_get, Contains, Some, None, sym, ap₂, ◌∙◌, subst, subst₂, arith}
 use Rattle.std.proofs.lemmas.Bool.{and_parts, and_from, lt-ltb, false_from_ne_true}
-use Rattle.sq_tree.specs.Status.{is_begun, covering}
-use Rattle.sq_tree.proofs.Covering.{covering_is}
+use Rattle.sq_moves.specs.Status.{is_begun, covering}
+use Rattle.sq_moves.proofs.Covering.{covering_is}
 use Rattle.sq_store.specs.declared.chunk.Note.{Note}
 use Rattle.sq_store.specs.ChunkValue.{covers}
-use Rattle.sq_ranges.specs.declared.recon.Range.{Range}
-use Rattle.sq_ranges.specs.ReconValue.{segment_of, leaf_of}
-use Rattle.sq_ranges.specs.OpeningValue.{OpeningValue}
-use Rattle.sq_ranges.specs.Opening.{IsOpening}
-use Rattle.sq_ranges.proofs.Bools.{same_test}
+use Rattle.sq_moves.specs.declared.recon.Range.{Range}
+use Rattle.sq_moves.specs.ReconValue.{segment_of, leaf_of}
+use Rattle.sq_moves.specs.OpeningValue.{OpeningValue}
+use Rattle.sq_moves.specs.Opening.{IsOpening}
+use Rattle.sq_moves.proofs.Bools.{same_test}
 use Rattle.sq_model.specs.Trace.{Trace, notes, loads}
 use Rattle.sq_model.specs.Nodes.{Item, status_of, items}
 use Rattle.sq_model.specs.Place.{is_covered, extent_of, is_within, is_begun_over}

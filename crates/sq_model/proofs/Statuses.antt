@@ -6,19 +6,19 @@ use Rattle.std.proofs.lemmas.Bool.{cases_Bool, cond_both, and_parts, eqb-true, e
 use Rattle.std.proofs.lemmas.Bool.Decides.{nat_tests}
 use Rattle.std.proofs.lemmas.List.Elements.{Contains-push, Contains-push_cases, Contains-append_left}
 use Rattle.std.proofs.lemmas.Map.Keys.{IsDistinct-push}
-use Rattle.sq_tree.specs.declared.status.Status.{Status}
-use Rattle.sq_tree.specs.declared.status.Status.TheVariants.{Free, Split, Claimed, Partial, Complete}
-use Rattle.sq_tree.specs.declared.status.Reading.{Reading}
-use Rattle.sq_tree.specs.declared.status.Reading.TheVariants as reads
-use Rattle.sq_tree.specs.declared.node.TheConstants.{LEAVES}
-use Rattle.sq_tree.specs.Node.{is_node, is_leaf}
-use Rattle.sq_tree.specs.Reading.{is_complete_reading}
-use Rattle.sq_tree.specs.Status.{is_free, is_split, is_live, is_begun, is_complete, is_past, pull_of, reading, covering}
-use Rattle.sq_tree.specs.Tree.{IsGrown}
-use Rattle.sq_tree.proofs.Changed.{set_at}
-use Rattle.sq_tree.proofs.Grown.{grown-free, grown-set_at}
-use Rattle.sq_tree.proofs.Readings.{all_complete_is}
-use Rattle.sq_ranges.specs.OpeningValue.{OpeningValue}
+use Rattle.sq_moves.specs.declared.status.Status.{Status}
+use Rattle.sq_moves.specs.declared.status.Status.TheVariants.{Free, Split, Claimed, Partial, Complete}
+use Rattle.sq_moves.specs.declared.status.Reading.{Reading}
+use Rattle.sq_moves.specs.declared.status.Reading.TheVariants as reads
+use Rattle.sq_moves.specs.declared.node.TheConstants.{LEAVES}
+use Rattle.sq_moves.specs.Node.{is_node, is_leaf}
+use Rattle.sq_moves.specs.Reading.{is_complete_reading}
+use Rattle.sq_moves.specs.Status.{is_free, is_split, is_live, is_begun, is_complete, is_past, pull_of, reading, covering}
+use Rattle.sq_moves.specs.Tree.{IsGrown}
+use Rattle.sq_moves.proofs.Changed.{set_at}
+use Rattle.sq_moves.proofs.Grown.{grown-free, grown-set_at}
+use Rattle.sq_moves.proofs.Readings.{all_complete_is}
+use Rattle.sq_moves.specs.OpeningValue.{OpeningValue}
 use Rattle.sq_model.specs.declared.step.Step.{Step}
 use Rattle.sq_model.specs.declared.step.Step.TheVariants.{Split as Split_step, Claim, Begin, Complete as Complete_step}
 use Rattle.sq_model.specs.declared.answer.Answer.{Answer}

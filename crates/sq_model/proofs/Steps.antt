@@ -2,23 +2,23 @@
 use Rattle.std.proofs.Common.{Contains, ◌≡◌, inl, inr, ℕ, ◌<◌, Bool, true, false, ◌==◌, nat_le, nat_lt, not, ◌&&◌, ◌+◌, is_none, if◌then◌else◌, length, find, slice_get, Option, Some, None, Result, Ok, Err, refl, sym, ap, ◌∙◌, true≢false}
 use Rattle.std.specs.List.{list_all}
 use Rattle.std.proofs.lemmas.Bool.{cases_Bool, leb-false, not-false, cond_both, cond-false, true_from_ne_false, and_parts, eqb-true}
-use Rattle.sq_tree.specs.declared.fault.SplitFault.{SplitFault}
-use Rattle.sq_tree.specs.declared.fault.SplitFault.TheVariants as split
-use Rattle.sq_tree.specs.declared.fault.ClaimFault.{ClaimFault}
-use Rattle.sq_tree.specs.declared.fault.ClaimFault.TheVariants as claim
-use Rattle.sq_tree.specs.declared.fault.BeginFault.{BeginFault}
-use Rattle.sq_tree.specs.declared.fault.BeginFault.TheVariants as begin
-use Rattle.sq_tree.specs.declared.fault.CompleteFault.{CompleteFault}
-use Rattle.sq_tree.specs.declared.fault.CompleteFault.TheVariants as complete
-use Rattle.sq_tree.specs.Node.{is_node}
-use Rattle.sq_tree.specs.Answer.{split_answer, claim_answer, begin_answer, complete_answer}
-use Rattle.sq_tree.specs.declared.status.Status.TheVariants.{Claimed, Partial}
-use Rattle.sq_tree.proofs.Went.{SplitWent, split_went, ClaimWent, claim_went, begin_went, complete_went}
+use Rattle.sq_moves.specs.declared.tree_fault.SplitFault.{SplitFault}
+use Rattle.sq_moves.specs.declared.tree_fault.SplitFault.TheVariants as split
+use Rattle.sq_moves.specs.declared.tree_fault.ClaimFault.{ClaimFault}
+use Rattle.sq_moves.specs.declared.tree_fault.ClaimFault.TheVariants as claim
+use Rattle.sq_moves.specs.declared.tree_fault.BeginFault.{BeginFault}
+use Rattle.sq_moves.specs.declared.tree_fault.BeginFault.TheVariants as begin
+use Rattle.sq_moves.specs.declared.tree_fault.CompleteFault.{CompleteFault}
+use Rattle.sq_moves.specs.declared.tree_fault.CompleteFault.TheVariants as complete
+use Rattle.sq_moves.specs.Node.{is_node}
+use Rattle.sq_moves.specs.Answer.{split_answer, claim_answer, begin_answer, complete_answer}
+use Rattle.sq_moves.specs.declared.status.Status.TheVariants.{Claimed, Partial}
+use Rattle.sq_moves.proofs.Went.{SplitWent, split_went, ClaimWent, claim_went, begin_went, complete_went}
 use Rattle.sq_store.specs.declared.chunk.Note.{Note}
 use Rattle.std.proofs.lemmas.Option.{slice_get_within}
-use Rattle.sq_ranges.specs.declared.recon.Range.{Range}
-use Rattle.sq_ranges.specs.ReconValue.{ReconValue, is_link, stage_on, stage_in, stages, of_stage}
-use Rattle.sq_ranges.specs.OpeningValue.{OpeningValue}
+use Rattle.sq_moves.specs.declared.recon.Range.{Range}
+use Rattle.sq_moves.specs.ReconValue.{ReconValue, is_link, stage_on, stage_in, stages, of_stage}
+use Rattle.sq_moves.specs.OpeningValue.{OpeningValue}
 use Rattle.sq_schema.specs.TxnValue.{TxnValue}
 use Rattle.sq_schema.specs.Effect.{reply}
 use Rattle.sq_model.specs.Waiting.{has_to_wait}

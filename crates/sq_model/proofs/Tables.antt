@@ -7,7 +7,7 @@ use Rattle.sq_schema.specs.TxnValue.{TxnValue}
 use Rattle.sq_schema.specs.declared.txn.Reply.TheVariants.{Committed}
 use Rattle.sq_schema.specs.Effect.{RowList, RowTable, effect, replay_rows, table_after, replay, only}
 use Rattle.sq_schema.specs.Family.{rows_of}
-use Rattle.sq_ranges.specs.OpeningValue.{OpeningValue}
+use Rattle.sq_moves.specs.OpeningValue.{OpeningValue}
 use Rattle.sq_model.specs.declared.step.Step.TheVariants.{Submit, Resume, Fold}
 use Rattle.sq_model.specs.declared.answer.Answer.TheVariants.{Done, Replied, Resumed}
 use Rattle.sq_model.specs.Trace.{Trace, committed, unfolded}

@@ -3,13 +3,13 @@ use Rattle.std.proofs.Common.{◌≡◌, inl, inr, ℕ, ◌+◌, ◌-◌, ◌*�
 use Rattle.std.specs.List.{list_any, range_with_len}
 use Rattle.std.proofs.lemmas.Bool.{cases_Bool, cond_both, eqb-true}
 use Rattle.std.proofs.lemmas.Bool.Decides.{nat_tests}
-use Rattle.sq_tree.specs.Node.{first_leaf, span}
+use Rattle.sq_moves.specs.Node.{first_leaf, span}
 use Rattle.sq_store.specs.declared.chunk.Note.{Note}
 use Rattle.sq_store.specs.ChunkValue.{covers}
-use Rattle.sq_ranges.specs.declared.recon.Range.{Range}
-use Rattle.sq_ranges.specs.CutEnd.{end_within, end_of}
-use Rattle.sq_ranges.specs.OpeningValue.{OpeningValue}
-use Rattle.sq_ranges.proofs.Bools.{both_equal, equal-both}
+use Rattle.sq_moves.specs.declared.recon.Range.{Range}
+use Rattle.sq_moves.specs.CutEnd.{end_within, end_of}
+use Rattle.sq_moves.specs.OpeningValue.{OpeningValue}
+use Rattle.sq_moves.proofs.Bools.{both_equal, equal-both}
 use Rattle.sq_model.specs.Trace.{Trace}
 use Rattle.sq_model.specs.Tables.{stands, size_of}
 use Rattle.sq_model.specs.Place.{extent_in, extent_of}

@@ -5,7 +5,7 @@ use Rattle.std.specs.List.{list_any}
 use Rattle.std.proofs.lemmas.Bool.{and_parts, and_from, or_cases, cond_both, cond-true, cases_lt, eq-eqb, eqb-true, true_from_ne_false}
 use Rattle.std.proofs.lemmas.List.Folds.{list_any-append}
 use Rattle.sq_schema.specs.TxnValue.{TxnValue}
-use Rattle.sq_ranges.specs.OpeningValue.{OpeningValue}
+use Rattle.sq_moves.specs.OpeningValue.{OpeningValue}
 use Rattle.sq_model.specs.declared.step.Step.{Step}
 use Rattle.sq_model.specs.declared.step.Step.TheVariants.{Prepare, Start, Submit, Resume, Next, Finish}
 use Rattle.sq_model.specs.declared.answer.Answer.{Answer}
@@ -15,8 +15,8 @@ use Rattle.sq_model.specs.Leader.{is_started}
 use Rattle.sq_model.specs.Place.{source, destination, moves, moves_in, is_covered, runner, is_coming}
 use Rattle.sq_model.specs.Waiting.{without_ready, waiting, has_to_wait}
 use Rattle.sq_model.specs.Legal.{IsLegal}
-use Rattle.sq_ranges.specs.ReconValue.{segment_of, stage_on}
-use Rattle.sq_ranges.specs.Opening.{IsOpening}
+use Rattle.sq_moves.specs.ReconValue.{segment_of, stage_on}
+use Rattle.sq_moves.specs.Opening.{IsOpening}
 use Rattle.sq_model.proofs.Keys.{found_in_segment, moves_found}
 use Rattle.sq_model.proofs.Ended.{past_loaded}
 use Rattle.sq_model.proofs.Lists.{list_any-remove}

@@ -1,7 +1,7 @@
 -- When a submitted transaction is refused, whatever came before.
 use Rattle.std.specs.Prelude.{◌≡◌, ℕ, ◌<◌, ◌≤◌, true, false, length, Some}
-use Rattle.sq_ranges.specs.OpeningValue.{OpeningValue}
-use Rattle.sq_ranges.specs.declared.opening.TheConstants.{MAX_WAITING}
+use Rattle.sq_moves.specs.OpeningValue.{OpeningValue}
+use Rattle.sq_moves.specs.declared.opening.TheConstants.{MAX_WAITING}
 use Rattle.sq_model.specs.Trace.{Trace}
 use Rattle.sq_model.specs.Tables.{is_full}
 use Rattle.sq_model.specs.Place.{runner}

@@ -1,6 +1,6 @@
 -- The traces whose answers are those that the definitions determine.
 use Rattle.std.specs.Prelude.{◌≡◌, ◌⊎◌, Bool, true, false, IsTrue, List, [], ◌∷◌}
-use Rattle.sq_ranges.specs.OpeningValue.{OpeningValue}
+use Rattle.sq_moves.specs.OpeningValue.{OpeningValue}
 use Rattle.sq_model.specs.declared.step.Step.{Step}
 use Rattle.sq_model.specs.declared.step.Step.TheVariants.{Submit, Resume, Begin, Cut, Load, Fold}
 use Rattle.sq_model.specs.declared.answer.Answer.{Answer}

@@ -3,9 +3,9 @@ use Rattle.std.specs.Prelude.{ℕ, Bool, false, ◌-◌, ◌%◌, ◌==◌, ◌&
 use Rattle.std.specs.List.{list_any, range_with_len}
 use Rattle.sq_store.specs.declared.chunk.Note.{Note}
 pub use Rattle.sq_store.specs.ChunkValue.{is_about}
-use Rattle.sq_ranges.specs.declared.recon.Range.{Range}
-use Rattle.sq_ranges.specs.CutEnd.{end_of}
-use Rattle.sq_ranges.specs.OpeningValue.{OpeningValue}
+use Rattle.sq_moves.specs.declared.recon.Range.{Range}
+use Rattle.sq_moves.specs.CutEnd.{end_of}
+use Rattle.sq_moves.specs.OpeningValue.{OpeningValue}
 use Rattle.sq_model.specs.Trace.{Trace, notes, cut_count}
 use Rattle.sq_model.specs.Nodes.{Item, items}
 use Rattle.sq_model.specs.Tables.{stands, size_of}

@@ -1,10 +1,10 @@
 -- Each family of a reconfigured range is cut at most once and loaded at most once, in the order in
 -- which its link numbered it, and nothing of a complete node moves.
 use Rattle.std.specs.Prelude.{◌≡◌, ℕ, ◌≤◌, ◌==◌, true, false, List, [], ◌∷◌, ◌++◌, length, slice_get, Some}
-use Rattle.sq_tree.specs.Status.{is_complete}
+use Rattle.sq_moves.specs.Status.{is_complete}
 use Rattle.sq_store.specs.declared.chunk.Note.{Note}
 use Rattle.sq_store.specs.ChunkValue.{covers}
-use Rattle.sq_ranges.specs.OpeningValue.{OpeningValue}
+use Rattle.sq_moves.specs.OpeningValue.{OpeningValue}
 use Rattle.sq_model.specs.declared.step.Step.{Step}
 use Rattle.sq_model.specs.declared.step.Step.TheVariants.{Cut, Load}
 use Rattle.sq_model.specs.declared.answer.Answer.{Answer}

@@ -4,10 +4,10 @@ use Rattle.std.specs.List.{list_any}
 use Rattle.sq_plan.specs.PlanValue.{owner}
 use Rattle.sq_store.specs.declared.chunk.Note.{Note}
 use Rattle.sq_store.specs.ChunkValue.{covers}
-use Rattle.sq_ranges.specs.declared.recon.Range.{Range}
-use Rattle.sq_ranges.specs.declared.recon.Extent.{Extent}
-use Rattle.sq_ranges.specs.ReconValue.{extent, stage_on}
-use Rattle.sq_ranges.specs.OpeningValue.{OpeningValue}
+use Rattle.sq_moves.specs.declared.recon.Range.{Range}
+use Rattle.sq_moves.specs.declared.recon.Extent.{Extent}
+use Rattle.sq_moves.specs.ReconValue.{extent, stage_on}
+use Rattle.sq_moves.specs.OpeningValue.{OpeningValue}
 use Rattle.sq_model.specs.Trace.{Trace, notes, loads, stage}
 use Rattle.sq_model.specs.Leader.{is_started}
 use Rattle.sq_model.specs.Nodes.{items}

@@ -1,8 +1,8 @@
 -- What the running stage alone determines: the steps since the last successful Next, and the owner
 -- of a root key as the stage began.
 use Rattle.std.specs.Prelude.{◌≡◌, ℕ, Bool, true, false, ◌&&◌, nat_lt, is_none, if◌then◌else◌, [], ◌∷◌, Option}
-use Rattle.sq_ranges.specs.ReconValue.{stage_on}
-use Rattle.sq_ranges.specs.OpeningValue.{OpeningValue}
+use Rattle.sq_moves.specs.ReconValue.{stage_on}
+use Rattle.sq_moves.specs.OpeningValue.{OpeningValue}
 use Rattle.sq_model.specs.declared.step.Step.{Step}
 use Rattle.sq_model.specs.declared.step.Step.TheVariants.{Next}
 use Rattle.sq_model.specs.declared.answer.Answer.{Answer}

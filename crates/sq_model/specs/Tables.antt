@@ -5,7 +5,7 @@ use Rattle.sq_schema.specs.Effect.{RowTable, replay, replay_rows, only}
 use Rattle.sq_schema.specs.TxnValue.{TxnValue}
 use Rattle.sq_schema.specs.Family.{FamilyValue, rows_size, family_stands}
 use Rattle.sq_schema.specs.Table.{rows_in}
-use Rattle.sq_ranges.specs.OpeningValue.{OpeningValue}
+use Rattle.sq_moves.specs.OpeningValue.{OpeningValue}
 use Rattle.sq_model.specs.declared.step.Step.{Step}
 use Rattle.sq_model.specs.declared.step.Step.TheVariants.{Fold}
 use Rattle.sq_model.specs.declared.answer.Answer.{Answer}

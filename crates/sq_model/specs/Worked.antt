@@ -8,18 +8,18 @@ use Rattle.sq_schema.specs.Effect.{RowList, root_key}
 use Rattle.sq_schema.specs.TxnValue.{TxnValue}
 use Rattle.sq_schema.specs.Table.{TableValue}
 use Rattle.sq_schema.specs.declared.root.TheConstants.{ROOT_END}
-use Rattle.sq_tree.specs.declared.status.Status.TheVariants as status
-use Rattle.sq_tree.specs.declared.status.Reading.TheVariants as reads
+use Rattle.sq_moves.specs.declared.status.Status.TheVariants as status
+use Rattle.sq_moves.specs.declared.status.Reading.TheVariants as reads
 use Rattle.sq_store.specs.declared.chunk.Note.{Note}
 use Rattle.sq_plan.specs.declared.version.Version.TheVariants.{First}
-use Rattle.sq_ranges.specs.declared.recon.Range.{Range}
-use Rattle.sq_ranges.specs.OpeningValue.{OpeningValue}
+use Rattle.sq_moves.specs.declared.recon.Range.{Range}
+use Rattle.sq_moves.specs.OpeningValue.{OpeningValue}
 use Rattle.sq_model.specs.declared.step.Step.{Step}
 use Rattle.sq_model.specs.declared.step.Step.TheVariants.{Prepare, Start, Submit, Resume, Split, Claim, Begin, Cut, Push, Pop, Load, Complete, Report, Finish, Fold, Status}
 use Rattle.sq_model.specs.declared.answer.Answer.{Answer}
 use Rattle.sq_model.specs.declared.answer.Answer.TheVariants.{Done, Replied, Moved, Waits, Resumed, WasCut, WasLoaded, Reads, Refused}
 use Rattle.sq_model.specs.declared.answer.Refusal.TheVariants.{NotMoving, NoSuchSegment, NoSuchNode, NotFree, NotLive, IsLeaf, NotClaimed, WrongPull, NothingToCut, OutboxFull, OutboxEmpty, LinkFull, LinkEmpty, InboxEmpty, NotLoaded, AlreadyMoving, NotFinished, NoSuchPartition, NoneReady, NoSuchLink, NotPartial, NotPrepared}
-use Rattle.sq_ranges.specs.declared.opening.TheConstants.{LOG_LIMIT}
+use Rattle.sq_moves.specs.declared.opening.TheConstants.{LOG_LIMIT}
 
 -- one root row with a note, which enlarges its family
 abbrev pub noted_row : ℤ → List ℕ → RowList

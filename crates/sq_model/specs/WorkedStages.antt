@@ -5,15 +5,15 @@ use Rattle.sq_schema.specs.declared.root.TheConstants.{ROOT_END}
 use Rattle.sq_store.specs.declared.chunk.Note.{Note}
 use Rattle.sq_plan.specs.declared.version.Stages.TheVariants.{Auto}
 use Rattle.sq_plan.specs.declared.version.Version.TheVariants.{First, Second}
-use Rattle.sq_ranges.specs.declared.recon.Range.{Range}
-use Rattle.sq_ranges.specs.OpeningValue.{OpeningValue}
+use Rattle.sq_moves.specs.declared.recon.Range.{Range}
+use Rattle.sq_moves.specs.OpeningValue.{OpeningValue}
 use Rattle.sq_model.specs.declared.step.Step.{Step}
 use Rattle.sq_model.specs.declared.step.Step.TheVariants.{Prepare, Start, Submit, Resume, Claim, Begin, Cut, Complete, Report, Next, Finish}
 use Rattle.sq_model.specs.declared.answer.Answer.{Answer}
 use Rattle.sq_model.specs.declared.answer.Answer.TheVariants.{Done, Moved, Waits, Resumed, Refused}
 use Rattle.sq_model.specs.declared.answer.Refusal.TheVariants.{NoSuchSegment, NoSuchLink, NotFinished, LastStage}
 use Rattle.sq_model.specs.Worked.{row, get_row, found, got, carried_to, carried_answers}
-use Rattle.sq_ranges.specs.declared.opening.TheConstants.{LOG_LIMIT}
+use Rattle.sq_moves.specs.declared.opening.TheConstants.{LOG_LIMIT}
 
 -- partition 0 sends the keys 4 to 7 and 12 to 15 to partition 1 in the first stage, and the keys 8
 -- to 11 to partition 2 in the second

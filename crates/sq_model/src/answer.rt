@@ -1,10 +1,9 @@
 // The answers to steps.
 use sq_explain::meaning;
+use sq_moves::{Leaf, Reading, SegId, Status};
 use sq_plan::PartId;
-use sq_ranges::SegId;
 use sq_schema::{OUT_OF_MEMORY, Reply, Txn};
 use sq_store::Note;
-use sq_tree::{Leaf, Reading, Status};
 use thiserror::Error;
 
 /// The answer to a step.

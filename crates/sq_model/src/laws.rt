@@ -3,7 +3,7 @@
 ghost use Rattle.std.specs.Prelude.{◌≡◌, ◌≢◌, ℕ, [], length, Contains, false, true, Some, is_some, pos};
 ghost use Rattle.sq_explain.specs.Meanings.{meaning_of};
 ghost use Rattle.sq_schema.specs.Prelude.{TxnValue, rows_of};
-ghost use Rattle.sq_ranges.specs.Prelude.{OpeningValue, IsOpening, stage_on};
+ghost use Rattle.sq_moves.specs.Prelude.{OpeningValue, IsOpening, stage_on};
 ghost use Rattle.sq_model.specs.Trace.{Trace, stage, notes, loads, link};
 ghost use Rattle.sq_model.specs.Tables.{IsFoldedRoot, now, stands, family_of};
 ghost use Rattle.sq_model.specs.Leader.{phase};

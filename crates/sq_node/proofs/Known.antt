@@ -4,8 +4,8 @@ use Rattle.std.specs.Prelude.{◌⊎◌, ◌≢◌, ◌==◌, slice_get, slice_s
 use Rattle.std.proofs.lemmas.Bool.Decides.{eqb_tells}
 use Rattle.std.proofs.lemmas.List.Elements.{Contains-append_right}
 use Rattle.std.proofs.lemmas.Option.{same_Some, slice_get_within, slice_get-get_or}
-use Rattle.sq_tree.specs.declared.status.Status.{Status}
-use Rattle.sq_tree.specs.declared.status.Status.TheVariants.{Split, Partial, Complete}
+use Rattle.sq_moves.specs.declared.status.Status.{Status}
+use Rattle.sq_moves.specs.declared.status.Status.TheVariants.{Split, Partial, Complete}
 use Rattle.sq_shared.specs.declared.view.View.{View}
 use Rattle.sq_shared.specs.View.{HasSeen}
 use Rattle.sq_shared.specs.Plays.{Won}

@@ -5,17 +5,17 @@ use Rattle.std.proofs.lemmas.Bool.{eqb-true, lt-leb, cases_Bool, cases_lt}
 use Rattle.std.proofs.lemmas.List.{length-set, length-map, get_or-map}
 use Rattle.std.proofs.lemmas.List.Elements.{Contains-append_right, Contains-append_left}
 use Rattle.std.proofs.lemmas.Option.{same_Some, slice_get_read, slice_get_within, slice_get-get_or}
-use Rattle.sq_tree.specs.declared.status.Status.{Status}
-use Rattle.sq_tree.specs.declared.status.Status.TheVariants.{Free, Split, Claimed, Partial, Complete}
-use Rattle.sq_tree.specs.declared.fault.BeginFault.{BeginFault}
-use Rattle.sq_tree.specs.declared.fault.BeginFault.TheVariants as begin
-use Rattle.sq_tree.specs.declared.fault.CompleteFault.{CompleteFault}
-use Rattle.sq_tree.specs.declared.fault.CompleteFault.TheVariants as complete
-use Rattle.sq_tree.specs.declared.node.TheConstants.{LEAVES}
-use Rattle.sq_tree.specs.Node.{is_node, is_above}
-use Rattle.sq_tree.specs.Status.{is_past, is_split, is_complete}
-use Rattle.sq_tree.proofs.Nested.{node_bounds, node_within, halves_of}
-use Rattle.sq_tree.proofs.Covering.{high_half}
+use Rattle.sq_moves.specs.declared.status.Status.{Status}
+use Rattle.sq_moves.specs.declared.status.Status.TheVariants.{Free, Split, Claimed, Partial, Complete}
+use Rattle.sq_moves.specs.declared.tree_fault.BeginFault.{BeginFault}
+use Rattle.sq_moves.specs.declared.tree_fault.BeginFault.TheVariants as begin
+use Rattle.sq_moves.specs.declared.tree_fault.CompleteFault.{CompleteFault}
+use Rattle.sq_moves.specs.declared.tree_fault.CompleteFault.TheVariants as complete
+use Rattle.sq_moves.specs.declared.node.TheConstants.{LEAVES}
+use Rattle.sq_moves.specs.Node.{is_node, is_above}
+use Rattle.sq_moves.specs.Status.{is_past, is_split, is_complete}
+use Rattle.sq_moves.proofs.Nested.{node_bounds, node_within, halves_of}
+use Rattle.sq_moves.proofs.Covering.{high_half}
 use Rattle.sq_model.proofs.Lists.{Contains-first}
 use Rattle.sq_shared.specs.declared.view.View.{View}
 use Rattle.sq_shared.specs.View.{HasSeen}

@@ -6,8 +6,8 @@ use Rattle.std.specs.Prelude.{◌==◌, Bool, true, filter, Contains}
 use Rattle.std.proofs.lemmas.Bool.{cases_Bool, and_parts, and_from}
 use Rattle.std.proofs.lemmas.List.Kept.{IsStrictlySortedBy-filter}
 use Rattle.sq_model.proofs.Lists.{Contains-nothing, Contains-first, Contains-later, Contains-cases, Contains-filter, filter-first, filter-other}
-use Rattle.sq_ranges.specs.ReconValue.{ReconValue, AreLinks, is_link, stage_on, link_cmp}
-use Rattle.sq_ranges.specs.declared.recon.Link.{Link}
+use Rattle.sq_moves.specs.ReconValue.{ReconValue, AreLinks, is_link, stage_on, link_cmp}
+use Rattle.sq_moves.specs.declared.recon.Link.{Link}
 use Rattle.sq_shared.specs.Values.{LinkValue, PassValue}
 use Rattle.sq_node.specs.Ends.{EndValue, no_link, link_at, end_at}
 use Rattle.sq_node.specs.FabricValue.{ends_of, AreStageLinks}

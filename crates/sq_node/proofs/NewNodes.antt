@@ -8,7 +8,7 @@ use Rattle.std.proofs.lemmas.List.FromFn.{length-map-range_with_len, get_or-map-
 use Rattle.std.proofs.lemmas.Option.{same_Some, slice_get_within, slice_get-get_or}
 use Rattle.atomic_table.specs.Seated.{TableId}
 use Rattle.sq_schema.specs.Table.{TableValue}
-use Rattle.sq_ranges.specs.OpeningValue.{OpeningValue}
+use Rattle.sq_moves.specs.OpeningValue.{OpeningValue}
 use Rattle.sq_shared.specs.Values.{LinkValue}
 use Rattle.sq_shared.specs.declared.view.View.{View}
 use Rattle.sq_shared.specs.View.{fresh, gave}

@@ -13,7 +13,7 @@ use Rattle.sq_exec.specs.declared.outcome.Resumed.{Resumed}
 use Rattle.sq_exec.specs.CoreValue.{CoreValue}
 use Rattle.sq_exec.specs.Location.{route}
 use Rattle.sq_exec.specs.Serving.{served, IsTaken, IsResumed}
-use Rattle.sq_ranges.specs.ReconValue.{ReconValue}
+use Rattle.sq_moves.specs.ReconValue.{ReconValue}
 use Rattle.sq_shared.specs.declared.view.View.{View}
 use Rattle.sq_shared.specs.declared.tree.walks.LeafClaim.{LeafClaim}
 use Rattle.sq_shared.specs.declared.tree.walks.LeafClaim.TheVariants as at

@@ -6,7 +6,7 @@ use Rattle.std.proofs.lemmas.Option.{same_Some}
 use Rattle.sq_schema.specs.TxnValue.{TxnValue}
 use Rattle.atomic_table.specs.Seated.{TableId}
 use Rattle.sq_shared.specs.Values.{LinkValue}
-use Rattle.sq_ranges.specs.declared.recon.Range.{Range}
+use Rattle.sq_moves.specs.declared.recon.Range.{Range}
 use Rattle.sq_plan.specs.PlanValue.{PlanValue}
 use Rattle.sq_shared.specs.Seat.{SeatValue}
 use Rattle.sq_exec.specs.declared.outcome.Outcome.{Outcome}

@@ -2,9 +2,9 @@
 use Rattle.std.specs.Prelude.{◌≡◌, ◌↔◌, ℕ, ◌≤◌, Bool, true, ◌==◌, ◌&&◌, List, length, map, slice_get, Some, Contains}
 use Rattle.std.specs.List.Sorted.{IsStrictlySortedBy}
 use Rattle.atomic_table.specs.Seated.{TableId}
-use Rattle.sq_ranges.specs.declared.recon.Link.{Link}
-use Rattle.sq_ranges.specs.declared.segment.TheConstants.{SEGMENT_LIMIT}
-use Rattle.sq_ranges.specs.ReconValue.{ReconValue, is_link, stage_on, link_cmp}
+use Rattle.sq_moves.specs.declared.recon.Link.{Link}
+use Rattle.sq_moves.specs.declared.segment.TheConstants.{SEGMENT_LIMIT}
+use Rattle.sq_moves.specs.ReconValue.{ReconValue, is_link, stage_on, link_cmp}
 use Rattle.sq_shared.specs.Values.{LinkValue}
 use Rattle.sq_shared.specs.Seat.{SeatValue}
 use Rattle.sq_shared.specs.Seats.{AreSeatsOf}

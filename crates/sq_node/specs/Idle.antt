@@ -1,11 +1,11 @@
 -- What is done at an idle node, and what is under way at a busy one.
 use Rattle.std.specs.Prelude.{◌≡◌, ◌⊎◌, ℕ, Bool, ◌+◌, ◌<◌, ◌≤◌, ◌==◌, ◌&&◌, ◌||◌, true, false, List, [], ◌++◌, length, slice_get, Some, None, Contains}
-use Rattle.sq_tree.specs.declared.status.Status.{Status}
-use Rattle.sq_tree.specs.Status.{is_split, is_complete}
+use Rattle.sq_moves.specs.declared.status.Status.{Status}
+use Rattle.sq_moves.specs.Status.{is_split, is_complete}
 use Rattle.sq_shared.specs.declared.view.View.{View}
 use Rattle.sq_shared.specs.Seat.{SeatValue}
-use Rattle.sq_ranges.specs.declared.recon.Range.{Range}
-use Rattle.sq_ranges.specs.ReconValue.{ReconValue, stages, stage_in}
+use Rattle.sq_moves.specs.declared.recon.Range.{Range}
+use Rattle.sq_moves.specs.ReconValue.{ReconValue, stages, stage_in}
 use Rattle.sq_exec.specs.CoreValue.{CoreValue, out_at, inbox_at, loaded_at}
 use Rattle.sq_exec.specs.Runs.{is_whole}
 use Rattle.sq_node.specs.FabricValue.{FabricValue}

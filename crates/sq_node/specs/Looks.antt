@@ -1,8 +1,8 @@
 -- Looks at tree nodes, and the completion of nodes after looks.
 use Rattle.std.specs.Prelude.{◌≡◌, ◌⊎◌, ℕ, false, List, ◌++◌, length, remove, slice_get, Some, Contains}
-use Rattle.sq_tree.specs.declared.status.Status.{Status}
-use Rattle.sq_tree.specs.declared.status.Status.TheVariants.{Complete}
-use Rattle.sq_tree.specs.Status.{is_partial}
+use Rattle.sq_moves.specs.declared.status.Status.{Status}
+use Rattle.sq_moves.specs.declared.status.Status.TheVariants.{Complete}
+use Rattle.sq_moves.specs.Status.{is_partial}
 use Rattle.sq_shared.specs.declared.view.View.{View}
 use Rattle.sq_shared.specs.Plays.{Won}
 use Rattle.sq_shared.specs.Seat.{SeatValue}

@@ -3,8 +3,8 @@ use Rattle.std.specs.Prelude.{◌≡◌, ◌≢◌, ℕ, ◌+◌, ◌<◌, true,
 use Rattle.std.specs.FinMap.{empty}
 use Rattle.std.specs.List.{range_with_len}
 use Rattle.atomic_table.specs.Seated.{TableId}
-use Rattle.sq_ranges.specs.ReconValue.{ReconValue, stages}
-use Rattle.sq_ranges.specs.OpeningValue.{OpeningValue}
+use Rattle.sq_moves.specs.ReconValue.{ReconValue, stages}
+use Rattle.sq_moves.specs.OpeningValue.{OpeningValue}
 use Rattle.sq_shared.specs.Values.{LinkValue}
 use Rattle.sq_shared.specs.declared.view.View.{View}
 use Rattle.sq_shared.specs.View.{fresh, gave}

@@ -1,7 +1,7 @@
 -- What a node knows of the tree nodes whose last chunk was loaded.
 use Rattle.std.specs.Prelude.{◌≡◌, ◌⊎◌, ℕ, ◌<◌, Bool, true, List, length, slice_get, Some, Contains}
-use Rattle.sq_tree.specs.declared.status.Status.TheVariants.{Split, Complete}
-use Rattle.sq_tree.specs.Node.{is_above}
+use Rattle.sq_moves.specs.declared.status.Status.TheVariants.{Split, Complete}
+use Rattle.sq_moves.specs.Node.{is_above}
 use Rattle.sq_shared.specs.declared.view.View.{View}
 use Rattle.sq_shared.specs.View.{HasSeen}
 use Rattle.sq_shared.specs.Seat.{SeatValue}

@@ -1,10 +1,10 @@
 -- What each step of a node does to it.
 use Rattle.std.specs.Prelude.{◌≡◌, ℕ, Bool, ◌+◌, ◌<◌, ◌==◌, ◌&&◌, ◌⊎◌, true, false, List, length, slice_get, slice_set, Some, None, IsSome, is_some}
 use Rattle.sq_schema.specs.TxnValue.{TxnValue}
-use Rattle.sq_tree.specs.declared.status.Status.TheVariants.{Partial}
-use Rattle.sq_tree.specs.Node.{is_node}
-use Rattle.sq_ranges.specs.declared.recon.Range.{Range}
-use Rattle.sq_ranges.specs.ReconValue.{stage_on, stage_in}
+use Rattle.sq_moves.specs.declared.status.Status.TheVariants.{Partial}
+use Rattle.sq_moves.specs.Node.{is_node}
+use Rattle.sq_moves.specs.declared.recon.Range.{Range}
+use Rattle.sq_moves.specs.ReconValue.{stage_on, stage_in}
 use Rattle.sq_shared.specs.Plays.{Won}
 use Rattle.sq_shared.specs.Seat.{SeatValue}
 use Rattle.sq_store.specs.declared.chunk.Note.{Note}

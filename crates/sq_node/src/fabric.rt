@@ -1,13 +1,13 @@
 // What the nodes of a run share.
 ghost use Rattle.std.specs.Prelude.{◌≡◌, ◌↔◌, ◌+◌, ◌<◌, ◌≤◌, false, IsTrue, IfErr, OnOk};
-ghost use Rattle.sq_ranges.specs.Prelude.{stages};
+ghost use Rattle.sq_moves.specs.Prelude.{stages};
 ghost use Rattle.sq_node.specs.FabricValue.{IsFabric};
 
 use crate::receipt::Receipt;
 use crossbeam_queue::ArrayQueue;
 use sq_history::History;
+use sq_moves::Recon;
 use sq_plan::PartId;
-use sq_ranges::Recon;
 use sq_schema::Txn;
 use sq_shared::{Request, Shared, SharedLink, StatusTree, TreeSeat};
 use std::marker::Model;
@@ -51,7 +51,7 @@ pub struct Fabric {
 
 impl Model for Fabric {
     ghost use Rattle.std.specs.Prelude.{◌↔◌, ◌+◌, ◌≤◌, IsTrue};
-    ghost use Rattle.sq_ranges.specs.Prelude.{stages};
+    ghost use Rattle.sq_moves.specs.Prelude.{stages};
     ghost use Rattle.sq_node.specs.FabricValue.{FabricValue, IsFabric};
 
     ghost Value = { FabricValue };

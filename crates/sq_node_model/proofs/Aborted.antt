@@ -8,8 +8,8 @@ use Rattle.sq_schema.specs.Family.{FamilyValue}
 use Rattle.sq_store.specs.StoreValue.{absent, family_in}
 use Rattle.sq_store.specs.declared.chunk.Note.{Note}
 use Rattle.sq_store.specs.ChunkValue.{ChunkValue, covers}
-use Rattle.sq_ranges.specs.OpeningValue.{OpeningValue}
-use Rattle.sq_ranges.specs.Opening.{IsOpening}
+use Rattle.sq_moves.specs.OpeningValue.{OpeningValue}
+use Rattle.sq_moves.specs.Opening.{IsOpening}
 use Rattle.sq_model.specs.Place.{Place, At, Under_way, cut_place, loaded_place}
 use Rattle.sq_model.proofs.Lists.{found_in, slice_get-Contains, flat_map_in}
 use Rattle.sq_model.specs.Staged.{owner_in}

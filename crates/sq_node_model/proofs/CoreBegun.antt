@@ -2,16 +2,16 @@
 use Rattle.std.proofs.Common.{◌≡◌, ℕ, ◌<◌, true, ◌==◌, List, ◌∷◌, length, Contains, slice_get, Some, refl, sym, ap, ◌∙◌, subst, arith}
 use Rattle.std.proofs.lemmas.Bool.{and_from, eq-eqb}
 use Rattle.std.proofs.lemmas.Option.{slice_get_within}
-use Rattle.sq_tree.specs.declared.status.Status.TheVariants.{Partial, Complete}
-use Rattle.sq_tree.specs.Node.{is_node}
-use Rattle.sq_tree.specs.Status.{is_begun}
-use Rattle.sq_tree.specs.Tree.{status_at}
+use Rattle.sq_moves.specs.declared.status.Status.TheVariants.{Partial, Complete}
+use Rattle.sq_moves.specs.Node.{is_node}
+use Rattle.sq_moves.specs.Status.{is_begun}
+use Rattle.sq_moves.specs.Tree.{status_at}
 use Rattle.sq_store.specs.ChunkValue.{ChunkValue}
-use Rattle.sq_ranges.specs.declared.recon.Range.{Range}
-use Rattle.sq_ranges.specs.declared.recon.Extent.{Extent}
-use Rattle.sq_ranges.specs.ReconValue.{extent}
-use Rattle.sq_ranges.specs.OpeningValue.{OpeningValue}
-use Rattle.sq_ranges.specs.Opening.{IsOpening}
+use Rattle.sq_moves.specs.declared.recon.Range.{Range}
+use Rattle.sq_moves.specs.declared.recon.Extent.{Extent}
+use Rattle.sq_moves.specs.ReconValue.{extent}
+use Rattle.sq_moves.specs.OpeningValue.{OpeningValue}
+use Rattle.sq_moves.specs.Opening.{IsOpening}
 use Rattle.sq_exec.specs.GivenUp.{none_given_up, given_up_with}
 use Rattle.sq_exec.specs.Runs.{is_whole}
 use Rattle.sq_exec.specs.Work.{WorkValue}

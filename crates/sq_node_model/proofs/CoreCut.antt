@@ -7,8 +7,8 @@ use Rattle.std.proofs.lemmas.Option.{slice_get-get_or}
 use Rattle.sq_store.specs.declared.chunk.Note.{Note}
 use Rattle.sq_store.specs.ChunkValue.{ChunkValue}
 use Rattle.sq_store.specs.StoreValue.{StoreValue, families_between, without_between, take_end}
-use Rattle.sq_ranges.specs.OpeningValue.{OpeningValue}
-use Rattle.sq_ranges.specs.Opening.{IsOpening}
+use Rattle.sq_moves.specs.OpeningValue.{OpeningValue}
+use Rattle.sq_moves.specs.Opening.{IsOpening}
 use Rattle.sq_exec.specs.Work.{WorkValue, no_work, work_at, work_after}
 use Rattle.sq_exec.specs.OutLink.{OutLinkValue, new_out_link, note_for}
 use Rattle.sq_exec.specs.CoreValue.{CoreValue, out_at, link_to}

@@ -7,9 +7,9 @@ use Rattle.std.proofs.lemmas.Bool.{and_from, le-leb, lt-ltb, ltb-true}
 use Rattle.sq_schema.specs.Family.{FamilyValue}
 use Rattle.sq_store.specs.StoreValue.{StoreValue, family_in, has_none_of}
 use Rattle.sq_store.specs.ChunkValue.{ChunkValue, IsChunk, covers}
-use Rattle.sq_ranges.specs.ReconValue.{ReconValue, extent}
-use Rattle.sq_ranges.specs.OpeningValue.{OpeningValue}
-use Rattle.sq_ranges.specs.Opening.{IsOpening}
+use Rattle.sq_moves.specs.ReconValue.{ReconValue, extent}
+use Rattle.sq_moves.specs.OpeningValue.{OpeningValue}
+use Rattle.sq_moves.specs.Opening.{IsOpening}
 use Rattle.sq_exec.specs.declared.run.Run.{Run}
 use Rattle.sq_exec.specs.Runs.{run_has, meets, is_met}
 use Rattle.sq_exec.specs.CoreValue.{CoreValue, inbox_at, loaded_at}

@@ -3,14 +3,14 @@ use Rattle.std.proofs.Common.{◌≡◌, ◌⊎◌, inl, inr, ℕ, Bool, true, f
 use Rattle.std.specs.Prelude.{is_some, option_map, option_and_then}
 use Rattle.std.proofs.lemmas.Bool.{cases_Bool, eqb-true, eq-eqb, ltb-true}
 use Rattle.sq_schema.specs.TxnValue.{TxnValue}
-use Rattle.sq_tree.specs.Node.{is_above}
+use Rattle.sq_moves.specs.Node.{is_above}
 use Rattle.sq_store.specs.StoreValue.{StoreValue, store_reply, store_after}
 use Rattle.sq_store.specs.ChunkValue.{ChunkValue, covers}
 use Rattle.sq_plan.specs.PlanValue.{owner}
-use Rattle.sq_ranges.specs.declared.recon.Range.{Range}
-use Rattle.sq_ranges.specs.ReconValue.{ReconValue, segment_of, leaf_of, leaf_at, stage_on}
-use Rattle.sq_ranges.specs.OpeningValue.{OpeningValue}
-use Rattle.sq_ranges.specs.Opening.{IsOpening}
+use Rattle.sq_moves.specs.declared.recon.Range.{Range}
+use Rattle.sq_moves.specs.ReconValue.{ReconValue, segment_of, leaf_of, leaf_at, stage_on}
+use Rattle.sq_moves.specs.OpeningValue.{OpeningValue}
+use Rattle.sq_moves.specs.Opening.{IsOpening}
 use Rattle.sq_exec.specs.declared.location.Location.{Location}
 use Rattle.sq_exec.specs.declared.outcome.Outcome.{Outcome}
 use Rattle.sq_exec.specs.declared.outcome.Outcome.TheVariants.{Done, Moved}

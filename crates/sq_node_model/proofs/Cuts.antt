@@ -5,12 +5,12 @@ use Rattle.std.proofs.lemmas.Bool.{and_parts, and_from, eqb-true}
 use Rattle.std.proofs.lemmas.Option.{same_Some, slice_get-get_or}
 use Rattle.std.proofs.lemmas.List.Quantifiers.{position-Some}
 use Rattle.sq_schema.specs.Family.{FamilyValue}
-use Rattle.sq_tree.specs.Status.{is_begun}
+use Rattle.sq_moves.specs.Status.{is_begun}
 use Rattle.sq_store.specs.ChunkValue.{ChunkValue, covers}
-use Rattle.sq_ranges.specs.ReconValue.{is_link}
-use Rattle.sq_ranges.specs.OpeningValue.{OpeningValue}
-use Rattle.sq_ranges.specs.Opening.{IsOpening}
-use Rattle.sq_tree.specs.Node.{is_node}
+use Rattle.sq_moves.specs.ReconValue.{is_link}
+use Rattle.sq_moves.specs.OpeningValue.{OpeningValue}
+use Rattle.sq_moves.specs.Opening.{IsOpening}
+use Rattle.sq_moves.specs.Node.{is_node}
 use Rattle.sq_model.specs.Place.{extent_of, is_within}
 use Rattle.sq_model.proofs.Lists.{Contains-slice_get, slice_get-Contains}
 use Rattle.sq_model.proofs.Keys.{linked}

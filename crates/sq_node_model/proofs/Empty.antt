@@ -8,17 +8,17 @@ use Rattle.std.proofs.lemmas.List.Folds.{list_any-append}
 use Rattle.std.proofs.lemmas.List.Elements.{Contains-append_left, Contains-append_right}
 use Rattle.std.proofs.lemmas.Option.{same_Some}
 use Rattle.std.proofs.Math.Bool.{or_comm}
-use Rattle.sq_tree.specs.declared.status.Status.{Status}
-use Rattle.sq_tree.specs.declared.status.Status.TheVariants.{Partial, Complete}
-use Rattle.sq_tree.specs.Node.{is_node, first_leaf, span}
-use Rattle.sq_tree.specs.Status.{is_free, is_split, is_begun, is_complete}
-use Rattle.sq_tree.proofs.Nested.{above_within}
-use Rattle.sq_tree.proofs.Covering.{covering_touched}
+use Rattle.sq_moves.specs.declared.status.Status.{Status}
+use Rattle.sq_moves.specs.declared.status.Status.TheVariants.{Partial, Complete}
+use Rattle.sq_moves.specs.Node.{is_node, first_leaf, span}
+use Rattle.sq_moves.specs.Status.{is_free, is_split, is_begun, is_complete}
+use Rattle.sq_moves.proofs.Nested.{above_within}
+use Rattle.sq_moves.proofs.Covering.{covering_touched}
 use Rattle.sq_model.proofs.Statuses.{all_complete}
 use Rattle.sq_store.specs.declared.chunk.Note.{Note}
 use Rattle.sq_store.specs.ChunkValue.{ChunkValue}
-use Rattle.sq_ranges.specs.ReconValue.{stage_on, stage_in}
-use Rattle.sq_ranges.specs.OpeningValue.{OpeningValue}
+use Rattle.sq_moves.specs.ReconValue.{stage_on, stage_in}
+use Rattle.sq_moves.specs.OpeningValue.{OpeningValue}
 use Rattle.sq_model.specs.Links.{is_about, has_last}
 use Rattle.sq_model.specs.Orderly.{Tiles}
 use Rattle.sq_model.proofs.Lists.{any_in, list_any-Contains, flat_map_in, slice_get-Contains, Contains-cases, Contains-first, Contains-nothing}

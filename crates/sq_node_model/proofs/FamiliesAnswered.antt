@@ -14,7 +14,7 @@ use Rattle.sq_schema.specs.Family.{FamilyValue, logged}
 use Rattle.sq_store.specs.StoreValue.{StoreValue, absent, family_at, family_in, store_reply}
 use Rattle.sq_store.proofs.Applies.{found_family, absent_family}
 use Rattle.sq_store.specs.ChunkValue.{ChunkValue, covers}
-use Rattle.sq_ranges.specs.OpeningValue.{OpeningValue}
+use Rattle.sq_moves.specs.OpeningValue.{OpeningValue}
 use Rattle.sq_model.specs.Tables.{opening_rows}
 use Rattle.sq_model.specs.Staged.{owner_in}
 use Rattle.sq_shared.specs.View.{one_if}

@@ -7,7 +7,7 @@ use Rattle.sq_schema.specs.Family.{FamilyValue}
 use Rattle.sq_store.specs.StoreValue.{StoreValue, family_in, families_between, without_between}
 use Rattle.sq_store.proofs.Between.{IsRooted, family_in-between, within-between, get-without}
 use Rattle.sq_store.specs.ChunkValue.{ChunkValue, covers, are_within}
-use Rattle.sq_ranges.specs.OpeningValue.{OpeningValue}
+use Rattle.sq_moves.specs.OpeningValue.{OpeningValue}
 use Rattle.sq_model.specs.Staged.{owner_in}
 use Rattle.sq_node_model.specs.BeganWith.{BeganWith}
 use Rattle.sq_node_model.specs.NodeValue.{ReceiptValue}

@@ -7,7 +7,7 @@ use Rattle.sq_schema.specs.Family.{FamilyValue}
 use Rattle.sq_store.specs.StoreValue.{StoreValue, absent, family_in, with_families}
 use Rattle.sq_store.proofs.Rising.{get-with_families}
 use Rattle.sq_store.specs.ChunkValue.{ChunkValue, covers, are_within}
-use Rattle.sq_ranges.specs.OpeningValue.{OpeningValue}
+use Rattle.sq_moves.specs.OpeningValue.{OpeningValue}
 use Rattle.sq_model.specs.Staged.{owner_in}
 use Rattle.sq_shared.specs.View.{one_if}
 use Rattle.sq_node_model.specs.BeganWith.{BeganWith}

@@ -4,9 +4,9 @@ use Rattle.std.specs.Prelude.{◌≢◌, not, is_some}
 use Rattle.std.proofs.lemmas.Bool.{and_from, le-leb, lt-ltb, eq-eqb}
 use Rattle.sq_store.specs.declared.chunk.Note.{Note}
 use Rattle.sq_store.specs.ChunkValue.{covers}
-use Rattle.sq_ranges.specs.declared.recon.Range.{Range}
-use Rattle.sq_ranges.specs.OpeningValue.{OpeningValue}
-use Rattle.sq_ranges.specs.Opening.{IsOpening}
+use Rattle.sq_moves.specs.declared.recon.Range.{Range}
+use Rattle.sq_moves.specs.OpeningValue.{OpeningValue}
+use Rattle.sq_moves.specs.Opening.{IsOpening}
 use Rattle.sq_model.specs.Place.{source, destination, moves, extent_of, is_within}
 use Rattle.sq_model.proofs.Keys.{found_in_segment, moves_found, under}
 use Rattle.sq_model.proofs.Apart.{covers_bounds}

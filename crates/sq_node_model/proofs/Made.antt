@@ -1,7 +1,7 @@
 -- Nodes at work, made of their parts.
 use Rattle.std.proofs.Common.{ℕ, List, [], sym, subst}
 use Rattle.sq_store.specs.ChunkValue.{ChunkValue}
-use Rattle.sq_ranges.specs.OpeningValue.{OpeningValue}
+use Rattle.sq_moves.specs.OpeningValue.{OpeningValue}
 use Rattle.sq_exec.specs.CoreValue.{CoreValue}
 use Rattle.sq_shared.specs.declared.view.View.{View}
 use Rattle.sq_node_model.specs.NodeValue.{ReceiptValue, NodeAtWork, NodeValue, node_of}

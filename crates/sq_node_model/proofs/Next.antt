@@ -8,16 +8,16 @@ use Rattle.std.proofs.lemmas.List.{reverse-append, take-append-drop}
 use Rattle.std.proofs.lemmas.List.Elements.{Contains-append_left}
 use Rattle.std.proofs.lemmas.Option.{slice_get_within}
 use Rattle.sq_schema.specs.Family.{FamilyValue}
-use Rattle.sq_tree.specs.Status.{covering}
-use Rattle.sq_tree.proofs.Covering.{covering_is}
+use Rattle.sq_moves.specs.Status.{covering}
+use Rattle.sq_moves.proofs.Covering.{covering_is}
 use Rattle.sq_model.proofs.Statuses.{all_complete}
 use Rattle.sq_store.specs.StoreValue.{StoreValue, absent}
 use Rattle.sq_store.specs.declared.chunk.Note.{Note}
 use Rattle.sq_store.specs.ChunkValue.{ChunkValue, covers}
-use Rattle.sq_ranges.specs.declared.recon.Range.{Range}
-use Rattle.sq_ranges.specs.ReconValue.{segment_of, leaf_of, stage_on}
-use Rattle.sq_ranges.specs.OpeningValue.{OpeningValue}
-use Rattle.sq_ranges.specs.Opening.{IsOpening}
+use Rattle.sq_moves.specs.declared.recon.Range.{Range}
+use Rattle.sq_moves.specs.ReconValue.{segment_of, leaf_of, stage_on}
+use Rattle.sq_moves.specs.OpeningValue.{OpeningValue}
+use Rattle.sq_moves.specs.Opening.{IsOpening}
 use Rattle.sq_shared.specs.declared.view.View.{View}
 use Rattle.sq_model.specs.Place.{At, source, destination, moves, loaded_place, extent_of, is_within}
 use Rattle.sq_model.specs.Links.{is_about, has_last, reached}

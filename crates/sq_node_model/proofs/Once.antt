@@ -1,11 +1,11 @@
 -- One chunk at most covers a root key, of all links: so notes of two tree nodes share no key.
 use Rattle.std.proofs.Common.{◌≡◌, ℕ, ◌-◌, ◌<◌, true, List, length, reverse, slice_get, Contains, Some, sym, ap, ap₂, ◌∙◌, subst, subst₂}
 use Rattle.std.proofs.lemmas.Option.{same_Some, slice_get_within}
-use Rattle.sq_tree.specs.Status.{is_begun}
+use Rattle.sq_moves.specs.Status.{is_begun}
 use Rattle.sq_store.specs.declared.chunk.Note.{Note}
 use Rattle.sq_store.specs.ChunkValue.{ChunkValue, covers}
-use Rattle.sq_ranges.specs.OpeningValue.{OpeningValue}
-use Rattle.sq_ranges.specs.Opening.{IsOpening}
+use Rattle.sq_moves.specs.OpeningValue.{OpeningValue}
+use Rattle.sq_moves.specs.Opening.{IsOpening}
 use Rattle.sq_model.specs.Place.{extent_of, is_within}
 use Rattle.sq_model.specs.Orderly.{Tiles, AreDisjoint}
 use Rattle.sq_model.proofs.Lists.{Contains-slice_get, slice_get-Contains, flat_map_in}

@@ -6,10 +6,10 @@ use Rattle.std.proofs.lemmas.Bool.Decides.{nat_tests}
 use Rattle.sq_schema.specs.Table.{rows_in}
 use Rattle.sq_plan.specs.PlanValue.{owner}
 use Rattle.sq_store.specs.StoreValue.{StoreValue}
-use Rattle.sq_ranges.specs.ReconValue.{segment_of, is_link, stages}
-use Rattle.sq_ranges.specs.OpeningValue.{OpeningValue}
-use Rattle.sq_ranges.specs.Opening.{IsOpening}
-use Rattle.sq_ranges.proofs.Stages.{stage_below}
+use Rattle.sq_moves.specs.ReconValue.{segment_of, is_link, stages}
+use Rattle.sq_moves.specs.OpeningValue.{OpeningValue}
+use Rattle.sq_moves.specs.Opening.{IsOpening}
+use Rattle.sq_moves.proofs.Stages.{stage_below}
 use Rattle.sq_model.specs.Place.{source, destination}
 use Rattle.sq_model.specs.Staged.{owner_in}
 use Rattle.sq_model.proofs.Keys.{found_in_segment, unfound_stays, linked}

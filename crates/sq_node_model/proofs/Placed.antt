@@ -2,10 +2,10 @@
 use Rattle.std.proofs.Common.{◌≡◌, ℕ, true, ◌&&◌, List, length, reverse, slice_get, Contains, Some, sym, ap, ◌∙◌, subst}
 use Rattle.std.proofs.lemmas.List.{length-map}
 use Rattle.std.proofs.lemmas.Bool.{and_from}
-use Rattle.sq_tree.specs.Status.{is_complete}
+use Rattle.sq_moves.specs.Status.{is_complete}
 use Rattle.sq_store.specs.StoreValue.{StoreValue}
-use Rattle.sq_ranges.specs.OpeningValue.{OpeningValue}
-use Rattle.sq_ranges.specs.Opening.{IsOpening}
+use Rattle.sq_moves.specs.OpeningValue.{OpeningValue}
+use Rattle.sq_moves.specs.Opening.{IsOpening}
 use Rattle.sq_model.specs.Links.{is_about, has_last}
 use Rattle.sq_model.specs.Orderly.{AreNumbered}
 use Rattle.sq_model.proofs.Lists.{list_any-Contains}

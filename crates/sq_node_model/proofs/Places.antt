@@ -4,8 +4,8 @@ use Rattle.std.proofs.lemmas.Option.{same_Some, slice_get-get_or}
 use Rattle.sq_schema.specs.Family.{FamilyValue}
 use Rattle.sq_store.specs.declared.chunk.Note.{Note}
 use Rattle.sq_store.specs.ChunkValue.{ChunkValue, covers}
-use Rattle.sq_ranges.specs.OpeningValue.{OpeningValue}
-use Rattle.sq_ranges.specs.Opening.{IsOpening}
+use Rattle.sq_moves.specs.OpeningValue.{OpeningValue}
+use Rattle.sq_moves.specs.Opening.{IsOpening}
 use Rattle.sq_model.specs.Place.{Place, At, Under_way, loaded_place}
 use Rattle.sq_model.proofs.Lists.{Contains-slice_get}
 use Rattle.sq_model.specs.Staged.{owner_in}

@@ -4,11 +4,11 @@ use Rattle.std.specs.Prelude.{slice_index_or}
 use Rattle.std.proofs.lemmas.Bool.{cases_Bool, cases_lt, and_parts, eqb-true, eq-eqb}
 use Rattle.std.proofs.lemmas.List.{get_or_past}
 use Rattle.std.proofs.lemmas.Option.{slice_get_within}
-use Rattle.sq_tree.specs.declared.status.Status.{Status}
-use Rattle.sq_tree.specs.declared.status.Status.TheVariants.{Free, Complete}
-use Rattle.sq_tree.specs.Status.{is_past, is_free, is_split, is_begun, is_complete}
-use Rattle.sq_tree.specs.Tree.{status_at, IsGrown}
-use Rattle.sq_ranges.specs.OpeningValue.{OpeningValue}
+use Rattle.sq_moves.specs.declared.status.Status.{Status}
+use Rattle.sq_moves.specs.declared.status.Status.TheVariants.{Free, Complete}
+use Rattle.sq_moves.specs.Status.{is_past, is_free, is_split, is_begun, is_complete}
+use Rattle.sq_moves.specs.Tree.{status_at, IsGrown}
+use Rattle.sq_moves.specs.OpeningValue.{OpeningValue}
 use Rattle.sq_model.proofs.Lists.{Contains-first, Contains-later, Contains-slice_get, slice_get-Contains, flat_map_in}
 use Rattle.sq_node_model.specs.Stages.{is_on_link_in}
 use Rattle.sq_node_model.proofs.Staged.{on_link_goes}

@@ -4,17 +4,17 @@ use Rattle.std.specs.Prelude.{◌≢◌}
 use Rattle.std.proofs.lemmas.Bool.{eq-eqb, ne_eqb, leb-true}
 use mathlib.Core.Option.{some}
 use lib.ListN.{get_elem?}
-use Rattle.sq_tree.specs.declared.status.Status.{Status}
-use Rattle.sq_tree.specs.declared.status.Status.TheVariants.{Free, Split, Partial, Complete}
-use Rattle.sq_tree.specs.declared.node.TheConstants.{LEAVES}
-use Rattle.sq_tree.specs.Node.{is_node, is_above, parent}
-use Rattle.sq_tree.specs.Status.{is_past, is_free, is_split, is_begun, is_live, covering}
-use Rattle.sq_tree.specs.Tree.{status_at, IsGrown}
-use Rattle.sq_tree.proofs.Covering.{covering_touched}
-use Rattle.sq_ranges.specs.declared.recon.Range.{Range}
-use Rattle.sq_ranges.specs.ReconValue.{leaf_of}
-use Rattle.sq_ranges.specs.OpeningValue.{OpeningValue}
-use Rattle.sq_ranges.specs.Opening.{IsOpening}
+use Rattle.sq_moves.specs.declared.status.Status.{Status}
+use Rattle.sq_moves.specs.declared.status.Status.TheVariants.{Free, Split, Partial, Complete}
+use Rattle.sq_moves.specs.declared.node.TheConstants.{LEAVES}
+use Rattle.sq_moves.specs.Node.{is_node, is_above, parent}
+use Rattle.sq_moves.specs.Status.{is_past, is_free, is_split, is_begun, is_live, covering}
+use Rattle.sq_moves.specs.Tree.{status_at, IsGrown}
+use Rattle.sq_moves.proofs.Covering.{covering_touched}
+use Rattle.sq_moves.specs.declared.recon.Range.{Range}
+use Rattle.sq_moves.specs.ReconValue.{leaf_of}
+use Rattle.sq_moves.specs.OpeningValue.{OpeningValue}
+use Rattle.sq_moves.specs.Opening.{IsOpening}
 use Rattle.sq_model.specs.Place.{extent_of, is_within}
 use Rattle.sq_model.proofs.Lists.{Contains-nothing, Contains-cases}
 use Rattle.sq_model.proofs.Keys.{IsIn, found_in_segment, under}

@@ -4,7 +4,7 @@ use Rattle.std.specs.Prelude.{◌≢◌, slice_set}
 use Rattle.std.proofs.lemmas.Bool.{cases_Bool}
 use Rattle.std.proofs.lemmas.Bool.Decides.{eqb_tells}
 use Rattle.std.proofs.lemmas.Option.{same_Some, get_or_from_slice_get}
-use Rattle.sq_ranges.proofs.Bools.{both_equal, equal-both}
+use Rattle.sq_moves.proofs.Bools.{both_equal, equal-both}
 use Rattle.sq_model.proofs.Lists.{Contains-slice_get, slice_get-Contains}
 use Rattle.sq_exec.specs.Work.{WorkValue, no_work, work_from, work_after}
 use Rattle.sq_node_model.specs.OutHolds.{is_work_on, NoneTwice}

@@ -1,11 +1,11 @@
 -- The invariant of the tree nodes that a partition began, and of the leaves that it gave up.
 use Rattle.std.specs.Prelude.{◌≡◌, ℕ, ◌<◌, Bool, true, List, Contains}
 use Rattle.std.specs.List.{list_any}
-use Rattle.sq_tree.specs.declared.node.TheConstants.{LEAVES}
-use Rattle.sq_tree.specs.declared.status.Status.{Status}
-use Rattle.sq_tree.specs.Node.{is_node, is_above}
-use Rattle.sq_tree.specs.Status.{is_begun}
-use Rattle.sq_ranges.specs.OpeningValue.{OpeningValue}
+use Rattle.sq_moves.specs.declared.node.TheConstants.{LEAVES}
+use Rattle.sq_moves.specs.declared.status.Status.{Status}
+use Rattle.sq_moves.specs.Node.{is_node, is_above}
+use Rattle.sq_moves.specs.Status.{is_begun}
+use Rattle.sq_moves.specs.OpeningValue.{OpeningValue}
 use Rattle.sq_exec.specs.GivenUp.{is_given_up}
 use Rattle.sq_model.specs.Place.{extent_of, is_within}
 use Rattle.sq_node_model.specs.Stages.{is_on_link_in}

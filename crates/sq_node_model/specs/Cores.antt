@@ -3,7 +3,7 @@ use Rattle.std.specs.Prelude.{◌≡◌, ℕ, true, ◌==◌, if◌then◌else�
 use Rattle.std.specs.FinMap.{get}
 use Rattle.sq_store.specs.StoreValue.{StoreValue}
 use Rattle.sq_store.specs.ChunkValue.{ChunkValue, IsChunk, covers}
-use Rattle.sq_ranges.specs.OpeningValue.{OpeningValue}
+use Rattle.sq_moves.specs.OpeningValue.{OpeningValue}
 use Rattle.sq_model.specs.Staged.{owner_in}
 use Rattle.sq_exec.specs.CoreValue.{CoreValue, opened_core}
 use Rattle.sq_exec.specs.Opened.{HasOwnedOf}

@@ -2,11 +2,11 @@
 use Rattle.std.specs.Prelude.{◌≡◌, ℕ, ◌<◌, ◌==◌, ◌&&◌, List, [], ◌∷◌, ◌++◌, length, map, position, slice_get, slice_index_or, Some, is_some, option_to_list}
 use Rattle.std.specs.List.{flat_map}
 use Rattle.sq_schema.specs.TxnValue.{TxnValue}
-use Rattle.sq_tree.specs.declared.status.Status.{Status}
+use Rattle.sq_moves.specs.declared.status.Status.{Status}
 use Rattle.sq_store.specs.StoreValue.{StoreValue}
 use Rattle.sq_store.specs.declared.chunk.Note.{Note}
 use Rattle.sq_store.specs.ChunkValue.{ChunkValue}
-use Rattle.sq_ranges.specs.OpeningValue.{OpeningValue}
+use Rattle.sq_moves.specs.OpeningValue.{OpeningValue}
 use Rattle.sq_node_model.specs.Stages.{is_link_in}
 use Rattle.sq_shared.specs.declared.view.View.{View}
 use Rattle.sq_shared.specs.Rule.{IsTreeOf}

@@ -1,10 +1,10 @@
 -- The invariant of the link to a partition from another: of the chunks that were received, and of
 -- those that were loaded.
 use Rattle.std.specs.Prelude.{◌≡◌, ℕ, ◌≤◌, true, List, ◌++◌, Option, Contains, option_to_list}
-use Rattle.sq_tree.specs.Node.{is_node}
+use Rattle.sq_moves.specs.Node.{is_node}
 use Rattle.sq_store.specs.declared.chunk.Note.{Note}
 use Rattle.sq_store.specs.ChunkValue.{ChunkValue, are_within}
-use Rattle.sq_ranges.specs.OpeningValue.{OpeningValue}
+use Rattle.sq_moves.specs.OpeningValue.{OpeningValue}
 use Rattle.sq_model.specs.Place.{extent_of}
 use Rattle.sq_node_model.specs.Stages.{is_on_link_in}
 

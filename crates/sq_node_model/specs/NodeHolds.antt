@@ -1,7 +1,7 @@
 -- What a node keeps between any two of its steps. Each part of what holds is a type of its pieces
 -- alone, so that it is the same type after a step that leaves them alone.
 use Rattle.std.specs.Prelude.{ℕ, ◌<◌, Contains}
-use Rattle.sq_ranges.specs.OpeningValue.{OpeningValue}
+use Rattle.sq_moves.specs.OpeningValue.{OpeningValue}
 use Rattle.sq_node_model.specs.NodeValue.{NodeValue}
 use Rattle.sq_node_model.specs.BeganWith.{BeganWith}
 use Rattle.sq_node_model.specs.Chunks.{cut_to, loaded_from, HasCut, HasLoaded, HasLast}

@@ -4,7 +4,7 @@ use Rattle.std.specs.Prelude.{◌≡◌, ℕ, Bool, true, false, ◌==◌, ◌&&
 use Rattle.sq_store.specs.declared.chunk.Note.{Note}
 use Rattle.sq_store.specs.ChunkValue.{ChunkValue, covers, are_within}
 use Rattle.sq_store.specs.StoreValue.{family_in}
-use Rattle.sq_ranges.specs.OpeningValue.{OpeningValue}
+use Rattle.sq_moves.specs.OpeningValue.{OpeningValue}
 use Rattle.sq_exec.specs.Work.{WorkValue}
 pub use Rattle.sq_exec.specs.Work.{is_work_on}
 use Rattle.sq_model.specs.Place.{extent_of}

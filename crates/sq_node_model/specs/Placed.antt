@@ -3,11 +3,11 @@
 use Rattle.std.specs.Prelude.{◌≡◌, ◌⊎◌, ℕ, true, false, nat_lt, length, map, drop, reverse, slice_get, Some, Contains}
 use Rattle.sq_schema.specs.Family.{FamilyValue}
 use Rattle.sq_store.specs.StoreValue.{absent}
-use Rattle.sq_tree.specs.Node.{is_node}
-use Rattle.sq_tree.specs.Status.{is_begun, is_complete}
+use Rattle.sq_moves.specs.Node.{is_node}
+use Rattle.sq_moves.specs.Status.{is_begun, is_complete}
 use Rattle.sq_store.specs.declared.chunk.Note.{Note}
 use Rattle.sq_store.specs.ChunkValue.{ChunkValue, are_within}
-use Rattle.sq_ranges.specs.OpeningValue.{OpeningValue}
+use Rattle.sq_moves.specs.OpeningValue.{OpeningValue}
 use Rattle.sq_model.specs.Tables.{opening_rows}
 use Rattle.sq_model.specs.Links.{has_last}
 use Rattle.sq_model.specs.Orderly.{AreNumbered, Tiles, AreDisjoint}

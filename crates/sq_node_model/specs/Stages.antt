@@ -1,8 +1,8 @@
 -- The links and segments of one stage of a move, and where its notes place a root key.
 use Rattle.std.specs.Prelude.{ℕ, Bool, ◌==◌, ◌&&◌, Option}
 use Rattle.sq_store.specs.declared.chunk.Note.{Note}
-use Rattle.sq_ranges.specs.ReconValue.{stage_on, is_link}
-use Rattle.sq_ranges.specs.OpeningValue.{OpeningValue}
+use Rattle.sq_moves.specs.ReconValue.{stage_on, is_link}
+use Rattle.sq_moves.specs.OpeningValue.{OpeningValue}
 use Rattle.sq_model.specs.Place.{Place, cut_place}
 use Rattle.sq_model.specs.Links.{is_on_link}
 use Rattle.sq_model.specs.Staged.{owner_in}

@@ -1,7 +1,7 @@
 // Laws of what is gathered, whatever the threads did.
 ghost use Rattle.std.specs.Prelude.{◌≡◌, ℕ, List, [], slice_get, Some};
 ghost use Rattle.sq_store.specs.Prelude.{StoreValue};
-ghost use Rattle.sq_ranges.specs.Prelude.{OpeningValue, IsOpening};
+ghost use Rattle.sq_moves.specs.Prelude.{OpeningValue, IsOpening};
 ghost use Rattle.sq_node_model.specs.NodeValue.{NodeValue};
 ghost use Rattle.sq_node_model.specs.Cores.{OpensWith};
 ghost use Rattle.sq_node_model.specs.AtWork.{NewNodesHold};

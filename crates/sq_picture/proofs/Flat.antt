@@ -4,8 +4,8 @@ use Rattle.serde_json.specs.Data.{Data, depth, items_depth}
 use Rattle.serde_json.specs.Read.{max_depth}
 use Rattle.serde_json.specs.View.{items_of}
 use Rattle.serde_json.specs.Written.{has_float, items_have_float}
-use Rattle.sq_ranges.specs.declared.recon.Range.{Range}
-use Rattle.sq_ranges.specs.ReconValue.{ReconValue}
+use Rattle.sq_moves.specs.declared.recon.Range.{Range}
+use Rattle.sq_moves.specs.ReconValue.{ReconValue}
 use Rattle.sq_picture.specs.Json.{moved_range_data, segment_data, moves_data}
 
 are_flat : (data_of : Range → Data) → ((range : Range) → depth (data_of range) ≡ 1) → (ranges : List Range) → items_depth (items_of (map data_of ranges)) ≤ 1

@@ -4,8 +4,8 @@ use Rattle.std.specs.Prelude.{Result, OnOk}
 use Rattle.std.specs.Io.KnownBytes.{Appends}
 use Rattle.std.proofs.KnownBytes.{Appends-trans}
 use Rattle.std.proofs.lemmas.Result.{on_ok_weaker}
-use Rattle.sq_ranges.specs.OpeningValue.{OpeningValue}
-use Rattle.sq_ranges.specs.ReconValue.{ReconValue}
+use Rattle.sq_moves.specs.OpeningValue.{OpeningValue}
+use Rattle.sq_moves.specs.ReconValue.{ReconValue}
 use Rattle.sq_picture.specs.Owners.{range_with, key_range_text, told_leaf, leaf_text, key_owners_text, owner_line}
 
 -- the owners, the range, the leaf that was looked up, and the end of the line

@@ -5,7 +5,7 @@ use Rattle.std.proofs.KnownBytes.{Appends-nil}
 use Rattle.std.specs.Io.KnownBytes.{Appends}
 use Rattle.serde_json.specs.Read.{read}
 use Rattle.serde_json.specs.Written.{compact_text}
-use Rattle.sq_ranges.specs.ReconValue.{ReconValue}
+use Rattle.sq_moves.specs.ReconValue.{ReconValue}
 use Rattle.sq_world.specs.declared.telling.Told.TheVariants.{Written, NoMemory}
 use Rattle.sq_world.specs.Listing.{IsTold}
 use Rattle.sq_picture.specs.Json.{moves_data, TellsAsJson}

@@ -4,7 +4,7 @@ use Rattle.std.specs.Global.{Vec}
 use Rattle.serde_json.specs.Data.{Data}
 use Rattle.serde_json.specs.View.{view}
 use Rattle.serde_json.specs.declared.value.Value.{Value}
-use Rattle.sq_ranges.specs.declared.recon.Range.{Range}
+use Rattle.sq_moves.specs.declared.recon.Range.{Range}
 
 -- those before are written, one for one, and there is room for all
 abbrev pub AreWritten : (Range → Data) → List Range → ℕ → Vec Value → Type 0

@@ -2,9 +2,9 @@
 use Rattle.std.specs.Prelude.{◌≡◌, ℕ, Bool, if◌then◌else◌, List, [], ◌∷◌, ◌++◌, Option, Some, None, find, decimal, codes}
 use Rattle.std.specs.List.{flat_map}
 use Rattle.sq_plan.specs.PlanValue.{owner}
-use Rattle.sq_ranges.specs.declared.recon.Range.{Range}
-use Rattle.sq_ranges.specs.ReconValue.{ReconValue, has_key, leaf_at, stage_in}
-use Rattle.sq_ranges.specs.OpeningValue.{OpeningValue}
+use Rattle.sq_moves.specs.declared.recon.Range.{Range}
+use Rattle.sq_moves.specs.ReconValue.{ReconValue, has_key, leaf_at, stage_in}
+use Rattle.sq_moves.specs.OpeningValue.{OpeningValue}
 
 -- the reconfiguration range that contains a root key
 abbrev pub range_with : ReconValue → ℕ → Option Range

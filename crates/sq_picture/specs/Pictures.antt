@@ -1,7 +1,7 @@
 -- What contracts say of pictures.
 use Rattle.std.specs.Prelude.{ℕ, nat_lt, count_by, List}
-use Rattle.sq_ranges.specs.declared.recon.Range.{Range}
-use Rattle.sq_ranges.specs.ReconValue.{ReconValue}
+use Rattle.sq_moves.specs.declared.recon.Range.{Range}
+use Rattle.sq_moves.specs.ReconValue.{ReconValue}
 
 -- how many segments begin below this key
 abbrev pub begun_below : List Range → ℕ → ℕ

@@ -1,11 +1,11 @@
 -- The sizes that are proposed for a move.
 use Rattle.std.specs.Prelude.{◌≡◌, ◌≢◌, ◌*◌, ◌/◌, ◌-◌, ◌<◌, ◌≤◌, ◌^◌, ℕ, min, max, None, sum_by}
 use Rattle.std.specs.Int.{div_ceil, IsPowerOfTwo}
-use Rattle.sq_ranges.specs.declared.recon.Range.{Range}
-use Rattle.sq_ranges.specs.declared.recon.TheConstants.{MAX_WIDTH}
-use Rattle.sq_ranges.specs.ReconValue.{ReconValue}
-use Rattle.sq_ranges.specs.OpeningValue.{OpeningValue}
-use Rattle.sq_ranges.specs.Between.{recon_fault}
+use Rattle.sq_moves.specs.declared.recon.Range.{Range}
+use Rattle.sq_moves.specs.declared.recon.TheConstants.{MAX_WIDTH}
+use Rattle.sq_moves.specs.ReconValue.{ReconValue}
+use Rattle.sq_moves.specs.OpeningValue.{OpeningValue}
+use Rattle.sq_moves.specs.Between.{recon_fault}
 use Rattle.sq_picture.specs.declared.size.Size.{Size}
 use Rattle.sq_picture.specs.declared.proposal.TheConstants.{LEAVES_OF_MOVE, LEAST_LIMIT, MOST_LIMIT, CHUNKS_OF_MOVE, LARGE_LIMIT}
 use Rattle.sq_picture.specs.Sizes.{in_64_bits}

@@ -2,9 +2,9 @@
 use Rattle.std.specs.Prelude.{ℕ, Bool, ◌==◌, ◌^◌, ◌+◌, ◌-◌, nat_lt, nat_le, min, List, length, map, filter, sum_by, take_while}
 use Rattle.sq_schema.specs.Table.{TableValue}
 use Rattle.sq_schema.specs.Family.{rows_size}
-use Rattle.sq_ranges.specs.declared.recon.Range.{Range}
-use Rattle.sq_ranges.specs.ReconValue.{ReconValue, has_key, stage_in}
-use Rattle.sq_ranges.specs.OpeningValue.{OpeningValue}
+use Rattle.sq_moves.specs.declared.recon.Range.{Range}
+use Rattle.sq_moves.specs.ReconValue.{ReconValue, has_key, stage_in}
+use Rattle.sq_moves.specs.OpeningValue.{OpeningValue}
 use Rattle.sq_picture.specs.Cutting.{chunks_to_cut}
 use Rattle.sq_picture.specs.declared.size.Size.{Size}
 use Rattle.sq_picture.specs.declared.size.MovePart.{MovePart}

@@ -1,11 +1,11 @@
 // What is written about an opening: bytes in, bytes out.
 ghost use Rattle.std.specs.Prelude.{ℕ, List, IfOk};
-ghost use Rattle.sq_ranges.specs.Prelude.{OpeningValue};
+ghost use Rattle.sq_moves.specs.Prelude.{OpeningValue};
 ghost use Rattle.sq_world.specs.Run.{EndsAtFault};
 ghost use Rattle.sq_picture.specs.Asked.{IsToldOf, TellsOpening, TellsOpeningOfLines};
 ghost use Rattle.sq_picture.specs.Asked.{TellsOrRefusesOf};
 
-use sq_ranges::Opening;
+use sq_moves::Opening;
 use sq_schema::{MAX_TABLES, Schema};
 use sq_text::{InputFault, LineReader, LocatedFault, WriteFault, read_header, write_fault};
 use sq_world::{Ending, Told};

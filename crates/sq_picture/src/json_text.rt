@@ -7,7 +7,7 @@ ghost use Rattle.serde_json.specs.Written.{compact_text};
 ghost use Rattle.sq_picture.specs.Json.{moved_range_data, segment_data, moves_data};
 
 use serde_json::{Value, json};
-use sq_ranges::{Range, Recon};
+use sq_moves::{Range, Recon};
 use std::alloc::{AllocError, Global};
 
 // Returns a reconfiguration range as JSON.

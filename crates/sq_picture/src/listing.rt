@@ -4,7 +4,7 @@ ghost use Rattle.sq_picture.specs.Pictures.{IsPicture};
 
 use crate::json_text::moves_json;
 use crate::moves_svg::write_moves_svg;
-use sq_ranges::Recon;
+use sq_moves::Recon;
 use sq_world::{Telling, Told};
 use std::alloc::Global;
 use std::io;

@@ -3,8 +3,8 @@ ghost use Rattle.std.specs.Prelude.{◌≡◌, ◌<◌, ◌^◌};
 ghost use Rattle.sq_picture.specs.Pictures.{begun_below};
 
 use crate::svg::{write_end, write_number, write_start, write_words};
+use sq_moves::{Range, Recon};
 use sq_plan::PartId;
-use sq_ranges::{Range, Recon};
 use std::io;
 use std::io::Write;
 

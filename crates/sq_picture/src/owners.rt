@@ -6,9 +6,8 @@ ghost use Rattle.sq_picture.specs.Owners.{range_with, key_range_text, told_leaf,
 ghost use Rattle.sq_picture.specs.Owners.{key_owners_text, owner_line, IsOwnersText};
 
 use crate::asked::OpeningTelling;
-use sq_ranges::{Opening, Range, Recon, SegId};
+use sq_moves::{Leaf, Opening, Range, Recon, SegId};
 use sq_schema::Root;
-use sq_tree::Leaf;
 use sq_world::Told;
 use std::alloc::Global;
 use std::io;

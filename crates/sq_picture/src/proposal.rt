@@ -1,12 +1,12 @@
 // Sizes that suit the move of an opening.
 ghost use Rattle.std.specs.Prelude.{◌≡◌, ◌<◌, ◌≤◌, None};
-ghost use Rattle.sq_ranges.specs.Between.{recon_fault};
-ghost use Rattle.sq_ranges.specs.Refused.{HasFitSizes};
+ghost use Rattle.sq_moves.specs.Between.{recon_fault};
+ghost use Rattle.sq_moves.specs.Refused.{HasFitSizes};
 ghost use Rattle.sq_picture.specs.Sizes.{in_64_bits, move_size, size_in_64_bits};
 ghost use Rattle.sq_picture.specs.Proposal.{keys_moved, IsWidthFor, chunk_bytes, IsLimitFor};
 
 use crate::size::Size;
-use sq_ranges::{Config, LOG_LIMIT, MAX_WIDTH, Opening, Recon};
+use sq_moves::{Config, LOG_LIMIT, MAX_WIDTH, Opening, Recon};
 
 // How many leaves the root keys that move are to make, at most.
 const LEAVES_OF_MOVE: u64 = 4_096;

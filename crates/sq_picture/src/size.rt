@@ -5,7 +5,7 @@ ghost use Rattle.sq_picture.specs.Sizes.{entries_size, segment_size, sum_of_size
 ghost use Rattle.sq_picture.specs.Sizes.{part_size, move_size, size_in_64_bits, sum_in_64_bits};
 
 use crate::cutting::Cutting;
-use sq_ranges::{Opening, Range, Recon};
+use sq_moves::{Opening, Range, Recon};
 use sq_schema::{EntryIter, Root, Rows};
 
 /// The size of a part of a move. Each number stays at the largest 64-bit number if it doesn't fit.

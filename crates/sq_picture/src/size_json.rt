@@ -2,7 +2,7 @@
 use crate::proposal::proposal;
 use crate::size::{MovePart, Size};
 use serde_json::{Value, json};
-use sq_ranges::{Config, Opening, Range};
+use sq_moves::{Config, Opening, Range};
 use std::alloc::{AllocError, Global};
 
 /// Returns the size of a move as compact JSON: an object with the members `config` (the sizes that

@@ -1,7 +1,7 @@
 // The size of a move as lines.
 use crate::proposal::proposal;
 use crate::size::{MovePart, Size};
-use sq_ranges::{Config, Opening, Range};
+use sq_moves::{Config, Opening, Range};
 use std::io;
 use std::io::Write;
 

@@ -5,7 +5,7 @@ use crate::moves_svg::{
 };
 use crate::size::{MovePart, Size};
 use crate::svg::write_end;
-use sq_ranges::{Opening, Range};
+use sq_moves::{Opening, Range};
 use std::io;
 use std::io::Write;
 

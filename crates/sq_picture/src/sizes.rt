@@ -5,7 +5,7 @@ use crate::asked::OpeningTelling;
 use crate::size_json::sizes_json;
 use crate::size_lines::write_lines;
 use crate::size_svg::write_picture;
-use sq_ranges::Opening;
+use sq_moves::Opening;
 use sq_world::Told;
 use std::alloc::Global;
 use std::io;

@@ -3,11 +3,11 @@ use crate::printing::print_text;
 use crate::unfinished::Unfinished;
 use sq_gather::{ClosedLink, Gathered};
 use sq_model::Answer;
+use sq_moves::{NODES, NodeId, Status};
 use sq_node::Receipt;
 use sq_plan::PartId;
 use sq_store::{FamilyStore, SlabStore};
 use sq_text::{WriteFault, write_answer, write_at, write_way};
-use sq_tree::{NODES, NodeId, Status};
 use std::alloc::Global;
 use std::io::Write;
 

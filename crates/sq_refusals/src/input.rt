@@ -1,7 +1,7 @@
 // Reads what the calls are given.
 use crate::unfinished::Unfinished;
 use sq_model::Step;
-use sq_ranges::Opening;
+use sq_moves::Opening;
 use sq_schema::Schema;
 use sq_text::{LineReader, MAX_LINE, Next, read_header, read_step};
 use std::alloc::Global;

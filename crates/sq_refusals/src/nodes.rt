@@ -6,11 +6,10 @@ use crate::hand_run::{HandRun, Left};
 use crate::lines::read_opening;
 use crate::printing::{print_line, print_refused};
 use crate::unfinished::Unfinished;
+use sq_moves::{Link, NodeId};
 use sq_plan::PartId;
-use sq_ranges::Link;
 use sq_schema::Txn;
 use sq_shared::{RecvPass, SendPass, SharedLink, StatusTree, TreeSeat};
-use sq_tree::NodeId;
 use std::alloc::{AllocError, Global};
 use std::sync::Wait;
 

@@ -3,7 +3,7 @@ use crate::input::{read_all, read_script};
 use crate::printing::{say, value_of};
 use crate::unfinished::Unfinished;
 use sq_model::{Answer, Refusal, Step};
-use sq_ranges::Opening;
+use sq_moves::Opening;
 use sq_text::{WriteFault, write_answer};
 use sq_world::{ScriptManner, World, run, run_world};
 use std::alloc::Global;

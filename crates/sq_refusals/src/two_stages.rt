@@ -12,7 +12,7 @@ use crate::printing::{print_line, print_refused, value_of};
 use crate::unfinished::Unfinished;
 use sq_audit::{Defect, Folded, Job, Unchanged, Unfolded, Verdict, audit, fold, fold_in_threads};
 use sq_gather::{Gathered, Receipt, reopen};
-use sq_ranges::Opening;
+use sq_moves::Opening;
 use std::alloc::Global;
 use std::sync::Wait;
 use std::thread::Threads;

@@ -4,8 +4,8 @@ use Rattle.std.specs.Prelude.{Option, Some, None, unwrap_or, Result, Ok, Err, If
 use Rattle.sq_text.proofs.Appending.{both}
 use Rattle.sq_text.specs.Texts.{refused_line}
 use Rattle.sq_plan.specs.PlanValue.{PlanValue}
-use Rattle.sq_ranges.specs.declared.fault.ReconFault.{ReconFault}
-use Rattle.sq_ranges.specs.Fault.{recon_fault_number}
+use Rattle.sq_moves.specs.declared.ranges_fault.ReconFault.{ReconFault}
+use Rattle.sq_moves.specs.RangesFault.{recon_fault_number}
 use Rattle.sq_schema.specs.Fault.{memory_number}
 use Rattle.sq_engine.specs.Values.{EngineValue}
 use Rattle.sq_engine.specs.declared.engine.NotEnded.{NotEnded}

@@ -1,6 +1,6 @@
 -- What holds of an engine that was served until it ended.
 use Rattle.std.proofs.Common.{◌≡◌, ⊎_elim, ℕ, ◌<◌, ◌^◌, Bool, List, [], ◌∷◌, ◌++◌, sym, ap, subst, ◌∙◌, append-nil, arith}
-use Rattle.sq_ranges.specs.OpeningValue.{OpeningValue}
+use Rattle.sq_moves.specs.OpeningValue.{OpeningValue}
 use Rattle.sq_engine.specs.declared.event.Event.{Event}
 use Rattle.sq_engine.specs.declared.event.Event.TheVariants.{MovesTo}
 use Rattle.sq_engine.specs.declared.serving.EpochEnd.{EpochEnd}

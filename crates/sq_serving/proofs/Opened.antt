@@ -1,7 +1,7 @@
 -- An engine that is opened and served, with its desk.
 use Rattle.std.proofs.Common.{⊎_elim, inl, inr, ℕ, Bool, List, sym, subst}
 use Rattle.std.specs.Prelude.{Option}
-use Rattle.sq_ranges.specs.OpeningValue.{OpeningValue}
+use Rattle.sq_moves.specs.OpeningValue.{OpeningValue}
 use Rattle.sq_serving.specs.declared.ending.ServeEnding.{ServeEnding}
 use Rattle.sq_serving.specs.declared.outlet.Outlet.{Outlet}
 use Rattle.sq_serving.specs.Service.{first_desk, ServesNone, ServesOpening, ServesSome}

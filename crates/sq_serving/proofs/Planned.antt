@@ -1,6 +1,6 @@
 -- Where an engine that was served ends, and what its desk wrote by then.
 use Rattle.std.proofs.Common.{◌≡◌, inl, inr, ℕ, Bool, List, [], ◌∷◌, ap, ◌∙◌}
-use Rattle.sq_ranges.specs.OpeningValue.{OpeningValue}
+use Rattle.sq_moves.specs.OpeningValue.{OpeningValue}
 use Rattle.sq_engine.specs.declared.event.Event.{Event}
 use Rattle.sq_engine.specs.Values.{EngineValue}
 use Rattle.sq_engine.proofs.Endings.{ends_as_planned}

@@ -5,7 +5,7 @@ use Rattle.std.specs.List.{flat_map}
 use Rattle.std.proofs.lemmas.Grind.{flat_map-append}
 use Rattle.sq_text.proofs.Appending.{both}
 use Rattle.sq_plan.specs.PlanValue.{PlanValue}
-use Rattle.sq_ranges.specs.OpeningValue.{OpeningValue}
+use Rattle.sq_moves.specs.OpeningValue.{OpeningValue}
 use Rattle.sq_engine.specs.declared.engine.NotMoved.{NotMoved}
 use Rattle.sq_engine.specs.declared.engine.NotMoved.TheVariants as why
 use Rattle.sq_engine.specs.declared.engine.NotEnded.{NotEnded}

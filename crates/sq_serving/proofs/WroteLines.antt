@@ -5,7 +5,7 @@ use Rattle.std.specs.List.{flat_map}
 use Rattle.std.specs.Io.KnownBytes.{Appends}
 use Rattle.sq_node_model.specs.NodeValue.{ReceiptValue}
 use Rattle.sq_text.proofs.Appending.{both}
-use Rattle.sq_ranges.specs.OpeningValue.{OpeningValue, unlimited}
+use Rattle.sq_moves.specs.OpeningValue.{OpeningValue, unlimited}
 use Rattle.sq_engine.specs.Events.{answers_in}
 use Rattle.sq_engine.specs.Ending.{commits_in}
 use Rattle.sq_engine.specs.Values.{EngineValue}

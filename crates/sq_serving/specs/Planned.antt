@@ -1,6 +1,6 @@
 -- Where an engine that was served ends.
 use Rattle.std.specs.Prelude.{◌≡◌, ◌<◌, ◌^◌, ℕ, Bool, List}
-use Rattle.sq_ranges.specs.OpeningValue.{OpeningValue}
+use Rattle.sq_moves.specs.OpeningValue.{OpeningValue}
 use Rattle.sq_engine.specs.Values.{EngineValue}
 use Rattle.sq_engine.specs.Engine.{IsReached, HasOpened, HasClosed}
 use Rattle.sq_engine.specs.Events.{answers_in}

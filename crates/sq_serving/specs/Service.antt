@@ -3,7 +3,7 @@ use Rattle.std.specs.Prelude.{◌≡◌, ◌⊎◌, false, ℕ, ◌^◌, ◌<◌
 use Rattle.std.specs.List.{flat_map}
 use Rattle.std.specs.Io.KnownBytes.{Appends}
 use Rattle.sq_plan.specs.PlanValue.{PlanValue}
-use Rattle.sq_ranges.specs.OpeningValue.{OpeningValue, unlimited}
+use Rattle.sq_moves.specs.OpeningValue.{OpeningValue, unlimited}
 use Rattle.sq_engine.specs.Values.{EngineValue}
 use Rattle.sq_engine.specs.Engine.{HasOpened}
 use Rattle.sq_engine.specs.Ending.{commits_in}

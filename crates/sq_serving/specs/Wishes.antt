@@ -2,9 +2,9 @@
 use Rattle.std.specs.Prelude.{◌≡◌, ◌⊎◌, ℕ, Bool, true, false, List, ◌++◌, length, Option, None, Some, Result, OnOk, IfSome}
 use Rattle.std.specs.Io.KnownBytes.{Appends}
 use Rattle.sq_plan.specs.PlanValue.{PlanValue}
-use Rattle.sq_ranges.specs.declared.fault.ReconFault.{ReconFault}
-use Rattle.sq_ranges.specs.Fault.{recon_fault_number}
-use Rattle.sq_ranges.specs.Between.{recon_fault}
+use Rattle.sq_moves.specs.declared.ranges_fault.ReconFault.{ReconFault}
+use Rattle.sq_moves.specs.RangesFault.{recon_fault_number}
+use Rattle.sq_moves.specs.Between.{recon_fault}
 use Rattle.sq_text.specs.Texts.{refused_line}
 use Rattle.sq_engine.specs.Values.{EngineValue}
 use Rattle.sq_engine.specs.declared.engine.NotMoved.{NotMoved}

@@ -8,7 +8,7 @@ use crate::faulty_header::{FaultyHeader, HeaderLine};
 use crate::feed::{Fed, give};
 use crate::line_place::{HeaderFault, LinePlace, LinePlaces};
 use rtrb::Producer;
-use sq_ranges::Opening;
+use sq_moves::Opening;
 use sq_text::{InputFault, LocatedFault};
 use std::alloc::Global;
 use std::sync::{Arc, Wait};

@@ -8,7 +8,7 @@ use crate::line_place::LinePlaces;
 use crate::plan_line::{header_start, line_at, on_later_line, on_one_line, unread_line};
 use crate::portions::Portions;
 use crate::serve_word::begins_serve_line;
-use sq_ranges::Opening;
+use sq_moves::Opening;
 use sq_schema::Schema;
 use sq_text::{
     InputFault, LineReader, LocatedFault, MAX_LINE, MAX_LINES, MAX_UNENDED, Next, read_header,

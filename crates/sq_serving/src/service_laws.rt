@@ -1,7 +1,7 @@
 //! Laws about engines that were served. The functions do nothing: each states a law, which the
 //! checker proves.
 ghost use Rattle.std.specs.Prelude.{◌≡◌, ◌++◌, Bool, List};
-ghost use Rattle.sq_ranges.specs.Prelude.{OpeningValue};
+ghost use Rattle.sq_moves.specs.Prelude.{OpeningValue};
 ghost use Rattle.sq_engine.specs.Values.{EngineValue};
 ghost use Rattle.sq_serving.specs.declared.ending.ServeEnding.{ServeEnding};
 ghost use Rattle.sq_serving.specs.Becoming.{ServeDeskValue};

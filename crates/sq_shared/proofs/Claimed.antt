@@ -10,7 +10,7 @@ use Rattle.std.proofs.lemmas.Option.{get_or_from_slice_get, slice_get-get_or, sl
 use Rattle.sq_shared.specs.declared.view.View.{View}
 use Rattle.sq_shared.specs.Seat.{SeatValue}
 use Rattle.sq_shared.specs.Walks.{ClaimedOnly}
-use Rattle.sq_ranges.specs.ReconValue.{ReconValue}
+use Rattle.sq_moves.specs.ReconValue.{ReconValue}
 use Rattle.sq_shared.specs.declared.request.Request.{Request}
 use Rattle.sq_shared.specs.declared.request.PendingRequest.{PendingRequest}
 use Rattle.sq_shared.specs.Wins.{WinsValue, request_for, AddsWin, Sends, IsWonClaim, AreWonClaims}

@@ -6,14 +6,14 @@ use Rattle.std.proofs.lemmas.List.{length-replicate, length-map}
 use Rattle.std.proofs.lemmas.List.FromFn.{fill_by_all}
 use Rattle.std.proofs.Math.ListN.{get_or-map}
 use Rattle.atomic_table.specs.Table.{Final, Seen}
-use Rattle.sq_tree.specs.declared.status.Status.{Status}
-use Rattle.sq_tree.specs.declared.status.Status.TheVariants.{Free, Split, Claimed, Partial, Complete}
-use Rattle.sq_tree.specs.Status.{word_of, pull_of, is_past}
-use Rattle.sq_tree.proofs.Placed.{status_at-free}
-use Rattle.sq_tree.proofs.Words.{same_status}
+use Rattle.sq_moves.specs.declared.status.Status.{Status}
+use Rattle.sq_moves.specs.declared.status.Status.TheVariants.{Free, Split, Claimed, Partial, Complete}
+use Rattle.sq_moves.specs.Status.{word_of, pull_of, is_past}
+use Rattle.sq_moves.proofs.Placed.{status_at-free}
+use Rattle.sq_moves.proofs.Words.{same_status}
 use Rattle.sq_shared.specs.declared.view.View.{View}
 use Rattle.sq_shared.specs.View.{one_if, fresh, times, times_with, times_won, HasSeen, HasNoLists, alive}
-use Rattle.sq_tree.specs.Tree.{status_at}
+use Rattle.sq_moves.specs.Tree.{status_at}
 use Rattle.sq_shared.specs.Rule.{IsTreeOf, Kept}
 use Rattle.sq_shared.proofs.Exchanges.{Table}
 use Rattle.sq_shared.proofs.Totals.{only_total, two_le_total}

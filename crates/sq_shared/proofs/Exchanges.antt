@@ -7,13 +7,13 @@ use Rattle.std.proofs.lemmas.List.{set-get_or, map-set}
 use Rattle.std.proofs.Math.ListN.{get_or-map}
 use Rattle.atomic_table.specs.Table.{State, Me, Act, keeps, Valid, step, stepped, carried_after, Allows}
 use Rattle.atomic_table.proofs.Lists.{exchanged}
-use Rattle.sq_tree.specs.declared.status.Status.{Status}
-use Rattle.sq_tree.specs.declared.status.Status.TheVariants.{Free}
-use Rattle.sq_tree.specs.Status.{word_of, before}
-use Rattle.sq_tree.proofs.Words.{same_status}
+use Rattle.sq_moves.specs.declared.status.Status.{Status}
+use Rattle.sq_moves.specs.declared.status.Status.TheVariants.{Free}
+use Rattle.sq_moves.specs.Status.{word_of, before}
+use Rattle.sq_moves.proofs.Words.{same_status}
 use Rattle.sq_shared.specs.declared.view.View.{View}
 use Rattle.sq_shared.specs.View.{saw, won}
-use Rattle.sq_tree.specs.Tree.{status_at}
+use Rattle.sq_moves.specs.Tree.{status_at}
 use Rattle.sq_shared.specs.Rule.{IsTreeOf, Kept}
 use Rattle.sq_shared.specs.Plays.{IsLater, MayBring, Found, Won, Looked, Advanced}
 use Rattle.sq_shared.proofs.Steps.{is_later, fits, look_kept, status_at-set, win_kept}

@@ -9,8 +9,8 @@ use Rattle.std.proofs.lemmas.List.Elements.{filter-append}
 use Rattle.std.proofs.lemmas.List.Folds.{list_all-append}
 use Rattle.sq_shared.specs.declared.view.View.{View}
 use Rattle.sq_shared.specs.Seat.{SeatValue}
-use Rattle.sq_ranges.specs.ReconValue.{ReconValue, stage_at}
-use Rattle.sq_ranges.specs.declared.segment.TheConstants.{SEGMENT_LIMIT}
+use Rattle.sq_moves.specs.ReconValue.{ReconValue, stage_at}
+use Rattle.sq_moves.specs.declared.segment.TheConstants.{SEGMENT_LIMIT}
 use Rattle.sq_shared.specs.declared.numbers.TheConstants.{MAX_OWNERS}
 use Rattle.sq_shared.specs.Pump.{PumpValue, stage_round, new_pump, next_asynchronous, WinsNext, SkipsNext, OnlySends, IsPump}
 use Rattle.sq_shared.specs.Seats.{StepsAt, ClaimsAny}

@@ -5,15 +5,15 @@ use native.Mathlib.Decide.{dec_le}
 use Rattle.std.specs.Prelude.{IsTrue, nat_le, ◌&&◌}
 use Rattle.std.proofs.lemmas.List.Elements.{Contains-append_left, Contains-append_right}
 use Rattle.std.proofs.lemmas.Bool.Decides.{nat_tests}
-use Rattle.sq_tree.specs.declared.status.Status.{Status}
-use Rattle.sq_tree.specs.declared.status.Status.TheVariants.{Split, Claimed}
-use Rattle.sq_tree.specs.Node.{parent, span, first_leaf, is_above, is_under}
+use Rattle.sq_moves.specs.declared.status.Status.{Status}
+use Rattle.sq_moves.specs.declared.status.Status.TheVariants.{Split, Claimed}
+use Rattle.sq_moves.specs.Node.{parent, span, first_leaf, is_above, is_under}
 use Rattle.sq_shared.specs.declared.view.View.{View}
 use Rattle.sq_shared.specs.View.{HasSeen}
 use Rattle.sq_shared.specs.Plays.{KnowsSplit, Found, Won}
 use Rattle.sq_shared.specs.Walks.{is_taken, Added, HeldAbove, nodes_under, Searched}
 use Rattle.sq_shared.proofs.Sights.{HasSeen-saw_new}
-use Rattle.sq_tree.proofs.Nested.{Halves, above_bounds, above_within}
+use Rattle.sq_moves.proofs.Nested.{Halves, above_bounds, above_within}
 use Rattle.sq_shared.proofs.Walking.{Added-none, Added-found, Added-then, knows_added, itself}
 
 -- what the tests on leaves say

@@ -3,9 +3,9 @@ use Rattle.std.proofs.Common.{◌≡◌, ◌≢◌, ℕ, zero, suc, ◌+◌, ◌
 use Rattle.std.specs.List.{Contains}
 use Rattle.std.proofs.lemmas.List.Elements.{Contains-append_cases}
 use Rattle.std.proofs.lemmas.Bool.Decides.{nat_tests}
-use Rattle.sq_tree.specs.declared.status.Status.{Status}
-use Rattle.sq_tree.specs.declared.status.Status.TheVariants.{Free, Split, Claimed, Partial, Complete}
-use Rattle.sq_tree.specs.Status.{is_past, before}
+use Rattle.sq_moves.specs.declared.status.Status.{Status}
+use Rattle.sq_moves.specs.declared.status.Status.TheVariants.{Free, Split, Claimed, Partial, Complete}
+use Rattle.sq_moves.specs.Status.{is_past, before}
 use Rattle.sq_shared.specs.declared.view.View.{View}
 use Rattle.sq_shared.specs.View.{one_if, times, times_with, times_won, won, saw, HasSeen, SameRole}
 use Rattle.sq_shared.specs.Rule.{IsPast}

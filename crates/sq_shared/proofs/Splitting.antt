@@ -1,11 +1,11 @@
 -- A seat that splits a node, or tries to, claims none.
 use Rattle.std.proofs.Common.{◌≡◌, ℕ, Bool, true, false, [], ap, ◌∙◌, inl, inr, Result, Ok, Err}
 use Rattle.std.specs.Prelude.{MatchBool, MatchResult, ◌==◌}
-use Rattle.sq_tree.specs.declared.fault.SplitFault.{SplitFault}
-use Rattle.sq_tree.specs.declared.fault.SplitFault.TheVariants as split
-use Rattle.sq_tree.specs.declared.status.Status.{Status}
-use Rattle.sq_tree.specs.declared.status.Status.TheVariants.{Split}
-use Rattle.sq_tree.specs.Prelude.{parent, is_leaf}
+use Rattle.sq_moves.specs.declared.tree_fault.SplitFault.{SplitFault}
+use Rattle.sq_moves.specs.declared.tree_fault.SplitFault.TheVariants as split
+use Rattle.sq_moves.specs.declared.status.Status.{Status}
+use Rattle.sq_moves.specs.declared.status.Status.TheVariants.{Split}
+use Rattle.sq_moves.specs.Prelude.{parent, is_leaf}
 use Rattle.sq_shared.specs.declared.view.View.{View}
 use Rattle.sq_shared.specs.Plays.{Found, Won}
 use Rattle.sq_shared.specs.Calls.{FoundLive, WonLive, FoundNotFree, SplitRefused}

@@ -7,13 +7,13 @@ use lib.ListN.{get_elem?}
 use Rattle.std.specs.List.{Contains}
 use Rattle.std.proofs.lemmas.List.{get_or-set_same, get_or-set_other, length-set}
 use Rattle.atomic_table.proofs.Lists.{at_set}
-use Rattle.sq_tree.specs.declared.status.Status.{Status}
-use Rattle.sq_tree.specs.declared.status.Status.TheVariants.{Free, Split, Claimed, Partial, Complete}
-use Rattle.sq_tree.specs.Node.{parent}
-use Rattle.sq_tree.specs.Status.{pull_of, is_past, before}
+use Rattle.sq_moves.specs.declared.status.Status.{Status}
+use Rattle.sq_moves.specs.declared.status.Status.TheVariants.{Free, Split, Claimed, Partial, Complete}
+use Rattle.sq_moves.specs.Node.{parent}
+use Rattle.sq_moves.specs.Status.{pull_of, is_past, before}
 use Rattle.sq_shared.specs.declared.view.View.{View}
 use Rattle.sq_shared.specs.View.{one_if, times_won, won, saw, HasSeen, HasNoLists, SameRole, alive, total}
-use Rattle.sq_tree.specs.Tree.{status_at}
+use Rattle.sq_moves.specs.Tree.{status_at}
 use Rattle.sq_shared.specs.Rule.{IsPast, IsTreeOf}
 use Rattle.sq_shared.specs.Plays.{IsStatusOf, IsLater, KnowsSplit, MayBring}
 use Rattle.sq_shared.proofs.Totals.{total_set, own_le_total}

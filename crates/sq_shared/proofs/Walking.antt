@@ -6,10 +6,10 @@ use Rattle.std.specs.Prelude.{IsTrue}
 use Rattle.std.specs.List.{Contains}
 use Rattle.std.proofs.lemmas.List.Elements.{Contains-append_left, Contains-append_right, Contains-append_cases}
 use Rattle.std.proofs.lemmas.Bool.Decides.{nat_tests}
-use Rattle.sq_tree.specs.declared.status.Status.{Status}
-use Rattle.sq_tree.specs.declared.status.Status.TheVariants.{Free, Split, Claimed, Partial, Complete}
-use Rattle.sq_tree.specs.Node.{parent, node_above}
-use Rattle.sq_tree.proofs.Nested.{node_above_covers}
+use Rattle.sq_moves.specs.declared.status.Status.{Status}
+use Rattle.sq_moves.specs.declared.status.Status.TheVariants.{Free, Split, Claimed, Partial, Complete}
+use Rattle.sq_moves.specs.Node.{parent, node_above}
+use Rattle.sq_moves.proofs.Nested.{node_above_covers}
 use Rattle.sq_shared.specs.declared.view.View.{View}
 use Rattle.sq_shared.specs.View.{times, times_won, HasSeen}
 use Rattle.sq_shared.specs.Plays.{IsLater, KnowsSplit, MayBring, Found, Won}

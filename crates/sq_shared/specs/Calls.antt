@@ -1,16 +1,16 @@
 -- How each call changes its seat's view: what it won, and what each of its refusals shows.
 use Rattle.std.specs.Prelude.{◌≡◌, ◌≢◌, ℕ, ◌<◌, ◌==◌, false, IsTrue, MatchBool}
-use Rattle.sq_tree.specs.declared.status.Status.{Status}
-use Rattle.sq_tree.specs.declared.status.Status.TheVariants.{Free, Split, Claimed, Partial}
-use Rattle.sq_tree.specs.declared.fault.SplitFault.{SplitFault}
-use Rattle.sq_tree.specs.declared.fault.SplitFault.TheVariants as split
-use Rattle.sq_tree.specs.declared.fault.ClaimFault.{ClaimFault}
-use Rattle.sq_tree.specs.declared.fault.ClaimFault.TheVariants as claim
-use Rattle.sq_tree.specs.declared.fault.BeginFault.{BeginFault}
-use Rattle.sq_tree.specs.declared.fault.BeginFault.TheVariants as begin
-use Rattle.sq_tree.specs.declared.fault.CompleteFault.{CompleteFault}
-use Rattle.sq_tree.specs.declared.fault.CompleteFault.TheVariants as complete
-use Rattle.sq_tree.specs.Node.{is_leaf, parent}
+use Rattle.sq_moves.specs.declared.status.Status.{Status}
+use Rattle.sq_moves.specs.declared.status.Status.TheVariants.{Free, Split, Claimed, Partial}
+use Rattle.sq_moves.specs.declared.tree_fault.SplitFault.{SplitFault}
+use Rattle.sq_moves.specs.declared.tree_fault.SplitFault.TheVariants as split
+use Rattle.sq_moves.specs.declared.tree_fault.ClaimFault.{ClaimFault}
+use Rattle.sq_moves.specs.declared.tree_fault.ClaimFault.TheVariants as claim
+use Rattle.sq_moves.specs.declared.tree_fault.BeginFault.{BeginFault}
+use Rattle.sq_moves.specs.declared.tree_fault.BeginFault.TheVariants as begin
+use Rattle.sq_moves.specs.declared.tree_fault.CompleteFault.{CompleteFault}
+use Rattle.sq_moves.specs.declared.tree_fault.CompleteFault.TheVariants as complete
+use Rattle.sq_moves.specs.Node.{is_leaf, parent}
 use Rattle.sq_shared.specs.declared.view.View.{View}
 use Rattle.sq_shared.specs.Plays.{Found, Won}
 

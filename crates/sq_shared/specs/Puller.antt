@@ -1,6 +1,6 @@
 -- The reactive pulls of a partition, and the outcome of one.
 use Rattle.std.specs.Prelude.{◌≡◌, ℕ, ◌<◌, Bool, List}
-use Rattle.sq_ranges.specs.ReconValue.{ReconValue}
+use Rattle.sq_moves.specs.ReconValue.{ReconValue}
 use Rattle.sq_shared.specs.declared.tree.walks.LeafClaim.TheVariants as claim
 use Rattle.sq_shared.specs.Seat.{SeatValue}
 use Rattle.sq_shared.specs.declared.numbers.TheConstants.{MAX_CLAIMS}

@@ -2,8 +2,8 @@
 use Rattle.std.specs.Prelude.{◌≡◌, ◌≢◌, ℕ, ◌<◌, ◌≤◌, ◌⊎◌, true, ◌==◌, nat_lt, List, [], ◌∷◌, ◌++◌, length, filter, slice_get, Some, None, MatchOption}
 use Rattle.std.specs.List.{list_all, range_with_len}
 use Rattle.atomic_table.specs.Seated.{TableId}
-use Rattle.sq_ranges.specs.declared.segment.TheConstants.{SEGMENT_LIMIT}
-use Rattle.sq_ranges.specs.ReconValue.{ReconValue, stage_at}
+use Rattle.sq_moves.specs.declared.segment.TheConstants.{SEGMENT_LIMIT}
+use Rattle.sq_moves.specs.ReconValue.{ReconValue, stage_at}
 use Rattle.sq_shared.specs.Seat.{SeatValue}
 use Rattle.sq_shared.specs.declared.numbers.TheConstants.{MAX_OWNERS, MAX_CLAIMS}
 use Rattle.sq_shared.specs.declared.pump.PumpTurn.{PumpTurn}

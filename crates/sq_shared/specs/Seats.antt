@@ -1,8 +1,8 @@
 -- The seats of an owner, one for each segment, and how a step changes them.
 use Rattle.std.specs.Prelude.{◌≡◌, ℕ, ◌⊎◌, List, [], map, slice_get, slice_set, Some, Option}
 use Rattle.atomic_table.specs.Seated.{TableId}
-use Rattle.sq_tree.specs.declared.fault.SplitFault.{SplitFault}
-use Rattle.sq_tree.specs.declared.status.Status.TheVariants.{Split}
+use Rattle.sq_moves.specs.declared.tree_fault.SplitFault.{SplitFault}
+use Rattle.sq_moves.specs.declared.status.Status.TheVariants.{Split}
 use Rattle.sq_shared.specs.Calls.{WonLive, SplitRefused}
 use Rattle.sq_shared.specs.declared.view.View.{View}
 use Rattle.sq_shared.specs.declared.tree.walks.LeafClaim.{LeafClaim}

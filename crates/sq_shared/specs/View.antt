@@ -1,7 +1,7 @@
 -- What a seat has done and seen, and how a step changes it.
 use Rattle.std.specs.Prelude.{◌≡◌, ℕ, ◌+◌, Bool, not, ◌==◌, ◌&&◌, if◌then◌else◌, List, [], ◌∷◌, ◌++◌, length, Contains}
-use Rattle.sq_tree.specs.declared.status.Status.{Status}
-use Rattle.sq_tree.specs.declared.status.Status.TheVariants.{Free, Split, Claimed, Partial, Complete}
+use Rattle.sq_moves.specs.declared.status.Status.{Status}
+use Rattle.sq_moves.specs.declared.status.Status.TheVariants.{Free, Split, Claimed, Partial, Complete}
 use Rattle.sq_shared.specs.declared.view.View.{View}
 
 -- the view of a seat that has done nothing

@@ -1,8 +1,8 @@
 -- The claims that a partition or a pump won, and the requests for them.
 use Rattle.std.specs.Prelude.{◌≡◌, ℕ, ◌+◌, Bool, List, [], ◌∷◌, ◌++◌, length, slice_get, Some, Contains, All}
 use Rattle.std.specs.List.{items_where_true}
-use Rattle.sq_ranges.specs.declared.recon.Range.{Range}
-use Rattle.sq_ranges.specs.ReconValue.{ReconValue}
+use Rattle.sq_moves.specs.declared.recon.Range.{Range}
+use Rattle.sq_moves.specs.ReconValue.{ReconValue}
 use Rattle.sq_shared.specs.Seat.{SeatValue}
 use Rattle.sq_shared.specs.declared.request.Request.{Request}
 use Rattle.sq_shared.specs.declared.request.PendingRequest.{PendingRequest}

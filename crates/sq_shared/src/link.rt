@@ -5,8 +5,8 @@ ghost use Rattle.sq_shared.specs.Order.{IsEndOf, ComesAfter};
 
 use crate::order::{Ends, LinkQueue, Receives, Sends};
 use crate::pass::{LinkPass, RecvPass, SendPass};
+use sq_moves::Link;
 use sq_plan::PartId;
-use sq_ranges::Link;
 use sq_store::Chunk;
 use std::alloc::{AllocError, Global};
 use std::marker::Model;

@@ -1,6 +1,6 @@
 // Pumps.
 ghost use Rattle.std.specs.Prelude.{◌≡◌, ◌≢◌, ◌↔◌, ◌<◌, ◌≤◌, [], true, length, map, slice_get, IsTrue, IfOk, IfErr, OnErr};
-ghost use Rattle.sq_ranges.specs.declared.segment.TheConstants.{SEGMENT_LIMIT};
+ghost use Rattle.sq_moves.specs.declared.segment.TheConstants.{SEGMENT_LIMIT};
 ghost use Rattle.sq_shared.specs.Seats.{AreSeatsOf, OnlyClaimed};
 ghost use Rattle.sq_shared.specs.Pump.{stage_round};
 
@@ -11,8 +11,7 @@ use crate::shared::Shared;
 use crate::tree::TreeSeat;
 use crate::wins::Wins;
 use crossbeam_queue::ArrayQueue;
-use sq_ranges::{Recon, SegId};
-use sq_tree::NodeId;
+use sq_moves::{NodeId, Recon, SegId};
 use std::alloc::{AllocError, Global};
 use std::collections::VecDeque;
 use std::marker::Model;

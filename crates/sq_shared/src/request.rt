@@ -1,7 +1,6 @@
 // Requests from one partition to another.
+use sq_moves::{NodeId, Recon, SegId};
 use sq_plan::PartId;
-use sq_ranges::{Recon, SegId};
-use sq_tree::NodeId;
 
 /// A request to begin a node of a segment for a pull. Its numbers are not checked: the partition
 /// that takes it looks at the node, whose status alone decides.
@@ -25,7 +24,7 @@ pub struct PendingRequest {
 
 impl PendingRequest {
     ghost use Rattle.std.specs.Prelude.{◌≡◌, ◌<◌, length, slice_get, Some};
-    ghost use Rattle.sq_ranges.specs.declared.recon.Range.{Range};
+    ghost use Rattle.sq_moves.specs.declared.recon.Range.{Range};
     ghost use Rattle.sq_shared.specs.Wins.{request_for};
 
     /// Returns the request of pull `pull` for node `node` of segment `seg`.

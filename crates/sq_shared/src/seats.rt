@@ -3,8 +3,7 @@ ghost use Rattle.std.specs.Prelude.{◌<◌, length};
 ghost use Rattle.sq_shared.specs.Seats.{AreSeatsOf, StepsAt, ClaimsLeaf, ClaimsAny, TriesSplit, OnlyClaimed};
 
 use crate::tree::{LeafClaim, StatusTree, TreeSeat};
-use sq_ranges::SegId;
-use sq_tree::{Leaf, NodeId};
+use sq_moves::{Leaf, NodeId, SegId};
 
 /// Claims the node of `leaf` in segment `seg` for `pull`.
 pub(crate) fn claim_leaf(

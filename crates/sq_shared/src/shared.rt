@@ -2,7 +2,7 @@
 use crate::request::Request;
 use crate::tree::StatusTree;
 use crossbeam_queue::ArrayQueue;
-use sq_ranges::Recon;
+use sq_moves::Recon;
 
 /// What all partitions and pumps of a reconfiguration share.
 #[derive(Clone, Copy)]

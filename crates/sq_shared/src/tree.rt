@@ -1,10 +1,10 @@
 // The tree and its seats.
 ghost use Rattle.std.specs.Prelude.{◌≡◌, ℕ, true, false, List, [], ◌∷◌, map, IfOk};
-ghost use Rattle.sq_tree.specs.declared.node.TheConstants.{NODES};
+ghost use Rattle.sq_moves.specs.declared.node.TheConstants.{NODES};
 ghost use Rattle.std.specs.Slots.{slots_items, slots_len, IsFull};
 ghost use mathlib.Core.Option.{some};
 ghost use lib.ListN.{get_elem?};
-ghost use Rattle.sq_tree.specs.Prelude.{word_of};
+ghost use Rattle.sq_moves.specs.Prelude.{word_of};
 ghost use Rattle.sq_shared.specs.declared.view.View.{View};
 ghost use Rattle.sq_shared.specs.View.{fresh, gave, took};
 ghost use Rattle.sq_shared.specs.Rule.{IsTreeOf, Kept};
@@ -15,7 +15,7 @@ mod walks;
 use crate::rule::{Handing, TreeRule};
 use crate::view::View;
 use atomic_table::{Closed, Seat, Table};
-use sq_tree::{NODES, Status};
+use sq_moves::{NODES, Status};
 use std::alloc::{AllocError, Global};
 use std::marker::Model;
 pub use walks::LeafClaim;
@@ -30,7 +30,7 @@ pub struct StatusTree {
 impl Model for StatusTree {
     ghost use Rattle.std.specs.Prelude.{◌≡◌};
     ghost use Rattle.atomic_table.specs.Seated.{TableId};
-    ghost use Rattle.sq_tree.specs.declared.node.TheConstants.{NODES};
+    ghost use Rattle.sq_moves.specs.declared.node.TheConstants.{NODES};
 
     ghost Value = { TableId };
 

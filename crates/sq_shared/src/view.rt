@@ -1,5 +1,5 @@
 // What a seat knows and has done.
-use sq_tree::{NodeId, Status};
+use sq_moves::{NodeId, Status};
 use std::collections::LinkedList;
 
 /// What a seat of a tree has done and seen. It exists in contracts and proofs alone: no value of it

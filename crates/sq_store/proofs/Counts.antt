@@ -4,7 +4,7 @@ use Rattle.std.specs.Prelude.{◌-◌, ◌≤◌, nat_le, map, cond}
 use Rattle.std.specs.List.{All}
 use Rattle.std.proofs.lemmas.List.Elements.{All-tail}
 use Rattle.sq_schema.specs.Family.{FamilyValue}
-use Rattle.sq_ranges.specs.CutEnd.{end_within, end_of}
+use Rattle.sq_moves.specs.CutEnd.{end_within, end_of}
 use Rattle.sq_store.specs.Counting.{family_size, fitting, chunk_count, root_after}
 
 -- no more fit than there are

@@ -9,7 +9,7 @@ use Rattle.std.proofs.lemmas.Option.{slice_get-get_or, slice_get_past}
 use Rattle.sq_schema.specs.Family.{FamilyValue}
 use Rattle.sq_store.specs.InOrder.{are_within}
 use Rattle.sq_store.specs.StoreValue.{StoreValue, absent, stored_size, take_end, families_between, without_between}
-use Rattle.sq_ranges.specs.CutEnd.{end_of}
+use Rattle.sq_moves.specs.CutEnd.{end_of}
 use Rattle.sq_store.specs.InOrder.{HoldsByRoot}
 use Rattle.sq_store.specs.Listed.{roots_rise, store_of, IsRootAt, IsStart}
 use Rattle.sq_store.specs.Counting.{family_size, chunk_count, root_after}

@@ -1,7 +1,7 @@
 -- A chunk, apart from where it is stored.
 use Rattle.std.specs.Prelude.{◌≡◌, ℕ, Bool, true, ◌==◌, ◌&&◌, nat_lt, nat_le, List}
 use Rattle.sq_schema.specs.Family.{FamilyValue}
-use Rattle.sq_tree.specs.Node.{is_node}
+use Rattle.sq_moves.specs.Node.{is_node}
 use Rattle.sq_store.specs.declared.chunk.Note.{Note}
 pub use Rattle.sq_store.specs.InOrder.{are_within, AreKeyed}
 

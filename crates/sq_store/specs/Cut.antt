@@ -1,6 +1,6 @@
 -- What is taken out of a store at once.
 use Rattle.std.specs.Prelude.{◌≡◌, ◌==◌, ℕ}
-use Rattle.sq_ranges.specs.declared.recon.Extent.{Extent}
+use Rattle.sq_moves.specs.declared.recon.Extent.{Extent}
 use Rattle.sq_store.specs.declared.store.Cut.{Cut}
 use Rattle.sq_store.specs.StoreValue.{StoreValue, families_between, take_end}
 

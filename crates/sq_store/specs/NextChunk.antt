@@ -1,6 +1,6 @@
 -- The chunk that is cut next, of the keys that are left of a node.
 use Rattle.std.specs.Prelude.{ℕ, ◌==◌}
-use Rattle.sq_ranges.specs.declared.recon.Extent.{Extent}
+use Rattle.sq_moves.specs.declared.recon.Extent.{Extent}
 use Rattle.sq_store.specs.StoreValue.{StoreValue, take_end, families_between}
 use Rattle.sq_store.specs.declared.chunk.Note.{Note}
 use Rattle.sq_store.specs.ChunkValue.{ChunkValue}

@@ -8,7 +8,7 @@ use Rattle.sq_schema.specs.declared.txn.Reply.{Reply}
 use Rattle.sq_schema.specs.declared.txn.Reply.TheVariants.{Committed, Aborted}
 use Rattle.sq_schema.specs.Effect.{reply}
 use Rattle.sq_schema.specs.Family.{FamilyValue, rows_of, rows_size, folded, logged}
-use Rattle.sq_ranges.specs.CutEnd.{end_of}
+use Rattle.sq_moves.specs.CutEnd.{end_of}
 
 -- the families of a store by root key
 abbrev pub StoreValue : Type 0

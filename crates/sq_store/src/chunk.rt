@@ -2,10 +2,9 @@
 ghost use Rattle.std.specs.Prelude.{◌≡◌, ◌↔◌, [], length, IsTrue};
 ghost use Rattle.sq_store.specs.ChunkValue.{are_within, AreKeyed};
 
+use sq_moves::{NodeId, SegId};
 use sq_plan::PartId;
-use sq_ranges::SegId;
 use sq_schema::Family;
-use sq_tree::NodeId;
 use std::marker::Model;
 
 /// What a chunk covers: the root keys of a node from `lo` up to, not including, `hi`, moving from

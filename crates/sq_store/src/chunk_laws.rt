@@ -1,6 +1,6 @@
 // Laws of the chunks that are cut out of a store.
 ghost use Rattle.std.specs.Prelude.{ℕ};
-ghost use Rattle.sq_ranges.specs.declared.recon.Extent.{Extent};
+ghost use Rattle.sq_moves.specs.declared.recon.Extent.{Extent};
 ghost use Rattle.sq_store.specs.Prelude.{StoreValue, HoldsByRoot};
 ghost use Rattle.sq_store.specs.declared.chunk.Note.{Note};
 ghost use Rattle.sq_store.specs.ChunkLaws.{HasCovered, LeavesOthers};

@@ -1,6 +1,6 @@
 // Commands to a store, and their answers.
 use crate::store::Cut;
-use sq_ranges::Extent;
+use sq_moves::Extent;
 use sq_schema::{ApplyFault, Family, Reply, Txn};
 use std::alloc::AllocError;
 

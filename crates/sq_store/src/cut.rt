@@ -5,7 +5,7 @@ ghost use Rattle.sq_store.specs.NextChunk.{next_chunk};
 
 use crate::chunk::{Chunk, Note};
 use crate::store::{Cut, FamilyStore};
-use sq_ranges::Extent;
+use sq_moves::Extent;
 use std::alloc::AllocError;
 
 /// Cuts the next chunk out of `store`: families of `rest`, the rest of a node, by rising root key;

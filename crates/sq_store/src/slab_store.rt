@@ -12,7 +12,7 @@ use crate::runs::Runs;
 use crate::search::{count, find, first_from};
 use crate::store::{Cut, FamilyStore};
 use crate::taking::{cut, take_between, take_chunk};
-use sq_ranges::Extent;
+use sq_moves::Extent;
 use sq_schema::{ApplyFault, Family, Reply, Root, Txn};
 use std::alloc::{AllocError, Global};
 use std::marker::Model;

@@ -6,7 +6,7 @@ ghost use Rattle.sq_schema.specs.declared.family.TheConstants.{MAX_LOG};
 ghost use Rattle.sq_store.specs.StoreValue.{StoreValue, log_length, store_reply, store_after, without_between, with_families, folded_store, roots_differ, has_none_of};
 ghost use Rattle.sq_store.specs.InOrder.{family_from, are_within, AreKeyed, HoldsByRoot};
 
-use sq_ranges::Extent;
+use sq_moves::Extent;
 use sq_schema::{ApplyFault, Family, Reply, Root, Txn};
 use std::alloc::AllocError;
 

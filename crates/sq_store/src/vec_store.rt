@@ -9,7 +9,7 @@ ghost use Rattle.sq_store.specs.Listed.{opened, folded_families};
 use crate::merge::merge;
 use crate::sorted::{chunk_count, least_root, place, root_at, sorted, start, take_out};
 use crate::store::{Cut, FamilyStore};
-use sq_ranges::Extent;
+use sq_moves::Extent;
 use sq_schema::{ApplyFault, Family, Reply, Root, Txn};
 use std::alloc::{AllocError, Global};
 use std::marker::Model;

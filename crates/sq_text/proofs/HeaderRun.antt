@@ -13,15 +13,15 @@ use Rattle.sq_schema.specs.declared.fault.RowFault.{RowFault}
 use Rattle.sq_schema.specs.declared.fault.RowFault.TheVariants as row_faults
 use Rattle.sq_schema.specs.declared.fault.RowFault.TheVariants.{RowRepeated, NoRootRow}
 use Rattle.sq_plan.specs.PlanValue.{PlanValue}
-use Rattle.sq_ranges.specs.declared.opening.Config.{Config}
-use Rattle.sq_ranges.specs.declared.opening.GivenRow.{GivenRow}
-use Rattle.sq_ranges.specs.declared.fault.OpeningFault.{OpeningFault}
-use Rattle.sq_ranges.specs.declared.fault.OpeningFault.TheVariants as opening
-use Rattle.sq_ranges.specs.OpeningValue.{OpeningValue}
-use Rattle.sq_ranges.specs.Between.{recon_of}
-use Rattle.sq_ranges.specs.Fault.{of_row}
-use Rattle.sq_ranges.specs.Given.{GivenValue, value_of, with_one, IsOpeningOf}
-use Rattle.sq_ranges.specs.Refused.{shape_fault, given_fault, MayRefuse}
+use Rattle.sq_moves.specs.declared.opening.Config.{Config}
+use Rattle.sq_moves.specs.declared.opening.GivenRow.{GivenRow}
+use Rattle.sq_moves.specs.declared.ranges_fault.OpeningFault.{OpeningFault}
+use Rattle.sq_moves.specs.declared.ranges_fault.OpeningFault.TheVariants as opening
+use Rattle.sq_moves.specs.OpeningValue.{OpeningValue}
+use Rattle.sq_moves.specs.Between.{recon_of}
+use Rattle.sq_moves.specs.RangesFault.{of_row}
+use Rattle.sq_moves.specs.Given.{GivenValue, value_of, with_one, IsOpeningOf}
+use Rattle.sq_moves.specs.Refused.{shape_fault, given_fault, MayRefuse}
 use Rattle.sq_text.specs.declared.reader.Next.{Next as NextPiece}
 use Rattle.sq_text.specs.declared.reader.Next.TheVariants as next
 use Rattle.sq_text.specs.Pieces.{PieceValue, Line, Rest, Failed, Endless, TooMany, next_line_number, bytes_of, next_begins}

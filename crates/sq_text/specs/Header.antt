@@ -7,12 +7,12 @@ use Rattle.sq_schema.specs.Table.{rows_in}
 use Rattle.sq_plan.specs.declared.fault.PlanFault.{PlanFault}
 use Rattle.sq_plan.specs.PlanValue.{PlanValue}
 use Rattle.sq_plan.specs.Reading.{plan_in}
-use Rattle.sq_ranges.specs.declared.opening.Config.{Config}
-use Rattle.sq_ranges.specs.declared.fault.OpeningFault.{OpeningFault}
-use Rattle.sq_ranges.specs.OpeningValue.{OpeningValue}
-use Rattle.sq_ranges.specs.Between.{recon_of}
-use Rattle.sq_ranges.specs.Given.{GivenValue, no_rows, with_one}
-use Rattle.sq_ranges.specs.Refused.{config_fault, given_fault}
+use Rattle.sq_moves.specs.declared.opening.Config.{Config}
+use Rattle.sq_moves.specs.declared.ranges_fault.OpeningFault.{OpeningFault}
+use Rattle.sq_moves.specs.OpeningValue.{OpeningValue}
+use Rattle.sq_moves.specs.Between.{recon_of}
+use Rattle.sq_moves.specs.Given.{GivenValue, no_rows, with_one}
+use Rattle.sq_moves.specs.Refused.{config_fault, given_fault}
 use Rattle.sq_text.specs.declared.header.FirstLines.{FirstLines}
 use Rattle.sq_text.specs.declared.step.TheConstants.{MAX_LINE}
 use Rattle.sq_text.specs.declared.input_fault.InputFault.{InputFault}

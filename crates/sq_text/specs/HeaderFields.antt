@@ -1,10 +1,10 @@
 -- The fields of the header's lines.
 use Rattle.std.specs.Prelude.{List, Option, Some}
-use Rattle.sq_ranges.specs.declared.opening.Config.{Config}
-use Rattle.sq_ranges.specs.Given.{GivenValue}
+use Rattle.sq_moves.specs.declared.opening.Config.{Config}
+use Rattle.sq_moves.specs.Given.{GivenValue}
 use Rattle.sq_text.specs.Words.{Word, ◌>>=◌}
 use Rattle.sq_text.specs.Fields.{number_field, key_field, signed_field, note_field, value_at_end}
-use Rattle.sq_ranges.specs.declared.opening.TheConstants.{LOG_LIMIT}
+use Rattle.sq_moves.specs.declared.opening.TheConstants.{LOG_LIMIT}
 
 -- the sizes: W L C
 unfoldable pub config_in : List Word → Option Config

@@ -11,12 +11,12 @@ use Rattle.sq_schema.specs.declared.txn.Reply.{Reply}
 use Rattle.sq_schema.specs.declared.txn.Reply.TheVariants.{Committed, Aborted}
 use Rattle.sq_schema.specs.Values.{RowValue}
 use Rattle.sq_schema.specs.Family.{FamilyValue, rows_of}
-use Rattle.sq_tree.specs.declared.status.Status.{Status}
-use Rattle.sq_tree.specs.declared.status.Status.TheVariants as status
-use Rattle.sq_tree.specs.declared.status.Reading.{Reading}
-use Rattle.sq_tree.specs.declared.status.Reading.TheVariants as reading
-use Rattle.sq_ranges.specs.declared.recon.Range.{Range as MovingRange}
-use Rattle.sq_ranges.specs.ReconValue.{ReconValue, stages, stage_in}
+use Rattle.sq_moves.specs.declared.status.Status.{Status}
+use Rattle.sq_moves.specs.declared.status.Status.TheVariants as status
+use Rattle.sq_moves.specs.declared.status.Reading.{Reading}
+use Rattle.sq_moves.specs.declared.status.Reading.TheVariants as reading
+use Rattle.sq_moves.specs.declared.recon.Range.{Range as MovingRange}
+use Rattle.sq_moves.specs.ReconValue.{ReconValue, stages, stage_in}
 use Rattle.sq_store.specs.declared.chunk.Note.{Note}
 use Rattle.sq_store.specs.ChunkValue.{ChunkValue}
 use Rattle.sq_model.specs.declared.answer.Answer.{Answer}

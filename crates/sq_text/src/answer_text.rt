@@ -10,11 +10,10 @@ use crate::output_fault::{WriteFault, write_bytes};
 use crate::row_text::{has_note, put_op_answer, write_op_answer};
 use crate::text::{Text, TextOf};
 use sq_model::Answer;
+use sq_moves::{Leaf, Reading, SegId, Status};
 use sq_plan::PartId;
-use sq_ranges::SegId;
 use sq_schema::{Cause, OpAnswer, Reply};
 use sq_store::Note;
-use sq_tree::{Leaf, Reading, Status};
 use std::io::Write;
 
 fn cause_text(cause: Cause) -> &'static [u8]

@@ -1,7 +1,7 @@
 // Reads the header of an input.
 ghost use Rattle.std.specs.Prelude.{◌≡◌, ◌≤◌, ◌+◌, codes, IfOk, IfErr, IfSome, OnOk};
 ghost use Rattle.sq_schema.specs.Prelude.{rows_in};
-ghost use Rattle.sq_ranges.specs.Prelude.{value_of};
+ghost use Rattle.sq_moves.specs.Prelude.{value_of};
 ghost use Rattle.sq_text.specs.Words.{words_of};
 ghost use Rattle.sq_text.specs.Coming.{Leaves};
 ghost use Rattle.sq_text.specs.Faults.{IsParsed, IsParsedGivenMemory};
@@ -17,8 +17,8 @@ use crate::note::note;
 use crate::reader::{LineReader, Next};
 use crate::step::MAX_LINE;
 use crate::words::Words;
+use sq_moves::{Config, GivenRow, LOG_LIMIT, Opening};
 use sq_plan::{Plan, PlanFault};
-use sq_ranges::{Config, GivenRow, LOG_LIMIT, Opening};
 use sq_schema::{RowKey, Schema};
 use std::alloc::Global;
 use std::io::Read;

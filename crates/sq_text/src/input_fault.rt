@@ -5,8 +5,8 @@ ghost use Rattle.sq_text.specs.InputFaults.{input_fault_number};
 use crate::fault::LineFault;
 use crate::step::MAX_LINE;
 use sq_explain::meaning;
+use sq_moves::OpeningFault;
 use sq_plan::PlanFault;
-use sq_ranges::OpeningFault;
 use sq_schema::OUT_OF_MEMORY;
 use thiserror::Error;
 

@@ -5,8 +5,8 @@ ghost use Rattle.sq_text.specs.Located.{line_number, located, of_opening};
 use crate::input_fault::InputFault;
 use crate::reader::MAX_LINES;
 use sq_explain::meaning;
+use sq_moves::OpeningFault;
 use sq_plan::PlanFault;
-use sq_ranges::OpeningFault;
 use std::fmt;
 use std::fmt::{Display, Formatter, Write};
 

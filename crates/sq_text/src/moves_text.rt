@@ -3,9 +3,9 @@ ghost use Rattle.std.specs.Prelude.{◌≡◌, nat_lt, OnOk};
 ghost use Rattle.std.specs.List.{flat_map};
 ghost use Rattle.std.specs.Io.KnownBytes.{Appends};
 ghost use Rattle.sq_text.specs.Texts.{range_line, told_stage, segment_line, segment_lines, moves_text};
-ghost use Rattle.sq_ranges.specs.Prelude.{stages};
+ghost use Rattle.sq_moves.specs.Prelude.{stages};
 
-use sq_ranges::{Range, Recon};
+use sq_moves::{Range, Recon};
 use std::io;
 use std::io::Write;
 

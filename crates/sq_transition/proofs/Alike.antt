@@ -5,7 +5,7 @@ use Rattle.sq_schema.specs.Family.{FamilyValue}
 use Rattle.sq_store.specs.ChunkValue.{ChunkValue, covers, are_within}
 use Rattle.sq_store.specs.StoreValue.{family_in}
 use Rattle.sq_store.proofs.Rising.{Rises, rises, none_below}
-use Rattle.sq_ranges.specs.OpeningValue.{OpeningValue}
+use Rattle.sq_moves.specs.OpeningValue.{OpeningValue}
 use Rattle.sq_model.specs.Trace.{Trace}
 use Rattle.sq_transition.specs.Holds.{ChunkHolds, share}
 

@@ -6,19 +6,19 @@ use Rattle.std.proofs.lemmas.List.{length-set, map-append}
 use Rattle.std.proofs.lemmas.List.Elements.{filter-append}
 use Rattle.std.proofs.lemmas.List.Folds.{list_any-append}
 use Rattle.std.proofs.lemmas.Bool.{ne_eqb}
-use Rattle.sq_tree.specs.declared.status.Status.{Status}
-use Rattle.sq_tree.specs.declared.status.Status.TheVariants as status
-use Rattle.sq_tree.specs.declared.node.TheConstants.{LEAVES}
-use Rattle.sq_tree.specs.declared.fault.BeginFault.{BeginFault}
-use Rattle.sq_tree.specs.declared.fault.BeginFault.TheVariants as begin
-use Rattle.sq_tree.specs.Node.{is_node, is_above}
-use Rattle.sq_tree.specs.Status.{is_claimed}
-use Rattle.sq_tree.specs.Answer.{begin_answer}
-use Rattle.sq_tree.proofs.Went.{begin_went}
+use Rattle.sq_moves.specs.declared.status.Status.{Status}
+use Rattle.sq_moves.specs.declared.status.Status.TheVariants as status
+use Rattle.sq_moves.specs.declared.node.TheConstants.{LEAVES}
+use Rattle.sq_moves.specs.declared.tree_fault.BeginFault.{BeginFault}
+use Rattle.sq_moves.specs.declared.tree_fault.BeginFault.TheVariants as begin
+use Rattle.sq_moves.specs.Node.{is_node, is_above}
+use Rattle.sq_moves.specs.Status.{is_claimed}
+use Rattle.sq_moves.specs.Answer.{begin_answer}
+use Rattle.sq_moves.proofs.Went.{begin_went}
 use Rattle.sq_store.specs.declared.chunk.Note.{Note}
-use Rattle.sq_ranges.specs.declared.recon.Range.{Range}
-use Rattle.sq_ranges.specs.ReconValue.{extent, is_link}
-use Rattle.sq_ranges.specs.OpeningValue.{OpeningValue}
+use Rattle.sq_moves.specs.declared.recon.Range.{Range}
+use Rattle.sq_moves.specs.ReconValue.{extent, is_link}
+use Rattle.sq_moves.specs.OpeningValue.{OpeningValue}
 use Rattle.sq_exec.specs.GivenUp.{none_given_up, is_given_up, given_up_with}
 use Rattle.sq_exec.specs.Work.{WorkValue}
 use Rattle.sq_exec.specs.OutLink.{OutLinkValue, new_out_link}

@@ -1,5 +1,5 @@
 -- What holds of a world, part by part, where one part of it changed: the rest of it stays.
-use Rattle.sq_ranges.specs.OpeningValue.{OpeningValue}
+use Rattle.sq_moves.specs.OpeningValue.{OpeningValue}
 use Rattle.sq_model.specs.Trace.{Trace}
 use Rattle.sq_transition.specs.WorldValue.{WorldValue}
 use Rattle.sq_transition.specs.Holds.{PlansHold, LeaderHolds, PartitionsHold, SegmentsHold, LinksHold, Holds}

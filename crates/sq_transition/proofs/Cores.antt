@@ -2,13 +2,13 @@
 use Rattle.std.proofs.Common.{◌≡◌, ℕ, List, refl, sym, ap, ◌∙◌, arith, length}
 use Rattle.std.specs.Prelude.{◌<◌, ◌≢◌, ◌==◌, Bool, if◌then◌else◌, Option}
 use Rattle.std.proofs.lemmas.List.{length-set}
-use Rattle.sq_ranges.specs.OpeningValue.{OpeningValue}
+use Rattle.sq_moves.specs.OpeningValue.{OpeningValue}
 use Rattle.sq_store.specs.ChunkValue.{ChunkValue}
 use Rattle.sq_exec.specs.declared.run.Run.{Run}
 use Rattle.sq_exec.specs.OutLink.{OutLinkValue}
 use Rattle.sq_exec.specs.CoreValue.{CoreValue, out_at, inbox_at}
 use Rattle.sq_model.specs.Trace.{Trace, stage, loads}
-use Rattle.sq_tree.specs.declared.node.TheConstants.{LEAVES}
+use Rattle.sq_moves.specs.declared.node.TheConstants.{LEAVES}
 use Rattle.sq_model.specs.Leader.{is_started}
 use Rattle.sq_model.specs.Links.{has_last}
 use Rattle.sq_model.specs.Waiting.{waiting}

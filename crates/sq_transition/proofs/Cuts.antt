@@ -14,9 +14,9 @@ use Rattle.sq_store.specs.ChunkValue.{ChunkValue, covers}
 use Rattle.sq_store.specs.StoreValue.{families_between, without_between, stored_size, take_end}
 use Rattle.sq_store.proofs.Rising.{roots-within}
 use Rattle.sq_store.proofs.Between.{IsRooted, family_in-between, within-between, get-without}
-use Rattle.sq_ranges.specs.declared.recon.Range.{Range}
-use Rattle.sq_ranges.specs.CutEnd.{end_of, end_within}
-use Rattle.sq_ranges.specs.OpeningValue.{OpeningValue}
+use Rattle.sq_moves.specs.declared.recon.Range.{Range}
+use Rattle.sq_moves.specs.CutEnd.{end_of, end_within}
+use Rattle.sq_moves.specs.OpeningValue.{OpeningValue}
 use Rattle.sq_exec.specs.Work.{WorkValue, next_work, no_work, work_at, work_from, work_after}
 use Rattle.sq_exec.specs.OutLink.{OutLinkValue, new_out_link, note_for}
 use Rattle.sq_exec.specs.CoreValue.{CoreValue, out_at, with_out, link_to}

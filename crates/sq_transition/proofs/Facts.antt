@@ -1,10 +1,10 @@
 -- On a legal trace each step rests on firm ground: what the steps ask of the trace holds. So each of them keeps what holds.
 use Rattle.std.proofs.Common.{◌≡◌, true, false, ◌∷◌, refl, sym, true≢false}
-use Rattle.sq_tree.specs.declared.status.Status.{Status}
-use Rattle.sq_tree.specs.declared.status.Status.TheVariants.{Claimed}
-use Rattle.sq_tree.specs.Status.{is_claimed, is_begun}
-use Rattle.sq_ranges.specs.OpeningValue.{OpeningValue}
-use Rattle.sq_ranges.specs.Opening.{IsOpening}
+use Rattle.sq_moves.specs.declared.status.Status.{Status}
+use Rattle.sq_moves.specs.declared.status.Status.TheVariants.{Claimed}
+use Rattle.sq_moves.specs.Status.{is_claimed, is_begun}
+use Rattle.sq_moves.specs.OpeningValue.{OpeningValue}
+use Rattle.sq_moves.specs.Opening.{IsOpening}
 use Rattle.sq_model.specs.declared.step.Step.{Step}
 use Rattle.sq_model.specs.declared.answer.Answer.{Answer}
 use Rattle.sq_model.specs.Trace.{Trace}

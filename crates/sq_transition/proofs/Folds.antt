@@ -8,7 +8,7 @@ use Rattle.sq_schema.specs.Family.{FamilyValue, rows_of, family_stands}
 use Rattle.sq_store.specs.ChunkValue.{ChunkValue, covers}
 use Rattle.sq_store.specs.StoreValue.{fold_of, folded_store}
 use Rattle.sq_store.proofs.Folds.{get-folded}
-use Rattle.sq_ranges.specs.OpeningValue.{OpeningValue}
+use Rattle.sq_moves.specs.OpeningValue.{OpeningValue}
 use Rattle.sq_exec.specs.CoreValue.{CoreValue, folded_core}
 use Rattle.sq_model.specs.declared.step.Step.TheVariants.{Fold}
 use Rattle.sq_model.specs.declared.step.Phase.{Phase}

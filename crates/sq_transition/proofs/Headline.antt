@@ -1,7 +1,7 @@
 -- Each step keeps what holds, and is answered as the history says.
 use Rattle.std.proofs.Common.{subst, ⊎_elim, inl, inr, ◌≡◌, ◌∷◌, sym, ap, ◌∙◌}
 use Rattle.std.specs.Prelude.{IsTrue}
-use Rattle.sq_ranges.specs.OpeningValue.{OpeningValue}
+use Rattle.sq_moves.specs.OpeningValue.{OpeningValue}
 use Rattle.sq_model.specs.declared.step.Step.{Step}
 use Rattle.sq_model.specs.declared.step.Step.TheVariants.{Prepare, Start, Submit, Resume, Split, Claim, Begin, Cut, Push, Pop, Load, Complete, Report, Next, Finish, Status, Fold}
 use Rattle.sq_model.specs.declared.answer.Answer.{Answer}

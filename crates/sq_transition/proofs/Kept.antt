@@ -1,6 +1,6 @@
 -- A refused step keeps what holds.
 use Rattle.std.proofs.Common.{◌∷◌}
-use Rattle.sq_ranges.specs.OpeningValue.{OpeningValue}
+use Rattle.sq_moves.specs.OpeningValue.{OpeningValue}
 use Rattle.sq_model.specs.declared.step.Step.{Step}
 use Rattle.sq_model.specs.declared.step.Step.TheVariants.{Prepare, Start, Submit, Resume, Split, Claim, Begin, Cut, Push, Pop, Load, Complete, Report, Next, Finish, Status, Fold}
 use Rattle.sq_model.specs.declared.answer.Refusal.{Refusal}

@@ -4,9 +4,9 @@ use Rattle.std.specs.Prelude.{◌<◌, zero, suc, slice_get, slice_index_or, map
 use Rattle.std.specs.List.{list_any, list_all, range_with_len}
 use Rattle.std.proofs.lemmas.List.{length-map, length-replicate, get_or-map}
 use Rattle.std.proofs.lemmas.Bool.{leb-false, not-false}
-use Rattle.sq_tree.specs.Status.{reading}
-use Rattle.sq_ranges.specs.ReconValue.{of_stage, stages, goes_into}
-use Rattle.sq_ranges.specs.OpeningValue.{OpeningValue}
+use Rattle.sq_moves.specs.Status.{reading}
+use Rattle.sq_moves.specs.ReconValue.{of_stage, stages, goes_into}
+use Rattle.sq_moves.specs.OpeningValue.{OpeningValue}
 use Rattle.sq_leader.specs.declared.leader.Leader.{Leader}
 use Rattle.sq_leader.proofs.Marked.{same_within}
 use Rattle.sq_exec.specs.CoreValue.{CoreValue, entered_core, out_at, inbox_at}
@@ -17,7 +17,7 @@ use Rattle.sq_model.specs.declared.answer.Answer.TheVariants.{Done}
 use Rattle.sq_model.specs.declared.answer.Refusal.TheVariants.{AlreadyMoving, NotPrepared, NotFinished, NoSuchPartition, LastStage}
 use Rattle.sq_model.specs.Trace.{Trace, stage}
 use Rattle.sq_model.specs.Leader.{phase, is_started, is_started_phase, is_moving_phase, is_prepared}
-use Rattle.sq_tree.specs.Reading.{is_complete_reading}
+use Rattle.sq_moves.specs.Reading.{is_complete_reading}
 use Rattle.sq_model.specs.Answers.{answer, is_complete_segment, is_into, has_all, counts_reported, partitions, segment_numbers, is_last_stage}
 use Rattle.sq_model.proofs.Lists.{list_all-Contains, row_has}
 use Rattle.sq_transition.specs.WorldValue.{WorldValue, WholeLink, running_stage, no_core, core_at, queue_at, link_value}

@@ -7,8 +7,8 @@ use Rattle.std.proofs.lemmas.List.Folds.{position_or_len-set}
 use Rattle.std.proofs.lemmas.Bool.{cases_Bool, cases_eq, eqb-true, and_parts, and_from}
 use Rattle.std.proofs.Math.Bool.{and-false}
 use Rattle.sq_store.specs.ChunkValue.{ChunkValue}
-use Rattle.sq_ranges.specs.ReconValue.{is_link, stage_on}
-use Rattle.sq_ranges.specs.OpeningValue.{OpeningValue}
+use Rattle.sq_moves.specs.ReconValue.{is_link, stage_on}
+use Rattle.sq_moves.specs.OpeningValue.{OpeningValue}
 use Rattle.sq_model.specs.declared.step.Step.{Step}
 use Rattle.sq_model.specs.declared.answer.Answer.{Answer}
 use Rattle.sq_model.specs.declared.answer.Answer.TheVariants.{Refused}

@@ -10,10 +10,10 @@ use Rattle.sq_store.specs.declared.chunk.Note.{Note}
 use Rattle.sq_store.specs.ChunkValue.{ChunkValue, covers}
 use Rattle.sq_store.specs.StoreValue.{has_none_of}
 use Rattle.sq_store.proofs.Given.{has_none_of-from_each}
-use Rattle.sq_ranges.specs.declared.recon.Range.{Range}
-use Rattle.sq_ranges.specs.ReconValue.{extent}
-use Rattle.sq_ranges.specs.OpeningValue.{OpeningValue}
-use Rattle.sq_ranges.specs.Opening.{IsOpening}
+use Rattle.sq_moves.specs.declared.recon.Range.{Range}
+use Rattle.sq_moves.specs.ReconValue.{extent}
+use Rattle.sq_moves.specs.OpeningValue.{OpeningValue}
+use Rattle.sq_moves.specs.Opening.{IsOpening}
 use Rattle.sq_exec.specs.declared.run.Run.{Run}
 use Rattle.sq_exec.specs.Runs.{meets, run_has, is_loaded, is_met}
 use Rattle.sq_exec.specs.CoreValue.{loaded_at}

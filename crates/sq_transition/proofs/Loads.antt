@@ -12,8 +12,8 @@ use Rattle.sq_store.specs.declared.chunk.Note.{Note}
 use Rattle.sq_store.specs.ChunkValue.{ChunkValue, covers}
 use Rattle.sq_store.specs.StoreValue.{with_families, family_in}
 use Rattle.sq_store.proofs.Rising.{get-with_families, roots-within}
-use Rattle.sq_ranges.specs.declared.recon.Range.{Range}
-use Rattle.sq_ranges.specs.OpeningValue.{OpeningValue}
+use Rattle.sq_moves.specs.declared.recon.Range.{Range}
+use Rattle.sq_moves.specs.OpeningValue.{OpeningValue}
 use Rattle.sq_exec.specs.Runs.{is_loaded, is_whole, runs_with}
 use Rattle.sq_exec.proofs.Runs.{loaded-runs_with, whole-runs_with}
 use Rattle.sq_exec.specs.CoreValue.{CoreValue, inbox_at, with_inbox, loaded_at}

@@ -6,22 +6,22 @@ use Rattle.std.proofs.lemmas.List.{length-set}
 use Rattle.std.proofs.lemmas.Bool.{ne_eqb, not-false}
 use Rattle.std.proofs.lemmas.Option.{slice_get-get_or, slice_get_within}
 use Rattle.std.proofs.Common.{eq-eqb}
-use Rattle.sq_tree.specs.declared.status.Status.{Status}
-use Rattle.sq_tree.specs.declared.status.Status.TheVariants as status
-use Rattle.sq_tree.specs.declared.fault.SplitFault.{SplitFault}
-use Rattle.sq_tree.specs.declared.fault.SplitFault.TheVariants as split
-use Rattle.sq_tree.specs.declared.fault.ClaimFault.{ClaimFault}
-use Rattle.sq_tree.specs.declared.fault.ClaimFault.TheVariants as claim
-use Rattle.sq_tree.specs.declared.fault.CompleteFault.{CompleteFault}
-use Rattle.sq_tree.specs.declared.fault.CompleteFault.TheVariants as complete
-use Rattle.sq_tree.specs.Node.{is_node}
-use Rattle.sq_tree.specs.Status.{reading}
-use Rattle.sq_tree.specs.Tree.{status_at, with_status}
-use Rattle.sq_tree.specs.Answer.{split_answer, claim_answer, complete_answer}
-use Rattle.sq_tree.proofs.Placed.{status_at-with_status}
-use Rattle.sq_ranges.specs.declared.recon.Range.{Range}
-use Rattle.sq_ranges.specs.ReconValue.{of_stage}
-use Rattle.sq_ranges.specs.OpeningValue.{OpeningValue}
+use Rattle.sq_moves.specs.declared.status.Status.{Status}
+use Rattle.sq_moves.specs.declared.status.Status.TheVariants as status
+use Rattle.sq_moves.specs.declared.tree_fault.SplitFault.{SplitFault}
+use Rattle.sq_moves.specs.declared.tree_fault.SplitFault.TheVariants as split
+use Rattle.sq_moves.specs.declared.tree_fault.ClaimFault.{ClaimFault}
+use Rattle.sq_moves.specs.declared.tree_fault.ClaimFault.TheVariants as claim
+use Rattle.sq_moves.specs.declared.tree_fault.CompleteFault.{CompleteFault}
+use Rattle.sq_moves.specs.declared.tree_fault.CompleteFault.TheVariants as complete
+use Rattle.sq_moves.specs.Node.{is_node}
+use Rattle.sq_moves.specs.Status.{reading}
+use Rattle.sq_moves.specs.Tree.{status_at, with_status}
+use Rattle.sq_moves.specs.Answer.{split_answer, claim_answer, complete_answer}
+use Rattle.sq_moves.proofs.Placed.{status_at-with_status}
+use Rattle.sq_moves.specs.declared.recon.Range.{Range}
+use Rattle.sq_moves.specs.ReconValue.{of_stage}
+use Rattle.sq_moves.specs.OpeningValue.{OpeningValue}
 use Rattle.sq_model.proofs.Steps.{of_stage_is}
 use Rattle.sq_exec.specs.Runs.{is_whole}
 use Rattle.sq_exec.specs.CoreValue.{loaded_at}

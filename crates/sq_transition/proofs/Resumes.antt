@@ -12,8 +12,8 @@ use Rattle.sq_schema.specs.TxnValue.{TxnValue}
 use Rattle.sq_schema.specs.declared.txn.Reply.{Reply}
 use Rattle.sq_schema.specs.declared.txn.Reply.TheVariants.{Committed, Aborted}
 use Rattle.sq_store.specs.StoreValue.{store_reply}
-use Rattle.sq_ranges.specs.OpeningValue.{OpeningValue}
-use Rattle.sq_ranges.proofs.Found.{none_passes}
+use Rattle.sq_moves.specs.OpeningValue.{OpeningValue}
+use Rattle.sq_moves.proofs.Found.{none_passes}
 use Rattle.sq_exec.specs.declared.fault.ResumeFault.{ResumeFault}
 use Rattle.sq_exec.specs.declared.fault.ResumeFault.TheVariants as resume
 use Rattle.sq_exec.specs.CoreValue.{CoreValue}

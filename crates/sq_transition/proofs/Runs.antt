@@ -13,7 +13,7 @@ use Rattle.sq_schema.specs.Effect.{RowList, RowTable, reply, only}
 use Rattle.sq_schema.specs.Family.{FamilyValue, rows_of, family_stands, logged}
 use Rattle.sq_store.specs.ChunkValue.{ChunkValue, covers}
 use Rattle.sq_store.specs.StoreValue.{family_at, store_reply, store_after}
-use Rattle.sq_ranges.specs.OpeningValue.{OpeningValue}
+use Rattle.sq_moves.specs.OpeningValue.{OpeningValue}
 use Rattle.sq_exec.specs.CoreValue.{CoreValue}
 use Rattle.sq_exec.specs.Serving.{is_log_full}
 use Rattle.sq_model.specs.Trace.{Trace, stage, unfolded}

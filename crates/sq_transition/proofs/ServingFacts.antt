@@ -4,14 +4,14 @@ use Rattle.std.proofs.Common.{subst, ◌≡◌, ℕ, true, sym, ap, ◌∙◌, e
 use Rattle.std.specs.Prelude.{◌==◌, ◌&&◌, drop, reverse, slice_get, Some, None, is_some}
 use Rattle.std.specs.List.{list_any}
 use Rattle.std.proofs.lemmas.Bool.{and_parts, and_from, eqb-true}
-use Rattle.sq_tree.specs.Node.{is_above}
+use Rattle.sq_moves.specs.Node.{is_above}
 use Rattle.sq_store.specs.declared.chunk.Note.{Note}
 use Rattle.sq_store.specs.ChunkValue.{covers}
-use Rattle.sq_ranges.specs.declared.recon.Range.{Range}
-use Rattle.sq_ranges.specs.ReconValue.{segment_of, leaf_of}
-use Rattle.sq_ranges.specs.OpeningValue.{OpeningValue}
-use Rattle.sq_ranges.specs.Opening.{IsOpening}
-use Rattle.sq_ranges.proofs.Bools.{same_test}
+use Rattle.sq_moves.specs.declared.recon.Range.{Range}
+use Rattle.sq_moves.specs.ReconValue.{segment_of, leaf_of}
+use Rattle.sq_moves.specs.OpeningValue.{OpeningValue}
+use Rattle.sq_moves.specs.Opening.{IsOpening}
+use Rattle.sq_moves.proofs.Bools.{same_test}
 use Rattle.sq_model.specs.Trace.{Trace, loads, load_count}
 use Rattle.sq_model.specs.Nodes.{items}
 use Rattle.sq_model.specs.Place.{extent_of, is_within, is_covered, is_begun_over}

@@ -8,8 +8,8 @@ use Rattle.sq_schema.specs.TxnValue.{TxnValue}
 use Rattle.sq_schema.specs.declared.txn.Reply.{Reply}
 use Rattle.sq_schema.specs.declared.txn.Reply.TheVariants.{Committed, Aborted}
 use Rattle.sq_store.specs.StoreValue.{StoreValue, store_reply, store_after}
-use Rattle.sq_ranges.specs.declared.opening.TheConstants.{MAX_WAITING}
-use Rattle.sq_ranges.specs.OpeningValue.{OpeningValue}
+use Rattle.sq_moves.specs.declared.opening.TheConstants.{MAX_WAITING}
+use Rattle.sq_moves.specs.OpeningValue.{OpeningValue}
 use Rattle.sq_exec.specs.declared.fault.SubmitFault.{SubmitFault}
 use Rattle.sq_exec.specs.declared.fault.SubmitFault.TheVariants as submit
 use Rattle.sq_exec.specs.declared.outcome.Outcome.{Outcome}

@@ -3,9 +3,9 @@ use Rattle.std.proofs.Common.{ℕ, List, [], ◌∷◌, ◌++◌, refl, sym, ap,
 use Rattle.std.specs.Prelude.{◌<◌, if◌then◌else◌, nat_le, unwrap_or}
 use Rattle.std.proofs.lemmas.Bool.{ne_eqb}
 use Rattle.sq_schema.specs.TxnValue.{TxnValue}
-use Rattle.sq_ranges.specs.declared.opening.TheConstants.{MAX_WAITING}
-use Rattle.sq_ranges.specs.ReconValue.{leaf_at}
-use Rattle.sq_ranges.specs.OpeningValue.{OpeningValue}
+use Rattle.sq_moves.specs.declared.opening.TheConstants.{MAX_WAITING}
+use Rattle.sq_moves.specs.ReconValue.{leaf_at}
+use Rattle.sq_moves.specs.OpeningValue.{OpeningValue}
 use Rattle.sq_exec.specs.CoreValue.{CoreValue}
 use Rattle.sq_model.specs.declared.step.Step.TheVariants.{Submit}
 use Rattle.sq_model.specs.declared.answer.Answer.TheVariants.{Waits}

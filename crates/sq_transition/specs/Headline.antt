@@ -2,7 +2,7 @@
 -- leads to.
 use Rattle.std.specs.Prelude.{◌≡◌, ℕ}
 use Rattle.sq_plan.specs.PlanValue.{owner}
-use Rattle.sq_ranges.specs.OpeningValue.{OpeningValue}
+use Rattle.sq_moves.specs.OpeningValue.{OpeningValue}
 use Rattle.sq_model.specs.Trace.{Trace}
 use Rattle.sq_model.specs.Place.{At, place}
 use Rattle.sq_model.specs.Legal.{IsLegal}

@@ -1,15 +1,15 @@
 -- What the leader's steps do to a world: Prepare, Start, Report, Next and Finish.
 use Rattle.std.specs.Prelude.{ℕ, Bool, true, ◌||◌, ◌&&◌, ◌+◌, ◌==◌, not, nat_le, if◌then◌else◌, List, length, map}
 use Rattle.std.specs.List.{list_any, list_all, range_with_len}
-use Rattle.sq_tree.specs.Status.{reading}
-use Rattle.sq_ranges.specs.ReconValue.{stages, goes_into}
+use Rattle.sq_moves.specs.Status.{reading}
+use Rattle.sq_moves.specs.ReconValue.{stages, goes_into}
 use Rattle.sq_exec.specs.CoreValue.{CoreValue, entered_core, folded_core}
 use Rattle.sq_model.specs.declared.answer.Answer.{Answer}
 use Rattle.sq_model.specs.declared.answer.Answer.TheVariants.{Done, Refused}
 use Rattle.sq_model.specs.declared.answer.Refusal.{Refusal}
 use Rattle.sq_model.specs.declared.answer.Refusal.TheVariants.{NotMoving, AlreadyMoving, NotPrepared, NotFinished, NoSuchPartition, LastStage}
 use Rattle.sq_model.specs.Leader.{is_moving_phase, is_started_phase, is_ended_phase}
-use Rattle.sq_tree.specs.Reading.{is_complete_reading}
+use Rattle.sq_moves.specs.Reading.{is_complete_reading}
 use Rattle.sq_transition.specs.WorldValue.{WorldValue, running_stage, running_range, status_in, core_at, with_core}
 use Rattle.sq_transition.specs.Leading.{phase_of, has_prepared, has_reported, after_prepare, after_start, after_report, after_next, after_finish}
 

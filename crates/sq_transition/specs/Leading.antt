@@ -1,6 +1,6 @@
 -- The leader of a world: its phase, what the partitions reported to it, and its state after a step.
 use Rattle.std.specs.Prelude.{ℕ, Bool, true, false, length}
-use Rattle.sq_ranges.specs.ReconValue.{ReconValue}
+use Rattle.sq_moves.specs.ReconValue.{ReconValue}
 use Rattle.sq_leader.specs.declared.leader.Leader.{Leader}
 use Rattle.sq_leader.specs.declared.leader.Leader.TheVariants as leader
 use Rattle.sq_leader.specs.Marks.{none_marked, is_marked, with_mark}

@@ -6,7 +6,7 @@ use Rattle.sq_store.specs.StoreValue.{families_between}
 use Rattle.sq_exec.specs.Work.{next_work}
 use Rattle.sq_exec.specs.OutLink.{cut_here}
 use Rattle.sq_exec.specs.CoreValue.{CoreValue, out_at, with_out, link_to, inbox_at, with_inbox}
-use Rattle.sq_ranges.specs.ReconValue.{stage_on}
+use Rattle.sq_moves.specs.ReconValue.{stage_on}
 use Rattle.sq_exec.specs.Moving.{loaded_core}
 use Rattle.sq_model.specs.declared.answer.Answer.TheVariants.{Done, WasCut, WasLoaded}
 use Rattle.sq_model.specs.declared.answer.Refusal.TheVariants.{NoSuchLink, NothingToCut, OutboxFull, OutboxEmpty, LinkFull, LinkEmpty, InboxFull, InboxEmpty}

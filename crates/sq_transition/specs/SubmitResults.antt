@@ -3,8 +3,8 @@ use Rattle.std.specs.Prelude.{ℕ, Bool, false, if◌then◌else◌, [], ◌∷�
 use Rattle.std.specs.Option.{option_map_or}
 use Rattle.sq_schema.specs.TxnValue.{TxnValue}
 use Rattle.sq_plan.specs.PlanValue.{owner}
-use Rattle.sq_tree.specs.Status.{covering, is_begun}
-use Rattle.sq_ranges.specs.ReconValue.{leaf_at}
+use Rattle.sq_moves.specs.Status.{covering, is_begun}
+use Rattle.sq_moves.specs.ReconValue.{leaf_at}
 use Rattle.sq_store.specs.StoreValue.{store_reply, store_after}
 use Rattle.sq_exec.specs.declared.fault.SubmitFault.{SubmitFault}
 use Rattle.sq_exec.specs.declared.fault.SubmitFault.TheVariants as submit

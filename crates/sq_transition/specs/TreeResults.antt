@@ -1,11 +1,11 @@
 -- What Split, Claim, Begin, Complete and Status do to a world.
 use Rattle.std.specs.Prelude.{ℕ, Bool, not, is_none, if◌then◌else◌}
-use Rattle.sq_tree.specs.declared.status.Status.{Status}
-use Rattle.sq_tree.specs.declared.status.Status.TheVariants as status
-use Rattle.sq_tree.specs.Node.{is_node}
-use Rattle.sq_tree.specs.Status.{reading}
-use Rattle.sq_tree.specs.Tree.{with_status}
-use Rattle.sq_tree.specs.Answer.{split_answer, claim_answer, begin_answer, complete_answer}
+use Rattle.sq_moves.specs.declared.status.Status.{Status}
+use Rattle.sq_moves.specs.declared.status.Status.TheVariants as status
+use Rattle.sq_moves.specs.Node.{is_node}
+use Rattle.sq_moves.specs.Status.{reading}
+use Rattle.sq_moves.specs.Tree.{with_status}
+use Rattle.sq_moves.specs.Answer.{split_answer, claim_answer, begin_answer, complete_answer}
 use Rattle.sq_exec.specs.Runs.{is_whole}
 use Rattle.sq_exec.specs.CoreValue.{loaded_at}
 use Rattle.sq_exec.specs.Moving.{begun_core}

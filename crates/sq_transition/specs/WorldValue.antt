@@ -4,11 +4,11 @@ use Rattle.std.specs.Option.{option_map_or}
 use Rattle.std.specs.FinMap.{empty}
 use Rattle.sq_plan.specs.declared.version.Version.TheVariants.{First}
 use Rattle.sq_plan.specs.PlanValue.{PlanValue}
-use Rattle.sq_tree.specs.declared.status.Status.{Status}
-use Rattle.sq_tree.specs.Tree.{status_at}
-use Rattle.sq_ranges.specs.declared.opening.Config.{Config}
-use Rattle.sq_ranges.specs.declared.recon.Range.{Range}
-use Rattle.sq_ranges.specs.ReconValue.{ReconValue, of_stage}
+use Rattle.sq_moves.specs.declared.status.Status.{Status}
+use Rattle.sq_moves.specs.Tree.{status_at}
+use Rattle.sq_moves.specs.declared.opening.Config.{Config}
+use Rattle.sq_moves.specs.declared.recon.Range.{Range}
+use Rattle.sq_moves.specs.ReconValue.{ReconValue, of_stage}
 use Rattle.sq_leader.specs.declared.leader.Leader.{Leader}
 use Rattle.sq_store.specs.ChunkValue.{ChunkValue}
 use Rattle.sq_exec.specs.OutLink.{OutLinkValue}

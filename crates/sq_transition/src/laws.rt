@@ -1,7 +1,7 @@
 // Laws of each step.
 ghost use Rattle.std.specs.Prelude.{◌≡◌, ℕ};
 ghost use Rattle.std.specs.FinMap.{get};
-ghost use Rattle.sq_ranges.specs.Prelude.{OpeningValue};
+ghost use Rattle.sq_moves.specs.Prelude.{OpeningValue};
 ghost use Rattle.sq_store.specs.ChunkValue.{ChunkValue};
 ghost use Rattle.sq_exec.specs.CoreValue.{CoreValue};
 ghost use Rattle.sq_model.specs.Trace.{Trace};

@@ -2,9 +2,9 @@
 use Rattle.std.proofs.Common.{◌≡◌, ℕ, ◌<◌, Bool, true, false, length, Option, None, Some, Ok, refl, ◌∙◌, arith}
 use Rattle.std.specs.Prelude.{if◌then◌else◌, not, nat_le, is_none, slice_get}
 use Rattle.std.proofs.lemmas.Option.{slice_get_within}
-use Rattle.sq_ranges.specs.declared.recon.Range.{Range}
-use Rattle.sq_ranges.specs.ReconValue.{ReconValue, of_stage}
-use Rattle.sq_tree.specs.Node.{is_node}
+use Rattle.sq_moves.specs.declared.recon.Range.{Range}
+use Rattle.sq_moves.specs.ReconValue.{ReconValue, of_stage}
+use Rattle.sq_moves.specs.Node.{is_node}
 use Rattle.sq_model.specs.declared.answer.Refusal.{Refusal}
 use Rattle.sq_model.specs.declared.answer.Refusal.TheVariants.{NoSuchSegment, NoSuchNode}
 use Rattle.sq_transition.specs.WorldValue.{WorldValue, running_stage, running_range}

@@ -5,7 +5,7 @@ use Rattle.std.specs.List.{list_any, list_all, range_with_len}
 use Rattle.std.proofs.lemmas.Bool.{eq-eqb, lt-ltb}
 use Rattle.std.proofs.lemmas.List.Sums.{list_all-from_AllPass}
 use Rattle.std.proofs.lemmas.Option.{slice_get-get_or}
-use Rattle.sq_ranges.specs.ReconValue.{ReconValue, of_stage, stages, goes_into}
+use Rattle.sq_moves.specs.ReconValue.{ReconValue, of_stage, stages, goes_into}
 use Rattle.sq_leader.specs.declared.leader.Leader.{Leader}
 use Rattle.sq_leader.specs.declared.leader.Leader.TheVariants.{Preparing, Moving, Ended}
 use Rattle.sq_leader.specs.declared.leader.Refused.{Refused as RefusedCall}

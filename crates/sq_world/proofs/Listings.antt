@@ -3,8 +3,8 @@ use Rattle.std.proofs.Common.{◌≡◌, ℕ, List, [], Option, inl, inr, refl, 
 use Rattle.std.specs.Prelude.{None, Result, Ok, Err, IfOk}
 use Rattle.std.specs.Io.KnownBytes.{Appends}
 use Rattle.sq_schema.specs.declared.schema.TheConstants.{MAX_TABLES}
-use Rattle.sq_ranges.specs.OpeningValue.{OpeningValue}
-use Rattle.sq_ranges.specs.ReconValue.{ReconValue}
+use Rattle.sq_moves.specs.OpeningValue.{OpeningValue}
+use Rattle.sq_moves.specs.ReconValue.{ReconValue}
 use Rattle.sq_text.specs.Coming.{LinesValue, Leaves}
 use Rattle.sq_text.proofs.Comings.{some_pieces}
 use Rattle.sq_text.specs.declared.located.LocatedFault.{LocatedFault}

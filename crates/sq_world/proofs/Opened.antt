@@ -11,12 +11,12 @@ use Rattle.std.specs.Prelude.{nat_lt, List}
 use Rattle.sq_schema.specs.Effect.{RowList}
 use Rattle.sq_schema.specs.Table.{is_opening}
 use Rattle.sq_schema.specs.declared.root.TheConstants.{ROOT_END}
-use Rattle.sq_tree.specs.declared.node.TheConstants.{LEAVES}
-use Rattle.sq_ranges.specs.declared.recon.Link.{Link}
-use Rattle.sq_ranges.specs.ReconValue.{AreLinks}
-use Rattle.sq_ranges.specs.OpeningValue.{OpeningValue}
-use Rattle.sq_ranges.specs.SetUp.{IsSetUp}
-use Rattle.sq_ranges.proofs.LinksFrom.{one_at, each_link}
+use Rattle.sq_moves.specs.declared.node.TheConstants.{LEAVES}
+use Rattle.sq_moves.specs.declared.recon.Link.{Link}
+use Rattle.sq_moves.specs.ReconValue.{AreLinks}
+use Rattle.sq_moves.specs.OpeningValue.{OpeningValue}
+use Rattle.sq_moves.specs.SetUp.{IsSetUp}
+use Rattle.sq_moves.proofs.LinksFrom.{one_at, each_link}
 use Rattle.sq_leader.specs.declared.leader.Leader.TheVariants.{Idle}
 use Rattle.sq_store.specs.ChunkValue.{ChunkValue}
 use Rattle.sq_exec.specs.declared.run.Run.{Run}

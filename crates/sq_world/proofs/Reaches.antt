@@ -1,8 +1,8 @@
 -- What a world opens with is an opening, and the world is the one that no step leads to.
 use Rattle.std.specs.Prelude.{[]}
-use Rattle.sq_ranges.specs.OpeningValue.{OpeningValue}
-use Rattle.sq_ranges.specs.Opening.{IsOpening}
-use Rattle.sq_ranges.specs.SetUp.{IsSetUp}
+use Rattle.sq_moves.specs.OpeningValue.{OpeningValue}
+use Rattle.sq_moves.specs.Opening.{IsOpening}
+use Rattle.sq_moves.specs.SetUp.{IsSetUp}
 use Rattle.sq_transition.specs.WorldValue.{WorldValue}
 use Rattle.sq_transition.specs.Holds.{Holds}
 use Rattle.sq_world.specs.Reached.{IsReached}

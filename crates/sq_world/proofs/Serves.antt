@@ -7,8 +7,8 @@ use Rattle.std.proofs.lemmas.List.Quantifiers.{position-Some}
 use Rattle.std.proofs.lemmas.Option.{get_or_from_slice_get}
 use Rattle.sq_schema.specs.TxnValue.{TxnValue}
 use Rattle.sq_schema.specs.declared.txn.Reply.{Reply}
-use Rattle.sq_ranges.specs.declared.recon.Range.{Range}
-use Rattle.sq_ranges.specs.ReconValue.{ReconValue, leaf_at}
+use Rattle.sq_moves.specs.declared.recon.Range.{Range}
+use Rattle.sq_moves.specs.ReconValue.{ReconValue, leaf_at}
 use Rattle.sq_store.specs.StoreValue.{StoreValue, store_reply, store_after}
 use Rattle.sq_exec.specs.declared.fault.SubmitFault.{SubmitFault}
 use Rattle.sq_exec.specs.declared.fault.SubmitFault.TheVariants as submit

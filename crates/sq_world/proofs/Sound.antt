@@ -6,13 +6,13 @@ use Rattle.std.proofs.lemmas.List.Elements.{All-contains}
 use Rattle.std.proofs.lemmas.Option.{slice_get_within, get_or_from_slice_get}
 use Rattle.sq_schema.specs.TxnValue.{TxnValue}
 use Rattle.sq_plan.proofs.Owners.{owner_exists}
-use Rattle.sq_ranges.specs.declared.segment.TheConstants.{SEGMENT_LIMIT}
-use Rattle.sq_ranges.specs.declared.recon.Range.{Range}
-use Rattle.sq_ranges.specs.Moves.{IsMovingRun}
-use Rattle.sq_ranges.specs.ReconValue.{is_link}
-use Rattle.sq_ranges.specs.declared.opening.TheConstants.{MAX_CAPACITY}
-use Rattle.sq_ranges.specs.OpeningValue.{OpeningValue}
-use Rattle.sq_ranges.specs.Opening.{IsOpening}
+use Rattle.sq_moves.specs.declared.segment.TheConstants.{SEGMENT_LIMIT}
+use Rattle.sq_moves.specs.declared.recon.Range.{Range}
+use Rattle.sq_moves.specs.Moves.{IsMovingRun}
+use Rattle.sq_moves.specs.ReconValue.{is_link}
+use Rattle.sq_moves.specs.declared.opening.TheConstants.{MAX_CAPACITY}
+use Rattle.sq_moves.specs.OpeningValue.{OpeningValue}
+use Rattle.sq_moves.specs.Opening.{IsOpening}
 use Rattle.sq_store.specs.ChunkValue.{ChunkValue}
 use Rattle.sq_exec.specs.CoreValue.{inbox_at}
 use Rattle.sq_exec.specs.Location.{location, is_coming_here, route}

@@ -4,14 +4,14 @@ use Rattle.std.specs.Prelude.{IsTrue, not, option_map, option_and_then, slice_ge
 use Rattle.std.specs.Option.{option_map_or}
 use Rattle.std.proofs.lemmas.List.{get_or_default, set-get_or}
 use Rattle.std.proofs.lemmas.Option.{slice_get_within, slice_get_read}
-use Rattle.sq_tree.specs.declared.status.Status.{Status}
-use Rattle.sq_tree.specs.declared.status.Status.TheVariants.{Free, Split, Claimed, Partial, Complete}
-use Rattle.sq_tree.specs.declared.status.Reading.{Reading}
-use Rattle.sq_tree.specs.Status.{covering, reading, is_begun}
-use Rattle.sq_tree.specs.Tree.{status_at, with_status}
-use Rattle.sq_tree.specs.Answer.{begin_answer}
-use Rattle.sq_ranges.specs.declared.recon.Range.{Range}
-use Rattle.sq_ranges.specs.ReconValue.{ReconValue, leaf_at, leaf_of, segment_of}
+use Rattle.sq_moves.specs.declared.status.Status.{Status}
+use Rattle.sq_moves.specs.declared.status.Status.TheVariants.{Free, Split, Claimed, Partial, Complete}
+use Rattle.sq_moves.specs.declared.status.Reading.{Reading}
+use Rattle.sq_moves.specs.Status.{covering, reading, is_begun}
+use Rattle.sq_moves.specs.Tree.{status_at, with_status}
+use Rattle.sq_moves.specs.Answer.{begin_answer}
+use Rattle.sq_moves.specs.declared.recon.Range.{Range}
+use Rattle.sq_moves.specs.ReconValue.{ReconValue, leaf_at, leaf_of, segment_of}
 use Rattle.sq_exec.specs.CoreValue.{CoreValue, PartCoreValue}
 use Rattle.sq_exec.specs.Moving.{begun_core}
 use Rattle.sq_model.specs.declared.step.Step.TheVariants.{Begin}

@@ -1,7 +1,7 @@
 -- A script that is being written.
 use Rattle.std.specs.Prelude.{◌≡◌, List, [], All, map}
 use Rattle.std.specs.List.{flat_map}
-use Rattle.sq_ranges.specs.OpeningValue.{OpeningValue}
+use Rattle.sq_moves.specs.OpeningValue.{OpeningValue}
 use Rattle.sq_model.specs.Legal.{after}
 use Rattle.sq_world.specs.Script.{LeadsTo}
 use Rattle.sq_world.specs.declared.draft.Draft.{Draft}

@@ -2,10 +2,10 @@
 use Rattle.std.specs.Prelude.{◌≡◌, ℕ, List, reverse, None}
 use Rattle.std.specs.List.{zip}
 use Rattle.sq_plan.specs.PlanValue.{PlanValue}
-use Rattle.sq_ranges.specs.declared.opening.Config.{Config}
-use Rattle.sq_ranges.specs.declared.opening.GivenRow.{GivenRow}
-use Rattle.sq_ranges.specs.Given.{IsOpeningOf}
-use Rattle.sq_ranges.specs.Refused.{early_fault, opening_fault, MayRefuse}
+use Rattle.sq_moves.specs.declared.opening.Config.{Config}
+use Rattle.sq_moves.specs.declared.opening.GivenRow.{GivenRow}
+use Rattle.sq_moves.specs.Given.{IsOpeningOf}
+use Rattle.sq_moves.specs.Refused.{early_fault, opening_fault, MayRefuse}
 use Rattle.sq_model.specs.declared.step.Step.{Step}
 use Rattle.sq_model.specs.declared.answer.Answer.{Answer}
 use Rattle.sq_model.specs.Trace.{Trace}

@@ -1,8 +1,8 @@
 -- What moves between two plans, as it is written.
 use Rattle.std.specs.Prelude.{◌≡◌, ◌⊎◌, ℕ, List, [], Option, None, Ok, Err}
 use Rattle.std.specs.Io.KnownBytes.{Appends}
-use Rattle.sq_ranges.specs.OpeningValue.{OpeningValue}
-use Rattle.sq_ranges.specs.ReconValue.{ReconValue}
+use Rattle.sq_moves.specs.OpeningValue.{OpeningValue}
+use Rattle.sq_moves.specs.ReconValue.{ReconValue}
 use Rattle.sq_text.specs.Pieces.{PieceValue}
 use Rattle.sq_text.specs.Coming.{LinesValue}
 use Rattle.sq_text.specs.declared.located.LocatedFault.{LocatedFault}

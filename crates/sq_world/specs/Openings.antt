@@ -1,11 +1,11 @@
 -- What the parts of a world open with.
 use Rattle.std.specs.Prelude.{◌≡◌, ℕ, ◌<◌, List, [], length, map, slice_index_or}
-use Rattle.sq_tree.specs.declared.status.Status.{Status}
-use Rattle.sq_tree.specs.declared.status.Status.TheVariants.{Free}
-use Rattle.sq_tree.specs.Tree.{status_at}
-use Rattle.sq_ranges.specs.declared.recon.Link.{Link}
-use Rattle.sq_ranges.specs.declared.recon.Range.{Range}
-use Rattle.sq_ranges.specs.ReconValue.{AreLinks}
+use Rattle.sq_moves.specs.declared.status.Status.{Status}
+use Rattle.sq_moves.specs.declared.status.Status.TheVariants.{Free}
+use Rattle.sq_moves.specs.Tree.{status_at}
+use Rattle.sq_moves.specs.declared.recon.Link.{Link}
+use Rattle.sq_moves.specs.declared.recon.Range.{Range}
+use Rattle.sq_moves.specs.ReconValue.{AreLinks}
 use Rattle.sq_transition.specs.WorldValue.{QueueValue}
 use Rattle.sq_world.specs.Queue.{opened_queue}
 

@@ -1,7 +1,7 @@
 -- The queue of a link.
 use Rattle.std.specs.Prelude.{◌≡◌, [], ◌∷◌, Option, Some, None}
 use Rattle.sq_store.specs.ChunkValue.{ChunkValue}
-use Rattle.sq_ranges.specs.declared.recon.Link.{Link}
+use Rattle.sq_moves.specs.declared.recon.Link.{Link}
 use Rattle.sq_transition.specs.WorldValue.{QueueValue}
 
 -- an empty queue

@@ -1,7 +1,7 @@
 -- The result of a step.
 use Rattle.std.specs.Prelude.{ℕ, Bool, ◌==◌, not, if◌then◌else◌, length, option_map, Option, Some, None, Result, Ok, Err}
 use Rattle.std.specs.Option.{ok_or}
-use Rattle.sq_ranges.specs.ReconValue.{stage_on}
+use Rattle.sq_moves.specs.ReconValue.{stage_on}
 use Rattle.sq_store.specs.ChunkValue.{ChunkValue}
 use Rattle.sq_model.specs.declared.answer.Answer.{Answer}
 use Rattle.sq_model.specs.declared.answer.Answer.TheVariants.{Done, Refused}

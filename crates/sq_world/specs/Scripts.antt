@@ -1,8 +1,8 @@
 -- Scripts that perform a whole move, and what is written for a header.
 use Rattle.std.specs.Prelude.{◌≡◌, ◌⊎◌, ℕ, Bool, true, false, List, [], All, map, Option, None, Ok}
 use Rattle.std.specs.List.{flat_map}
-use Rattle.sq_ranges.specs.OpeningValue.{OpeningValue}
-use Rattle.sq_ranges.specs.Opening.{IsOpening}
+use Rattle.sq_moves.specs.OpeningValue.{OpeningValue}
+use Rattle.sq_moves.specs.Opening.{IsOpening}
 use Rattle.sq_model.specs.declared.step.Phase.TheVariants.{Ended}
 use Rattle.sq_model.specs.declared.answer.Answer.{Answer}
 use Rattle.sq_model.specs.declared.answer.Answer.TheVariants.{Refused}

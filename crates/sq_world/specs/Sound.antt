@@ -1,9 +1,9 @@
 -- What the steps of a world rely on.
 use Rattle.std.specs.Prelude.{◌≡◌, ℕ, false, ◌<◌, ◌≤◌, length, Some, slice_get, IsTrue}
 use Rattle.sq_schema.specs.TxnValue.{TxnValue}
-use Rattle.sq_ranges.specs.declared.opening.TheConstants.{MAX_CAPACITY}
-use Rattle.sq_ranges.specs.declared.segment.TheConstants.{SEGMENT_LIMIT}
-use Rattle.sq_ranges.specs.declared.recon.Range.{Range}
+use Rattle.sq_moves.specs.declared.opening.TheConstants.{MAX_CAPACITY}
+use Rattle.sq_moves.specs.declared.segment.TheConstants.{SEGMENT_LIMIT}
+use Rattle.sq_moves.specs.declared.recon.Range.{Range}
 use Rattle.sq_store.specs.ChunkValue.{ChunkValue}
 use Rattle.sq_exec.specs.CoreValue.{inbox_at}
 use Rattle.sq_exec.specs.Location.{is_coming_here, route}

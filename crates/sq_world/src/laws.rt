@@ -1,6 +1,6 @@
 // Laws of runs.
 ghost use Rattle.std.specs.Prelude.{◌≡◌};
-ghost use Rattle.sq_ranges.specs.OpeningValue.{OpeningValue};
+ghost use Rattle.sq_moves.specs.OpeningValue.{OpeningValue};
 ghost use Rattle.sq_model.specs.Trace.{Trace};
 ghost use Rattle.sq_transition.specs.WorldValue.{WorldValue};
 ghost use Rattle.sq_transition.specs.Holds.{Holds};

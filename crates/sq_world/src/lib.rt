@@ -27,14 +27,16 @@ pub use input::run;
 pub use listing::{list, ranges};
 pub use move_step::{MoveStep, write_step};
 pub use sq_model::{Answer, Phase, Refusal, Step};
+pub use sq_moves::{
+    Config, GivenRow, Leaf, NodeId, Opening, OpeningFault, OpeningParts, Reading, RefusedOpening,
+    SegId, Status,
+};
 pub use sq_plan::{PartId, Plan, PlanFault, PlanRange};
-pub use sq_ranges::{Config, GivenRow, Opening, OpeningFault, OpeningParts, RefusedOpening, SegId};
 pub use sq_schema::{
     Cause, Family, Op, OpAnswer, OpAnswers, Reply, Root, Row, RowKey, Rows, Schema, Txn, TxnFault,
 };
 pub use sq_store::{Chunk, FamilyStore, Note, SlabStore};
 pub use sq_text::WriteFault;
-pub use sq_tree::{Leaf, NodeId, Reading, Status};
 pub use steps_script::write_script;
 pub use telling::{Telling, Told};
 pub use whole_run::run_world;

@@ -5,7 +5,7 @@ ghost use Rattle.sq_world.specs.Listing.{IsMovesText, Tells, TellsLines, TellsOr
 use crate::ending::Ending;
 use crate::script::end_by;
 use crate::telling::{Telling, Told};
-use sq_ranges::Recon;
+use sq_moves::Recon;
 use sq_schema::{MAX_TABLES, Schema};
 use sq_text::{InputFault, LineReader, WriteFault, read_plans, write_moves};
 use std::alloc::Global;

@@ -1,5 +1,5 @@
 // What is to move.
-use sq_ranges::{Opening, SegId};
+use sq_moves::{Opening, SegId};
 use std::alloc::{AllocError, Global};
 
 /// A segment that is to move.

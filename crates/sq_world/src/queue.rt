@@ -1,11 +1,11 @@
 // The queues of the links.
 ghost use Rattle.std.specs.Prelude.{◌≡◌, ◌<◌, ◌==◌, ◌&&◌, [], ◌∷◌, ◌++◌, length, IfOk, slice_get};
 ghost use Rattle.std.specs.Option.{option_copied};
-ghost use Rattle.sq_ranges.specs.declared.opening.TheConstants.{MAX_CAPACITY};
+ghost use Rattle.sq_moves.specs.declared.opening.TheConstants.{MAX_CAPACITY};
 ghost use Rattle.sq_world.specs.Queue.{opened_queue, IsPopped};
 
+use sq_moves::{Link, MAX_CAPACITY};
 use sq_plan::PartId;
-use sq_ranges::{Link, MAX_CAPACITY};
 use sq_store::Chunk;
 use std::alloc::{AllocError, Global};
 use std::collections::VecDeque;
@@ -23,7 +23,7 @@ pub(crate) struct Queue {
 impl Model for Queue {
     ghost use Rattle.std.specs.Prelude.{◌≤◌};
     ghost use Rattle.std.specs.VecDeque.{deque_capacity};
-    ghost use Rattle.sq_ranges.specs.declared.opening.TheConstants.{MAX_CAPACITY};
+    ghost use Rattle.sq_moves.specs.declared.opening.TheConstants.{MAX_CAPACITY};
     ghost use Rattle.sq_transition.specs.Prelude.{QueueValue};
 
     ghost Value = { QueueValue };

@@ -3,7 +3,7 @@ ghost use Rattle.std.specs.Prelude.{◌≡◌, ◌<◌, nat_le, not, is_none, le
 ghost use Rattle.std.specs.Coded.{codes};
 ghost use Rattle.sq_model.specs.declared.answer.Refusal.{Refusal};
 ghost use Rattle.sq_model.specs.Prelude.{is_moving_phase};
-ghost use Rattle.sq_tree.specs.Prelude.{is_node};
+ghost use Rattle.sq_moves.specs.Prelude.{is_node};
 ghost use Rattle.sq_store.specs.Prelude.{store_coded};
 ghost use Rattle.sq_transition.specs.Prelude.{running_range, phase_of, WorldValue};
 ghost use Rattle.sq_world.specs.Results.{refuse_if, unless};
@@ -12,10 +12,9 @@ use crate::queue::Queue;
 use sq_exec::PartCore;
 use sq_leader::Leader;
 use sq_model::Refusal;
+use sq_moves::{Config, NodeId, PlainTree, Recon, SegId};
 use sq_plan::Plan;
-use sq_ranges::{Config, Recon, SegId};
 use sq_store::SlabStore;
-use sq_tree::{NodeId, PlainTree};
 use std::alloc::Global;
 use std::marker::Model;
 

@@ -11,7 +11,7 @@ use crate::steps_ending::NoScript;
 use crate::whole::make_all;
 use crate::world::World;
 use sq_model::Phase;
-use sq_ranges::Opening;
+use sq_moves::Opening;
 use sq_schema::{MAX_TABLES, Schema};
 use sq_text::{InputFault, LineReader, LocatedFault, WriteFault, read_header, write_fault};
 use std::alloc::Global;

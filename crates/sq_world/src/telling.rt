@@ -1,9 +1,9 @@
 // Ways to write what moves.
 ghost use Rattle.std.specs.Prelude.{ℕ, List, IfOk};
-ghost use Rattle.sq_ranges.specs.Prelude.{ReconValue};
+ghost use Rattle.sq_moves.specs.Prelude.{ReconValue};
 ghost use Rattle.sq_world.specs.Listing.{IsTold};
 
-use sq_ranges::Recon;
+use sq_moves::Recon;
 use std::alloc::Global;
 use std::io;
 use std::io::Write;

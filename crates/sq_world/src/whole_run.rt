@@ -6,7 +6,7 @@ ghost use Rattle.sq_world.specs.History.{history_of};
 
 use crate::world::World;
 use sq_model::{Answer, Step};
-use sq_ranges::Opening;
+use sq_moves::Opening;
 use std::alloc::Global;
 
 /// Opens a world and executes `steps` one after another. Returns the world that they lead to, and

@@ -1,18 +1,17 @@
 // Worlds.
 ghost use Rattle.std.specs.Prelude.{◌≡◌, [], ◌∷◌, None, IfOk, IfErr};
-ghost use Rattle.sq_ranges.specs.Prelude.{OpeningValue, IsOpeningOf, opening_fault, IsOpening};
+ghost use Rattle.sq_moves.specs.Prelude.{OpeningValue, IsOpeningOf, opening_fault, IsOpening};
 ghost use Rattle.sq_model.specs.Prelude.{Trace, IsLegal};
 ghost use Rattle.sq_transition.specs.Prelude.{IsTransition, Holds, KeepsHeadline, IsAsPlanned};
 ghost use Rattle.sq_world.specs.History.{IsNotOpened};
 
 use crate::state::State;
 use sq_model::{Answer, Phase, Step};
+use sq_moves::{Config, GivenRow, Opening, RefusedOpening, Status};
 use sq_plan::Plan;
-use sq_ranges::{Config, GivenRow, Opening, RefusedOpening};
 use sq_schema::Schema;
 use sq_store::{Chunk, SlabStore};
 use sq_text::WriteFault;
-use sq_tree::Status;
 use std::alloc::Global;
 use std::io::Write;
 use std::marker::Model;

@@ -14,7 +14,7 @@ use Rattle.sq_world.specs.declared.ending.Ending.{Ending}
 use Rattle.sq_world.specs.Run.{Runs, in_manner, exit_status_of}
 use Rattle.sq_world.specs.Listing.{Lists, Tells}
 use Rattle.sq_world.specs.Scripts.{WritesScript}
-use Rattle.sq_ranges.specs.declared.recon.TheConstants.{MAX_WIDTH}
+use Rattle.sq_moves.specs.declared.recon.TheConstants.{MAX_WIDTH}
 use Rattle.sq_picture.specs.Asked.{TellsOpening, IsAnyText}
 use Rattle.sq_picture.specs.Owners.{IsOwnersText}
 use Rattle.sq_picture.specs.Json.{TellsAsJson}

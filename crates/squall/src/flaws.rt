@@ -8,8 +8,8 @@ use sq_input::{
     plan_flaw, plan_line_flaw, row_flaw, segment_flaw, sizes_flaw,
 };
 use sq_live::{JobFault, JobLineFault};
+use sq_moves::{OpeningFault, ReconFault};
 use sq_plan::{Plan, PlanFault};
-use sq_ranges::{OpeningFault, ReconFault};
 use sq_schema::{MAX_TABLES, RowFault, Schema, TxnFault};
 use sq_serving::{FaultyHeader, HeaderLine, LineRefusal, RefusedMove, ServeFault, read_serve_line};
 use sq_text::{InputFault, InputLine, LocatedFault, Meaning};

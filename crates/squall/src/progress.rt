@@ -1,7 +1,7 @@
 // The progress of a live run, shown meanwhile.
 use sq_driver::{Gate, NodeStep, WorkerEvent};
 use sq_live::{Gathered, Job, Receipt, Watch};
-use sq_ranges::Opening;
+use sq_moves::Opening;
 use sq_report::Stopwatch;
 use std::mem::forget;
 use std::sync::atomic::{AtomicBool, AtomicU64, Ordering};

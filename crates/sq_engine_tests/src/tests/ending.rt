@@ -5,8 +5,8 @@ ghost use Rattle.sq_gather.specs.Gathered.{AreAllOf};
 
 use sq_driver::{Collector, Gate, NodeStep, TellingNode, run_workers};
 use sq_gather::{Gathered, gather};
+use sq_moves::Opening;
 use sq_node::{Fabric, Node, RunParts};
-use sq_ranges::Opening;
 use sq_trial::{JobSource, PARTS, PlanChoice, ROOTS, Workload, opening_at};
 use std::alloc::{AllocError, Global};
 use std::process::Abort;

@@ -1,8 +1,8 @@
 // The caller of an engine that docs/guide/library.md shows.
 use sq_audit::Verdict;
 use sq_examples::engine::{CameBack, go_there_and_back};
+use sq_moves::Opening;
 use sq_plan::Plan;
-use sq_ranges::Opening;
 use sq_schema::{Root, RowKey, Schema};
 use sq_store::FamilyStore;
 use sq_text::{LineReader, read_header};

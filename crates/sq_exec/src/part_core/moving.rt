@@ -13,11 +13,10 @@ use crate::out_link::OutLink;
 use crate::part_core::PartCore;
 use crate::run::{add, is_met, is_whole};
 use crate::work::Work;
+use sq_moves::{Link, NodeId, SegId};
 use sq_plan::PartId;
-use sq_ranges::{Link, SegId};
 use sq_schema::Family;
 use sq_store::{Chunk, FamilyStore, Note};
-use sq_tree::NodeId;
 use std::alloc::AllocError;
 
 impl<S: FamilyStore> PartCore<S> {

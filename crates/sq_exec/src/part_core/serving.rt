@@ -11,8 +11,8 @@ use crate::location::Location;
 use crate::outcome::{Outcome, Resumed};
 use crate::part_core::PartCore;
 use crate::run::is_loaded;
+use sq_moves::MAX_WAITING;
 use sq_plan::PartId;
-use sq_ranges::MAX_WAITING;
 use sq_schema::{ApplyFault, MAX_LOG, Root, Txn};
 use sq_store::FamilyStore;
 

@@ -1,6 +1,6 @@
 // Opening a run, and a stage of it.
 ghost use Rattle.std.specs.Prelude.{◌≡◌, ◌↔◌, ◌+◌, ◌<◌, ◌==◌, ◌≤◌, [], length, map, filter, Ok, IfOk, IfErr, OnOk, IsTrue};
-ghost use Rattle.sq_ranges.specs.Prelude.{IsSetUp, stage_on, stages};
+ghost use Rattle.sq_moves.specs.Prelude.{IsSetUp, stage_on, stages};
 ghost use Rattle.sq_exec.specs.Prelude.{IsOpenStore};
 ghost use Rattle.sq_shared.specs.declared.numbers.TheConstants.{MAX_PUMPS};
 ghost use Rattle.sq_node.specs.FabricValue.{IsFabric, ends_of};
@@ -13,8 +13,8 @@ use crate::run_parts::RunParts;
 use crossbeam_queue::ArrayQueue;
 use sq_exec::open_store;
 use sq_history::History;
+use sq_moves::{Link, Opening, Recon};
 use sq_plan::PartId;
-use sq_ranges::{Link, Opening, Recon};
 use sq_shared::{SharedLink, StatusTree, TreeSeat};
 use sq_store::SlabStore;
 use std::alloc::{AllocError, Global};

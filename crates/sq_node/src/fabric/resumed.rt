@@ -2,7 +2,7 @@
 ghost use Rattle.std.specs.Prelude.{◌≡◌, ◌↔◌, ◌≤◌, length, IfOk, IfErr, OnOk, IsTrue};
 ghost use Rattle.sq_schema.specs.Prelude.{TableValue};
 ghost use Rattle.sq_shared.specs.declared.numbers.TheConstants.{MAX_PUMPS};
-ghost use Rattle.sq_ranges.specs.Prelude.{IsSetUp};
+ghost use Rattle.sq_moves.specs.Prelude.{IsSetUp};
 ghost use Rattle.sq_node_model.specs.Prelude.{folded_opening};
 ghost use Rattle.sq_node.specs.FabricValue.{IsFabric};
 ghost use Rattle.sq_node.specs.Opened.{IsReopened, AllHoldAsBegun, HasStageFor};
@@ -13,7 +13,7 @@ use super::open::open_run;
 use crate::receipt::Receipt;
 use crate::run_parts::RunParts;
 use sq_history::History;
-use sq_ranges::Opening;
+use sq_moves::Opening;
 use sq_schema::Txn;
 use sq_store::SlabStore;
 use std::alloc::Global;

@@ -1,6 +1,6 @@
 // The steps of a node on trees.
 ghost use Rattle.std.specs.Prelude.{◌≡◌, ℕ, ◌<◌, true, length, Contains, MatchBool, MatchOption, IfSome};
-ghost use Rattle.sq_tree.specs.declared.status.Status.TheVariants.{Partial};
+ghost use Rattle.sq_moves.specs.declared.status.Status.TheVariants.{Partial};
 ghost use Rattle.sq_shared.specs.Plays.{Won};
 ghost use Rattle.sq_exec.specs.Prelude.{begun_core};
 ghost use Rattle.sq_shared.specs.Seats.{AreSeatsOf, StepsAt};
@@ -14,10 +14,9 @@ use super::turn::see_complete_at;
 use crate::fabric::Fabric;
 use crate::stepped::Stepped;
 use sq_exec::PartCore;
-use sq_ranges::SegId;
+use sq_moves::{NodeId, SegId, Status};
 use sq_shared::{Request, StatusTree, TreeSeat};
 use sq_store::SlabStore;
-use sq_tree::{NodeId, Status};
 use std::sync::Wait;
 
 impl Node {

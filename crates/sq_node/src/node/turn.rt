@@ -1,6 +1,6 @@
 // Turns of a node.
 ghost use Rattle.std.specs.Prelude.{◌≡◌, ◌↔◌, ◌++◌, ℕ, ◌<◌, true, false, List, [], length, map, slice_get, Some, IsTrue, option_to_list};
-ghost use Rattle.sq_ranges.specs.declared.recon.Range.{Range};
+ghost use Rattle.sq_moves.specs.declared.recon.Range.{Range};
 ghost use Rattle.sq_shared.specs.Seat.{IsSameSeat};
 ghost use Rattle.sq_waiting.specs.Waiting.{Arrival, txns_of};
 ghost use Rattle.sq_exec.specs.Prelude.{loaded_at, IsCore, is_whole};
@@ -17,10 +17,9 @@ use super::{Node, NodeParts};
 use crate::fabric::Fabric;
 use crate::receipt::Receipt;
 use crate::stepped::Stepped;
+use sq_moves::{NodeId, Range, Status};
 use sq_plan::PartId;
-use sq_ranges::Range;
 use sq_shared::{StatusTree, TreeSeat};
-use sq_tree::{NodeId, Status};
 use std::sync::Wait;
 
 /// What [`Node::turn`] returns.

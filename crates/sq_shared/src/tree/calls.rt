@@ -1,7 +1,7 @@
 // Steps on one node.
 ghost use Rattle.std.specs.Prelude.{◌≡◌, ◌≢◌, ◌+◌, ◌≤◌, true, false, IsTrue, MatchBool, MatchResult};
-ghost use Rattle.sq_tree.specs.Prelude.{is_leaf, before};
-ghost use Rattle.sq_tree.specs.declared.status.Status.TheVariants.{Free, Split, Claimed, Partial, Complete};
+ghost use Rattle.sq_moves.specs.Prelude.{is_leaf, before};
+ghost use Rattle.sq_moves.specs.declared.status.Status.TheVariants.{Free, Split, Claimed, Partial, Complete};
 ghost use Rattle.sq_shared.specs.View.{entries};
 ghost use Rattle.sq_shared.specs.Plays.{MayBring, Found, Won};
 ghost use Rattle.sq_shared.specs.Calls.{FoundLive, FoundNotLive, WonLive, SplitRefused, ClaimRefused, BeginRefused, CompleteRefused};
@@ -9,7 +9,7 @@ ghost use Rattle.sq_shared.specs.Seat.{IsSameSeat};
 
 use super::{StatusTree, TreeSeat};
 use crate::rule::{Advance, Look};
-use sq_tree::{BeginFault, ClaimFault, CompleteFault, NodeId, SplitFault, Status};
+use sq_moves::{BeginFault, ClaimFault, CompleteFault, NodeId, SplitFault, Status};
 
 impl StatusTree {
     /// Returns the status of `node`.

@@ -1,14 +1,14 @@
 // Claims that visit several nodes.
 ghost use Rattle.std.specs.Prelude.{◌≡◌, ◌≢◌, ℕ, ◌+◌, ◌<◌, ◌≤◌, ◌⊎◌, IsTrue, MatchResult};
-ghost use Rattle.sq_tree.specs.declared.status.Status.TheVariants.{Split};
-ghost use Rattle.sq_tree.specs.declared.node.TheConstants.{LEAVES};
-ghost use Rattle.sq_tree.specs.Prelude.{parent};
+ghost use Rattle.sq_moves.specs.declared.status.Status.TheVariants.{Split};
+ghost use Rattle.sq_moves.specs.declared.node.TheConstants.{LEAVES};
+ghost use Rattle.sq_moves.specs.Prelude.{parent};
 ghost use Rattle.sq_shared.specs.View.{entries};
 ghost use Rattle.sq_shared.specs.Plays.{KnowsSplit, Found, Won};
 ghost use Rattle.sq_shared.specs.Seat.{IsSameSeat};
 
 use super::{StatusTree, TreeSeat};
-use sq_tree::{Leaf, NodeId, Status};
+use sq_moves::{Leaf, NodeId, Status};
 
 /// The outcome of a claim of a leaf.
 #[derive(Clone, Copy, Debug, PartialEq, Eq)]

@@ -2,12 +2,11 @@
 ghost use Rattle.std.specs.Prelude.{◌≡◌, [], IfOk};
 
 use sq_model::Step;
+use sq_moves::{NodeId, Opening, Recon, SegId};
 use sq_plan::{PartId, Plan};
-use sq_ranges::{Opening, Recon, SegId};
 use sq_schema::{Family, Root, Row, RowKey, Rows, Schema, Table, Txn};
 use sq_store::Note;
 use sq_text::{LineReader, read_header, read_step};
-use sq_tree::NodeId;
 use std::alloc::Global;
 use std::test::Fail;
 

@@ -4,10 +4,9 @@ ghost use Rattle.sq_shared.specs.Seats.{AreSeatsOf};
 
 use super::fixtures::{ALL, ALL_OF_THREE, FOUR_KEYS, between};
 use crossbeam_queue::ArrayQueue;
+use sq_moves::{Leaf, Recon, SegId, Status};
 use sq_plan::PartId;
-use sq_ranges::{Recon, SegId};
 use sq_shared::{Puller, Pump, PumpTurn, ReactivePull, Request, Shared, StatusTree, TreeSeat};
-use sq_tree::{Leaf, Status};
 use std::alloc::{AllocError, Global};
 use std::sync::Wait;
 use std::test::Fail;

@@ -1,9 +1,9 @@
 // Trees that threads share: two seats in turn, and four threads at once.
 ghost use Rattle.std.specs.Prelude.{◌≡◌, ◌<◌, true, IsTrue, IfOk};
-ghost use Rattle.sq_tree.specs.Prelude.{is_node};
+ghost use Rattle.sq_moves.specs.Prelude.{is_node};
 
+use sq_moves::{BeginFault, ClaimFault, CompleteFault, Leaf, NODES, NodeId, SplitFault, Status};
 use sq_shared::{LeafClaim, StatusTree, TreeSeat};
-use sq_tree::{BeginFault, ClaimFault, CompleteFault, Leaf, NODES, NodeId, SplitFault, Status};
 use std::alloc::{AllocError, Global};
 use std::test::Fail;
 use std::thread;

@@ -1,6 +1,6 @@
 // Commands to a store of each kind, which answers as a finite map by root key does.
 use super::fixtures::{family, have, transaction};
-use sq_ranges::Extent;
+use sq_moves::Extent;
 use sq_schema::{Family, Reply, Root, RowKey};
 use sq_store::{Cut, FamilyStore, SlabStore, StoreAnswer, StoreCommand, VecStore, run_store};
 use std::alloc::Global;

@@ -1,8 +1,8 @@
 // A split tree in one thread: which node covers a leaf, and what nodes read as while their pulls go on.
 ghost use Rattle.std.specs.Prelude.{◌≡◌, ◌<◌, IsTrue};
-ghost use Rattle.sq_tree.specs.Prelude.{is_node};
+ghost use Rattle.sq_moves.specs.Prelude.{is_node};
 
-use sq_tree::{Leaf, NodeId, PlainTree, Reading};
+use sq_moves::{Leaf, NodeId, PlainTree, Reading};
 use std::test::Fail;
 
 fn node(number: u64) -> NodeId

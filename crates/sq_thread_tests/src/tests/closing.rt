@@ -7,9 +7,9 @@ ghost use Rattle.sq_driver.specs.Told.{nodes_of};
 
 use super::driver::APART;
 use super::run::{Pair, job, pairs_of, read_opening, work_to_end};
+use sq_moves::Opening;
 use sq_node::{Fabric, RunParts};
 use sq_plan::PartId;
-use sq_ranges::Opening;
 use sq_schema::Txn;
 use sq_shared::Pump;
 use std::alloc::{AllocError, Global};

@@ -1,10 +1,9 @@
 // Nodes in one thread: a pull of one leaf, and requests that no claim made.
 use super::run::TestRun;
+use sq_moves::{NodeId, SegId};
 use sq_node::Stepped;
-use sq_ranges::SegId;
 use sq_schema::Txn;
 use sq_shared::{PumpTurn, Request};
-use sq_tree::NodeId;
 use std::alloc::Global;
 use std::process::Abort;
 use std::sync::Wait;

@@ -14,9 +14,9 @@ use sq_driver::{
 };
 use sq_gather::{Gathered, gather};
 use sq_model::Step;
+use sq_moves::Opening;
 use sq_node::{Fabric, Node, Receipt, RunParts, Stepped};
 use sq_plan::PartId;
-use sq_ranges::Opening;
 use sq_schema::{Reply, Schema, Txn};
 use sq_shared::{Pump, PumpTurn, Request};
 use sq_text::{LineReader, read_header, read_step};

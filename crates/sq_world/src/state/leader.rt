@@ -2,10 +2,10 @@
 ghost use Rattle.std.specs.Prelude.{◌≡◌, ℕ, ◌<◌, ◌≤◌, [], length, map, slice_index_or};
 ghost use Rattle.sq_leader.specs.Segments.{is_marked_complete};
 ghost use Rattle.sq_leader.specs.declared.leader.Leader.{Leader};
-ghost use Rattle.sq_ranges.specs.declared.segment.TheConstants.{SEGMENT_LIMIT};
-ghost use Rattle.sq_ranges.specs.Prelude.{no_moves};
+ghost use Rattle.sq_moves.specs.declared.segment.TheConstants.{SEGMENT_LIMIT};
+ghost use Rattle.sq_moves.specs.Prelude.{no_moves};
 ghost use Rattle.sq_exec.specs.Prelude.{entered_core};
-ghost use Rattle.sq_tree.specs.Prelude.{reading, status_at, is_complete_reading};
+ghost use Rattle.sq_moves.specs.Prelude.{reading, status_at, is_complete_reading};
 ghost use Rattle.sq_transition.specs.Prelude.{prepare_result, start_result, report_result, next_result, finish_result, fold_result, started_core};
 ghost use Rattle.sq_world.specs.Results.{answer_of, report_refused, next_refused};
 ghost use Rattle.sq_world.specs.Sound.{IsSound};
@@ -14,9 +14,8 @@ use crate::state::State;
 use sq_exec::PartCore;
 use sq_leader::{Idle, Leader, NextFault, Report, ReportFault};
 use sq_model::{Answer, Phase, Refusal};
-use sq_ranges::{Recon, SEGMENT_LIMIT};
+use sq_moves::{PlainTree, Recon, SEGMENT_LIMIT};
 use sq_store::SlabStore;
-use sq_tree::PlainTree;
 use std::mem;
 
 // The most segments, as the length of an array.

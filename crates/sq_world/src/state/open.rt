@@ -1,7 +1,7 @@
 // The state that a world opens in.
 ghost use Rattle.std.specs.Prelude.{◌≡◌, ℕ, [], map, IfOk, IfErr};
 ghost use Rattle.std.specs.List.{range_with_len};
-ghost use Rattle.sq_ranges.specs.Prelude.{IsSetUp};
+ghost use Rattle.sq_moves.specs.Prelude.{IsSetUp};
 ghost use Rattle.sq_transition.specs.Prelude.{Holds};
 ghost use Rattle.sq_exec.specs.Prelude.{blank_part};
 ghost use Rattle.sq_world.specs.Openings.{AreNewTrees, AreNewQueues};
@@ -10,9 +10,8 @@ use crate::queue::Queue;
 use crate::state::State;
 use sq_exec::{PartCore, fill_partitions, open_blank_partitions};
 use sq_leader::{Idle, Leader};
-use sq_ranges::{Opening, Range, Recon};
+use sq_moves::{Opening, PlainTree, Range, Recon};
 use sq_store::SlabStore;
-use sq_tree::PlainTree;
 use std::alloc::{AllocError, Global};
 
 // The parts of a state that aren't in its opening; the families have no rows yet.

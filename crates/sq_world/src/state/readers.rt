@@ -8,8 +8,8 @@ use crate::queue::Queue;
 use crate::state::State;
 use sq_leader::Leader;
 use sq_model::Phase;
+use sq_moves::{NodeId, Status};
 use sq_store::{Chunk, SlabStore};
-use sq_tree::{NodeId, Status};
 
 impl State {
     /// Returns the phase that the leader is in.

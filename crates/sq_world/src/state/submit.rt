@@ -8,9 +8,9 @@ ghost use Rattle.sq_world.specs.Sound.{IsSound};
 use crate::state::State;
 use sq_exec::{Outcome, ResumeFault, Resumed, SubmitFault};
 use sq_model::{Answer, Refusal};
+use sq_moves::Status;
 use sq_plan::PartId;
 use sq_schema::{Root, Txn};
-use sq_tree::Status;
 
 impl State {
     /// Submits `txn` at partition `part`. If memory runs out, nothing changes.

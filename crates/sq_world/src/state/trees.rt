@@ -1,7 +1,7 @@
 // The steps of the split trees.
 ghost use Rattle.std.specs.Prelude.{◌≡◌, ◌<◌, length, true, Ok, Err, is_ok, if◌then◌else◌};
-ghost use Rattle.sq_tree.specs.declared.status.Status.{Status};
-ghost use Rattle.sq_tree.specs.Prelude.{status_at, with_status, split_answer, claim_answer, begin_answer, complete_answer};
+ghost use Rattle.sq_moves.specs.declared.status.Status.{Status};
+ghost use Rattle.sq_moves.specs.Prelude.{status_at, with_status, split_answer, claim_answer, begin_answer, complete_answer};
 ghost use Rattle.sq_model.specs.declared.answer.Answer.{Answer};
 ghost use Rattle.sq_model.specs.declared.step.Step.{Step};
 ghost use Rattle.sq_model.specs.Prelude.{split_answered, claim_answered, begin_answered, complete_answered};
@@ -11,8 +11,7 @@ ghost use Rattle.sq_world.specs.Sound.{IsSound};
 
 use crate::state::{State, named_node};
 use sq_model::{Answer, Refusal};
-use sq_ranges::SegId;
-use sq_tree::{ClaimFault, CompleteFault, NodeId, PlainTree, SplitFault, Status};
+use sq_moves::{ClaimFault, CompleteFault, NodeId, PlainTree, SegId, SplitFault, Status};
 
 impl State {
     /// Splits `node` of segment `seg`.

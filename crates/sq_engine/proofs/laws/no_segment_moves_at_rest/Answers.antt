@@ -1,7 +1,7 @@
 use Rattle.std.proofs.Common.{◌==◌, ◌∙◌, ap, List}
 use Rattle.std.specs.Prelude.{count_by}
-use Rattle.sq_ranges.specs.declared.recon.Range.{Range}
-use Rattle.sq_ranges.specs.ReconValue.{segments_of, stage_in}
+use Rattle.sq_moves.specs.declared.recon.Range.{Range}
+use Rattle.sq_moves.specs.ReconValue.{segments_of, stage_in}
 use Rattle.sq_engine.proofs.laws.no_segment_moves_at_rest.Goals as goal
 
 pub returns : goal.returns

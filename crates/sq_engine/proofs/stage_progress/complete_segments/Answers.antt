@@ -4,7 +4,7 @@ use Rattle.std.specs.List.{enumerate_from}
 use Rattle.std.proofs.lemmas.List.{take_all}
 use Rattle.std.proofs.lemmas.List.FromFn.{length-enumerate_from, get_or-enumerate_from}
 use Rattle.std.proofs.lemmas.List.Sums.{count_by_more_yes, count_by_more_no}
-use Rattle.sq_ranges.specs.declared.recon.Range.{Range}
+use Rattle.sq_moves.specs.declared.recon.Range.{Range}
 use Rattle.sq_engine.specs.Progress.{is_complete_in_stage}
 use Rattle.sq_engine.proofs.stage_progress.complete_segments.Goals as goal
 use Rattle.sq_engine.proofs.stage_progress.complete_segments.Goals.{then-is_complete, else-is_complete}

@@ -1,7 +1,7 @@
 use Rattle.std.proofs.Common.{◌≡◌, ◌∙◌, ap, ℤ, List, [], ◌∷◌, w64, to_z, of_z}
 use Rattle.std.proofs.lemmas.Int.{to_z-of_z}
-use Rattle.sq_ranges.specs.declared.opening.GivenRow.{GivenRow}
-use Rattle.sq_ranges.specs.Given.{given_rows, no_rows}
+use Rattle.sq_moves.specs.declared.opening.GivenRow.{GivenRow}
+use Rattle.sq_moves.specs.Given.{given_rows, no_rows}
 use Rattle.sq_examples.specs.Moves.{root_row}
 use Rattle.sq_examples.proofs.Reading.{from_ok, row_with, opens}
 use Rattle.sq_examples.proofs.world.open.Goals as goal

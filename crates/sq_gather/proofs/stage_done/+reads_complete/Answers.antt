@@ -1,8 +1,8 @@
 use Rattle.std.proofs.Common.{inl, inr, refl, ap, ◌∙◌}
-use Rattle.sq_tree.specs.declared.status.Status.TheVariants.{Free, Split, Claimed, Partial}
-use Rattle.sq_tree.specs.Status.{is_split}
-use Rattle.sq_tree.specs.Tree.{status_at}
-use Rattle.sq_tree.proofs.Covering.{inner}
+use Rattle.sq_moves.specs.declared.status.Status.TheVariants.{Free, Split, Claimed, Partial}
+use Rattle.sq_moves.specs.Status.{is_split}
+use Rattle.sq_moves.specs.Tree.{status_at}
+use Rattle.sq_moves.proofs.Covering.{inner}
 use Rattle.sq_gather.proofs.NodeReads.{reads_unsplit, reads_both, reads_no_low, stands_at}
 use Rattle.sq_gather.proofs.stage_done.+reads_complete.Goals as goal
 

@@ -1,6 +1,6 @@
 use Rattle.std.proofs.Common.{◌+◌, ◌/◌, ◌<◌, refl, sym, ◌∙◌, arith}
 use Rattle.std.proofs.lemmas.Bool.{false≢true}
-use Rattle.sq_ranges.specs.declared.recon.TheConstants.{MAX_WIDTH}
+use Rattle.sq_moves.specs.declared.recon.TheConstants.{MAX_WIDTH}
 use Rattle.sq_input.proofs.WidthLemmas.{does_within, wider_does, width_from}
 use Rattle.sq_input.proofs.widths.least_width.Goals as goal
 

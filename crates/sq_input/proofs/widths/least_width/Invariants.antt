@@ -1,6 +1,6 @@
 use Rattle.std.proofs.Common.{◌≡◌, ℕ, ◌-◌, ◌<◌, ◌≤◌, None}
-use Rattle.sq_ranges.specs.declared.recon.TheConstants.{MAX_WIDTH}
-use Rattle.sq_ranges.specs.Between.{recon_fault}
+use Rattle.sq_moves.specs.declared.recon.TheConstants.{MAX_WIDTH}
+use Rattle.sq_moves.specs.Between.{recon_fault}
 use Rattle.sq_input.proofs.widths.least_width.Given as goal
 
 abbrev pub invariant-loop-low : goal.invariant-loop-low

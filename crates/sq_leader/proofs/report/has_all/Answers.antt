@@ -1,7 +1,7 @@
 use Rattle.std.proofs.Common.{◌≡◌, ◌<◌, ◌||◌, ◌&&◌, ◌==◌, not, true, false, List, length, get_or, arith, sym, ap, ◌∙◌, below_more}
 use Rattle.std.proofs.lemmas.Bool.{eq-eqb, ne_eqb, or_right}
-use Rattle.sq_ranges.specs.declared.recon.Range.{Range}
-use Rattle.sq_ranges.specs.ReconValue.{stage_in, moves_into}
+use Rattle.sq_moves.specs.declared.recon.Range.{Range}
+use Rattle.sq_moves.specs.ReconValue.{stage_in, moves_into}
 use Rattle.sq_leader.specs.Segments.{is_marked_complete}
 use Rattle.sq_leader.proofs.Wholes.{all_pass, one_fails, is_missing-at, moves_elsewhere}
 use Rattle.sq_leader.proofs.report.has_all.Goals as goal

@@ -1,5 +1,5 @@
 use Rattle.std.proofs.Common.{◌≡◌, ℕ, ◌<◌, ◌||◌, not, true}
-use Rattle.sq_ranges.specs.ReconValue.{moves_into}
+use Rattle.sq_moves.specs.ReconValue.{moves_into}
 use Rattle.sq_leader.specs.Segments.{is_marked_complete}
 use Rattle.sq_leader.proofs.report.has_all.Given as goal
 

@@ -2,7 +2,7 @@ use Rattle.std.proofs.Common.{rules, ◌≡◌, ◌||◌, ◌<◌, ◌≤◌, �
 use Rattle.std.specs.List.{range_with_len}
 use Rattle.std.proofs.lemmas.List.{take_all}
 use Rattle.std.proofs.lemmas.List.FromFn.{get_or-range_with_len, length-range_with_len}
-use Rattle.sq_ranges.specs.ReconValue.{stage_at}
+use Rattle.sq_moves.specs.ReconValue.{stage_at}
 use Rattle.sq_leader.specs.Segments.{is_marked_complete}
 use Rattle.sq_live.proofs.Counts.{counted_yes, counted_no}
 use Rattle.sq_live.proofs.judging.count_complete.Goals as goal

@@ -1,6 +1,6 @@
 use Rattle.std.specs.Prelude.{◌||◌, length, nat_lt}
 use Rattle.std.specs.List.{range_with_len}
-use Rattle.sq_ranges.specs.ReconValue.{stage_at}
+use Rattle.sq_moves.specs.ReconValue.{stage_at}
 use Rattle.sq_leader.specs.Segments.{is_marked_complete}
 use Rattle.sq_live.proofs.Counts.{Counted}
 use Rattle.sq_live.proofs.judging.count_complete.Given as goal

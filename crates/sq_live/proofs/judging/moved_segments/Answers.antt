@@ -1,5 +1,5 @@
 use Rattle.std.proofs.Common.{arith}
-use Rattle.sq_ranges.specs.declared.segment.TheConstants.{SEGMENT_LIMIT}
+use Rattle.sq_moves.specs.declared.segment.TheConstants.{SEGMENT_LIMIT}
 use Rattle.sq_live.specs.Judged.{is_moved}
 use Rattle.sq_leader.proofs.Leading.{none_yet, set_next}
 use Rattle.sq_live.proofs.judging.moved_segments.Goals as goal

@@ -1,6 +1,6 @@
 use Rattle.std.proofs.Common.{◌≡◌, ◌+◌, inl, inr, length, ap, ◌∙◌, subst, arith}
-use Rattle.sq_ranges.specs.ReconValue.{ReconValue}
-use Rattle.sq_ranges.specs.Opening.{IsOpening}
+use Rattle.sq_moves.specs.ReconValue.{ReconValue}
+use Rattle.sq_moves.specs.Opening.{IsOpening}
 use Rattle.sq_node_model.specs.Gathered.{GatheredValue}
 use Rattle.sq_live.specs.Account.{AccountValue}
 use Rattle.sq_live.specs.Outcome.{answered_count}

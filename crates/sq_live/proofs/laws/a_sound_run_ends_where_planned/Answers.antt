@@ -1,5 +1,5 @@
 use Rattle.std.proofs.Common.{Bool, List}
-use Rattle.sq_ranges.specs.OpeningValue.{OpeningValue}
+use Rattle.sq_moves.specs.OpeningValue.{OpeningValue}
 use Rattle.sq_audit.specs.declared.job.Job.{Job}
 use Rattle.sq_live.specs.declared.outcome.LiveOutcome.{LiveOutcome}
 use Rattle.sq_live.specs.declared.outcome.LiveOutcome.TheVariants.{Sound, Stopped, Unsound}

@@ -1,6 +1,6 @@
 use Rattle.std.proofs.Common.{◌≡◌, drop}
 use Rattle.std.specs.Prelude.{find}
-use Rattle.sq_ranges.specs.ReconValue.{has_key}
+use Rattle.sq_moves.specs.ReconValue.{has_key}
 use Rattle.sq_picture.proofs.owners.range_with.Given as goal
 
 -- no range before has the root key

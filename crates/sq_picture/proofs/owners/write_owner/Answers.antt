@@ -1,5 +1,5 @@
 use Rattle.std.proofs.Common.{ap, ◌∙◌}
-use Rattle.sq_ranges.specs.ReconValue.{ReconValue}
+use Rattle.sq_moves.specs.ReconValue.{ReconValue}
 use Rattle.sq_picture.specs.Owners.{told_leaf}
 use Rattle.sq_picture.proofs.OwnerLines.{owner_written}
 use Rattle.sq_picture.proofs.owners.write_owner.Goals as goal

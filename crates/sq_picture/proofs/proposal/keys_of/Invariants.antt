@@ -1,6 +1,6 @@
 use Rattle.std.proofs.Common.{◌≡◌, ◌-◌, take}
 use Rattle.std.specs.Prelude.{sum_by}
-use Rattle.sq_ranges.specs.declared.recon.Range.{Range}
+use Rattle.sq_moves.specs.declared.recon.Range.{Range}
 use Rattle.sq_picture.specs.Sizes.{in_64_bits}
 use Rattle.sq_picture.proofs.proposal.keys_of.Given as goal
 

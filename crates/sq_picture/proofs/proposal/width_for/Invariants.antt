@@ -1,5 +1,5 @@
 use Rattle.std.proofs.Common.{◌-◌, ◌≤◌}
-use Rattle.sq_ranges.specs.declared.recon.TheConstants.{MAX_WIDTH}
+use Rattle.sq_moves.specs.declared.recon.TheConstants.{MAX_WIDTH}
 use Rattle.sq_picture.specs.Proposal.{IsWidthFor}
 use Rattle.sq_picture.proofs.proposal.width_for.Given as goal
 

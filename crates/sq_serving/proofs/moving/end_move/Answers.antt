@@ -1,6 +1,6 @@
 use Rattle.std.proofs.Common.{refl, ap, ◌∙◌}
 use Rattle.sq_plan.specs.PlanValue.{PlanValue}
-use Rattle.sq_ranges.specs.OpeningValue.{OpeningValue}
+use Rattle.sq_moves.specs.OpeningValue.{OpeningValue}
 use Rattle.sq_serving.specs.Settling.{Standing}
 use Rattle.sq_serving.specs.Becoming.{desk_value}
 use Rattle.sq_serving.proofs.Desks.{silent}

@@ -1,6 +1,6 @@
 use Rattle.std.proofs.Common.{refl, ap, ◌∙◌, length}
-use Rattle.sq_ranges.specs.OpeningValue.{OpeningValue}
-use Rattle.sq_ranges.specs.ReconValue.{ReconValue}
+use Rattle.sq_moves.specs.OpeningValue.{OpeningValue}
+use Rattle.sq_moves.specs.ReconValue.{ReconValue}
 use Rattle.sq_serving.specs.Becoming.{desk_value}
 use Rattle.sq_serving.proofs.Steps.{speaks_then}
 use Rattle.sq_serving.proofs.Answered.{move_told_if}

@@ -1,5 +1,5 @@
 use Rattle.std.proofs.Common.{inl, inr, refl, subst}
-use Rattle.sq_ranges.specs.OpeningValue.{OpeningValue, unlimited}
+use Rattle.sq_moves.specs.OpeningValue.{OpeningValue, unlimited}
 use Rattle.sq_engine.specs.Engine.{HasOpened}
 use Rattle.sq_serving.specs.Becoming.{desk_value}
 use Rattle.sq_serving.proofs.Ended.{served_from, sound_planned}

@@ -1,6 +1,6 @@
 use Rattle.std.proofs.Common.{◌≡◌, ℕ, ◌∙◌, sym, ap, [], ◌∷◌, ◌++◌}
 use Rattle.std.proofs.lemmas.Bool.{ne_eqb}
-use Rattle.sq_ranges.specs.ReconValue.{stage_at}
+use Rattle.sq_moves.specs.ReconValue.{stage_at}
 use Rattle.sq_shared.proofs.Rounds.{stage_round-kept, stage_round-left}
 use Rattle.sq_shared.proofs.pump.stage_round.Goals as goal
 use Rattle.sq_shared.proofs.pump.stage_round.Goals.{then-stage_of-stage+in_ok-push_back, else-stage_of-stage}

@@ -1,7 +1,7 @@
 use Rattle.std.proofs.Common.{◌≡◌, ℕ, ◌<◌, length, get_or}
 use Rattle.std.specs.Slots.{slots_items}
-use Rattle.sq_tree.specs.declared.status.Status.TheVariants.{Free}
-use Rattle.sq_tree.specs.Status.{word_of}
+use Rattle.sq_moves.specs.declared.status.Status.TheVariants.{Free}
+use Rattle.sq_moves.specs.Status.{word_of}
 use Rattle.sq_shared.proofs.tree.statuses_of.Given as goal
 
 abbrev pub invariant-loop-i : goal.invariant-loop-i

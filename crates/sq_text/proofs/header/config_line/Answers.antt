@@ -1,5 +1,5 @@
 use Rattle.std.proofs.lemmas.Result.{err_from_is_err_and}
-use Rattle.sq_ranges.specs.declared.opening.Config.{Config}
+use Rattle.sq_moves.specs.declared.opening.Config.{Config}
 use Rattle.sq_text.proofs.HeaderRun.{line_read, none_read, of_read}
 use Rattle.sq_text.proofs.header.config_line.Goals as goal
 

@@ -1,6 +1,6 @@
 use Rattle.std.proofs.lemmas.Result.{err_from_is_err_and}
-use Rattle.sq_ranges.specs.declared.opening.GivenRow.{GivenRow}
-use Rattle.sq_ranges.specs.Given.{value_of}
+use Rattle.sq_moves.specs.declared.opening.GivenRow.{GivenRow}
+use Rattle.sq_moves.specs.Given.{value_of}
 use Rattle.sq_text.proofs.HeaderRun.{line_read, none_read}
 use Rattle.sq_text.proofs.header.row_line.Goals as goal
 

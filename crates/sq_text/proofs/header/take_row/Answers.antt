@@ -1,6 +1,6 @@
 use Rattle.std.proofs.Common.{refl}
 use Rattle.sq_schema.specs.Table.{rows_in}
-use Rattle.sq_ranges.specs.Given.{value_of}
+use Rattle.sq_moves.specs.Given.{value_of}
 use Rattle.sq_text.proofs.HeaderRun.{row_unread, row_malformed, row_fits, row_refused, row_line_of}
 use Rattle.sq_text.proofs.header.take_row.Goals as goal
 

@@ -1,7 +1,7 @@
 use Rattle.std.proofs.Common.{◌≡◌, ◌-◌, ap, ◌∙◌, arith, Ok, Err}
 use Rattle.std.proofs.lemmas.Result.{err_from_is_err_and}
 use Rattle.sq_schema.specs.Table.{rows_in}
-use Rattle.sq_ranges.specs.OpeningValue.{OpeningValue}
+use Rattle.sq_moves.specs.OpeningValue.{OpeningValue}
 use Rattle.sq_text.proofs.HeaderRun.{row_read_at, one_more, no_more, bad_row, other_table}
 use Rattle.sq_text.proofs.header.take_rows.Goals as goal
 

@@ -1,5 +1,5 @@
 use Rattle.std.proofs.Common.{◌≡◌, sym, subst}
-use Rattle.sq_ranges.specs.OpeningValue.{OpeningValue}
+use Rattle.sq_moves.specs.OpeningValue.{OpeningValue}
 use Rattle.sq_engine.specs.Open.{OpenJobsValue}
 use Rattle.sq_engine.specs.Values.{RunValue, run_value, Running, engine_value}
 use Rattle.sq_engine.specs.Engine.{IsReached}

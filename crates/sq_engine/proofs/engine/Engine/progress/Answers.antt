@@ -1,6 +1,6 @@
 use Rattle.std.proofs.Common.{false, true, refl, sym, ap, ◌∙◌, subst}
-use Rattle.sq_ranges.specs.ReconValue.{ReconValue}
-use Rattle.sq_ranges.specs.OpeningValue.{OpeningValue}
+use Rattle.sq_moves.specs.ReconValue.{ReconValue}
+use Rattle.sq_moves.specs.OpeningValue.{OpeningValue}
 use Rattle.sq_node_model.specs.Gathered.{GatheredValue}
 use Rattle.sq_engine.specs.declared.at.At.{At}
 use Rattle.sq_engine.specs.declared.stage_progress.StageProgress.{StageProgress}

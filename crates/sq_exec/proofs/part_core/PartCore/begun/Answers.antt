@@ -1,5 +1,5 @@
 use Rattle.std.proofs.Common.{sym, ap, ◌∙◌, refl}
-use Rattle.sq_ranges.specs.declared.recon.Range.{Range}
+use Rattle.sq_moves.specs.declared.recon.Range.{Range}
 use Rattle.sq_exec.proofs.Begins.{was_begun}
 use Rattle.sq_exec.proofs.part_core.PartCore.begun.Goals as goal
 

@@ -1,7 +1,7 @@
 use Rattle.std.proofs.Common.{◌≡◌, true, refl, sym, ap, subst}
 use Rattle.std.specs.Prelude.{unwrap_or, is_some}
 use Rattle.std.specs.List.{list_all}
-use Rattle.sq_ranges.specs.ReconValue.{leaf_at}
+use Rattle.sq_moves.specs.ReconValue.{leaf_at}
 use Rattle.sq_waiting.specs.Waiting.{WaitingValue, txns_of}
 use Rattle.sq_exec.specs.declared.fault.ResumeFault.TheVariants.{Memory}
 use Rattle.sq_exec.proofs.Kept.{still_core}

@@ -1,5 +1,5 @@
 use Rattle.std.proofs.Common.{rules, ◌≡◌, ◌≤◌, length, refl, sym, ap, ◌∙◌}
-use Rattle.sq_ranges.specs.ReconValue.{stage_at}
+use Rattle.sq_moves.specs.ReconValue.{stage_at}
 use Rattle.sq_node_model.specs.Gathered.{GatheredValue}
 use Rattle.sq_node_model.specs.Next.{is_complete_in}
 use Rattle.sq_gather.proofs.StageDone.{one_more, all_done}

@@ -1,9 +1,9 @@
 use Rattle.std.proofs.Common.{rules, ◌≡◌, List, [], ap, ◌∙◌, subst, arith}
 use Rattle.std.specs.Prelude.{slice_index_or}
-use Rattle.sq_tree.specs.declared.status.Status.{Status}
-use Rattle.sq_tree.specs.Status.{reading_within}
-use Rattle.sq_tree.specs.Reading.{is_complete_reading}
-use Rattle.sq_tree.specs.Tree.{status_at, IsGrown}
+use Rattle.sq_moves.specs.declared.status.Status.{Status}
+use Rattle.sq_moves.specs.Status.{reading_within}
+use Rattle.sq_moves.specs.Reading.{is_complete_reading}
+use Rattle.sq_moves.specs.Tree.{status_at, IsGrown}
 use Rattle.sq_gather.proofs.gathered.Gathered.is_whole.Goals as goal
 
 pub reads_complete-requires : goal.reads_complete-requires

@@ -1,10 +1,10 @@
 use Rattle.std.proofs.Common.{◌≡◌, ◌+◌, ◌≤◌, List, length, sym, ap, ◌∙◌, subst, subst₂}
 use Rattle.std.specs.Prelude.{◌↔◌, IsTrue}
 use Rattle.sq_plan.specs.PlanValue.{PlanValue}
-use Rattle.sq_ranges.specs.declared.segment.TheConstants.{SEGMENT_LIMIT}
-use Rattle.sq_ranges.specs.declared.opening.Config.{Config}
-use Rattle.sq_ranges.specs.ReconValue.{ReconValue, stages}
-use Rattle.sq_ranges.specs.declared.recon.Link.{Link}
+use Rattle.sq_moves.specs.declared.segment.TheConstants.{SEGMENT_LIMIT}
+use Rattle.sq_moves.specs.declared.opening.Config.{Config}
+use Rattle.sq_moves.specs.ReconValue.{ReconValue, stages}
+use Rattle.sq_moves.specs.declared.recon.Link.{Link}
 use Rattle.sq_shared.specs.declared.view.View.{View}
 use Rattle.sq_node.specs.FabricValue.{AreStageLinks}
 use Rattle.sq_node.proofs.NewLinks.{stage_links_are}

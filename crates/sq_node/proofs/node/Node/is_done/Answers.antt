@@ -1,6 +1,6 @@
 use Rattle.std.proofs.Common.{rules, ◌≡◌, ◌+◌, ◌≤◌, ℕ, sym, ap, ◌∙◌, subst, inr}
 use Rattle.std.specs.Prelude.{slice_get}
-use Rattle.sq_ranges.specs.ReconValue.{ReconValue, stages}
+use Rattle.sq_moves.specs.ReconValue.{ReconValue, stages}
 use Rattle.sq_node.specs.declared.stepped.Stepped.TheVariants.{Nothing}
 use Rattle.sq_node.specs.NodeState.{NodeState}
 use Rattle.sq_node.specs.Settled.{AreSeen}

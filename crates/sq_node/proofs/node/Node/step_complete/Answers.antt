@@ -1,5 +1,5 @@
 use Rattle.std.proofs.Common.{◌≡◌, true, List, length, refl, sym, ap, ◌∙◌, subst, arith}
-use Rattle.sq_ranges.specs.ReconValue.{ReconValue}
+use Rattle.sq_moves.specs.ReconValue.{ReconValue}
 use Rattle.sq_shared.specs.declared.tree.StatusTree.{StatusTree}
 use Rattle.sq_exec.specs.Runs.{is_whole}
 use Rattle.sq_exec.specs.CoreValue.{loaded_at}

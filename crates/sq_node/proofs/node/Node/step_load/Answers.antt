@@ -1,6 +1,6 @@
 use Rattle.std.proofs.Common.{◌≡◌, ℕ, List, true, ◌++◌, ◌∷◌, [], length, sym, ap, ◌∙◌, subst}
 use Rattle.std.proofs.lemmas.Bool.{and_parts}
-use Rattle.sq_ranges.specs.ReconValue.{stage_on}
+use Rattle.sq_moves.specs.ReconValue.{stage_on}
 use Rattle.std.specs.Prelude.{◌==◌, Option, IfSome, Bool, if◌then◌else◌}
 use Rattle.sq_exec.specs.CoreValue.{CoreValue}
 use Rattle.sq_store.specs.ChunkValue.{ChunkValue, IsChunk}

@@ -1,5 +1,5 @@
 use Rattle.std.proofs.Common.{◌≡◌, sym, ap, ◌∙◌, subst}
-use Rattle.sq_tree.specs.declared.status.Status.TheVariants.{Partial}
+use Rattle.sq_moves.specs.declared.status.Status.TheVariants.{Partial}
 use Rattle.sq_shared.specs.declared.view.View.{View}
 use Rattle.sq_shared.specs.Plays.{Won}
 use Rattle.sq_shared.specs.Seats.{StepsAt}

@@ -1,6 +1,6 @@
 use Rattle.std.proofs.Common.{sym, subst}
 use Rattle.std.specs.Prelude.{Bool, MatchBool}
-use Rattle.sq_tree.specs.declared.status.Status.TheVariants.{Partial}
+use Rattle.sq_moves.specs.declared.status.Status.TheVariants.{Partial}
 use Rattle.sq_shared.specs.Plays.{Won}
 use Rattle.sq_node.specs.Looks.{OnlyLooked}
 use Rattle.sq_node.proofs.Looked.{matched_at, seats_kept, begun_or_not}

@@ -1,8 +1,8 @@
 use Rattle.std.proofs.Common.{◌≡◌, ℕ, Bool, false, refl, ap, ⊎_elim}
 use Rattle.std.specs.Prelude.{◌⊎◌, ◌||◌}
-use Rattle.sq_tree.specs.declared.status.Status.{Status}
-use Rattle.sq_tree.specs.declared.status.Status.TheVariants.{Free, Claimed, Partial}
-use Rattle.sq_tree.specs.Status.{is_split, is_complete}
+use Rattle.sq_moves.specs.declared.status.Status.{Status}
+use Rattle.sq_moves.specs.declared.status.Status.TheVariants.{Free, Claimed, Partial}
+use Rattle.sq_moves.specs.Status.{is_split, is_complete}
 use Rattle.sq_node.proofs.Known.{knows_looked}
 use Rattle.sq_node.proofs.Looked.{found_looks, looked_again, seen_itself, seen_halves, found_undone, undone_since}
 use Rattle.sq_node.proofs.node.turn.+reads_complete.Goals as goal

@@ -1,6 +1,6 @@
 use Rattle.std.proofs.Common.{◌≡◌, ℕ, ◌<◌, true, Some, length}
 use Rattle.std.specs.Prelude.{slice_get}
-use Rattle.sq_ranges.specs.declared.recon.Range.{Range}
+use Rattle.sq_moves.specs.declared.recon.Range.{Range}
 use Rattle.sq_shared.specs.Seats.{AreSeatsOf}
 use Rattle.sq_node.specs.Settled.{AreSeen}
 use Rattle.sq_node.specs.Looks.{SeatsLooked}

@@ -3,7 +3,7 @@ use Rattle.std.proofs.Common.{◌≡◌, ◌<◌, ◌≤◌, ℕ, [], ap, ◌∙
 use Rattle.std.proofs.lemmas.Bool.{cases_lt}
 use Rattle.sq_schema.specs.declared.root.TheConstants.{ROOT_END}
 use Rattle.sq_schema.specs.Table.{TableValue}
-use Rattle.sq_ranges.specs.declared.opening.Config.{Config}
+use Rattle.sq_moves.specs.declared.opening.Config.{Config}
 use Rattle.sq_picture.specs.Sizes.{entries_size, size_in_64_bits}
 use Rattle.sq_picture.proofs.Weighing.{below, from_on, none_from}
 use Rattle.sq_picture.proofs.size.Size.of_segment.Goals as goal

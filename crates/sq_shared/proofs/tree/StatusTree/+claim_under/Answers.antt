@@ -1,8 +1,8 @@
 use Rattle.std.proofs.Common.{◌≡◌, ℕ, ◌-◌, ◌≢◌, ◌*◌, ◌+◌, ◌<◌, IsTrue, rules, arith}
 use Rattle.std.proofs.lemmas.Bool.Decides.{nat_tests}
-use Rattle.sq_tree.specs.declared.status.Status.TheVariants.{Split}
-use Rattle.sq_tree.specs.Node.{is_node}
-use Rattle.sq_tree.proofs.Nested.{node_bounds, node_within, Halves, halves_of}
+use Rattle.sq_moves.specs.declared.status.Status.TheVariants.{Split}
+use Rattle.sq_moves.specs.Node.{is_node}
+use Rattle.sq_moves.proofs.Nested.{node_bounds, node_within, Halves, halves_of}
 use Rattle.sq_shared.proofs.Walking.{taken_by}
 use Rattle.sq_shared.proofs.Searching.{search_here, search_taken, search_left, search_second, knows_right}
 use Rattle.sq_shared.proofs.tree.StatusTree.+claim_under.Goals as goal

@@ -1,5 +1,5 @@
 use Rattle.std.proofs.Common.{◌-◌, rules, refl, arith}
-use Rattle.sq_tree.proofs.Nested.{node_bounds, node_above_covers}
+use Rattle.sq_moves.proofs.Nested.{node_bounds, node_above_covers}
 use Rattle.sq_shared.proofs.Walking.{walk_start, walk_next, walk_held, next_live, leaf_live, may_claim}
 use Rattle.sq_shared.proofs.tree.StatusTree.claim_leaf.Goals as goal
 

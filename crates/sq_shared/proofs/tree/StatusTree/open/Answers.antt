@@ -1,5 +1,5 @@
 use Rattle.std.proofs.Common.{replicate, refl}
-use Rattle.sq_tree.specs.declared.status.Status.TheVariants.{Free}
+use Rattle.sq_moves.specs.declared.status.Status.TheVariants.{Free}
 use Rattle.sq_shared.proofs.Ends.{opens}
 use Rattle.sq_shared.proofs.tree.StatusTree.open.Goals as goal
 

@@ -1,7 +1,7 @@
 use Rattle.std.proofs.Common.{◌≡◌, ℕ, List, map, refl, sym, ap, ◌∙◌, arith}
 use Rattle.std.specs.Prelude.{◌≤◌}
 use Rattle.std.proofs.lemmas.Bool.{eq-eqb}
-use Rattle.sq_ranges.specs.CutEnd.{end_of}
+use Rattle.sq_moves.specs.CutEnd.{end_of}
 use Rattle.sq_schema.specs.declared.root.TheConstants.{ROOT_END}
 use Rattle.sq_store.specs.Counting.{chunk_count, root_after}
 use Rattle.sq_store.specs.InOrder.{are_within}

@@ -1,5 +1,5 @@
 use Rattle.std.proofs.Common.{◌≡◌, List, get_or, refl, sym, ap, ◌∙◌}
-use Rattle.sq_ranges.specs.declared.recon.Range.{Range}
+use Rattle.sq_moves.specs.declared.recon.Range.{Range}
 use Rattle.sq_exec.specs.CoreValue.{CoreValue}
 use Rattle.sq_exec.specs.Moving.{begun_core}
 use Rattle.sq_world.specs.contracts.state.State.{the_view}

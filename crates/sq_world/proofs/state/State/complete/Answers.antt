@@ -1,8 +1,8 @@
 use Rattle.std.proofs.Common.{◌≡◌, List, ap, ◌∙◌, rules}
-use Rattle.sq_tree.specs.declared.status.Status.{Status}
-use Rattle.sq_tree.specs.declared.status.Status.TheVariants as status
-use Rattle.sq_tree.specs.Tree.{status_at}
-use Rattle.sq_tree.specs.Answer.{complete_answer}
+use Rattle.sq_moves.specs.declared.status.Status.{Status}
+use Rattle.sq_moves.specs.declared.status.Status.TheVariants as status
+use Rattle.sq_moves.specs.Tree.{status_at}
+use Rattle.sq_moves.specs.Answer.{complete_answer}
 use Rattle.sq_model.specs.Answers.{complete_answered}
 use Rattle.sq_transition.specs.TreeResults.{is_loaded_whole}
 use Rattle.sq_model.specs.declared.answer.Answer.TheVariants.{Refused}

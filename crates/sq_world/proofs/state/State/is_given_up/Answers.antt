@@ -1,6 +1,6 @@
 use Rattle.std.proofs.Common.{◌≡◌, get_or, ap, ◌∙◌}
-use Rattle.sq_tree.specs.Status.{is_begun}
-use Rattle.sq_ranges.specs.ReconValue.{leaf_at}
+use Rattle.sq_moves.specs.Status.{is_begun}
+use Rattle.sq_moves.specs.ReconValue.{leaf_at}
 use Rattle.sq_transition.specs.WorldValue.{WorldValue}
 use Rattle.sq_transition.specs.SubmitResults.{is_root_given_up}
 use Rattle.sq_world.proofs.Trees.{given_up_there, begun_status, not_begun}

@@ -3,10 +3,10 @@ use Rattle.std.specs.Prelude.{slice_index_or}
 use Rattle.sq_leader.specs.Segments.{is_marked_complete}
 use Rattle.sq_leader.specs.Leader.{made_answer}
 use Rattle.sq_leader.specs.declared.leader.Leader.TheVariants.{Moving}
-use Rattle.sq_tree.specs.declared.status.Status.{Status}
-use Rattle.sq_tree.specs.Status.{reading}
-use Rattle.sq_tree.specs.Tree.{status_at}
-use Rattle.sq_tree.specs.Reading.{is_complete_reading}
+use Rattle.sq_moves.specs.declared.status.Status.{Status}
+use Rattle.sq_moves.specs.Status.{reading}
+use Rattle.sq_moves.specs.Tree.{status_at}
+use Rattle.sq_moves.specs.Reading.{is_complete_reading}
 use Rattle.sq_model.specs.declared.answer.Answer.TheVariants.{Done, Refused}
 use Rattle.sq_transition.specs.WorldValue.{WorldValue}
 use Rattle.sq_transition.specs.LeaderResults.{is_complete_by_tree}

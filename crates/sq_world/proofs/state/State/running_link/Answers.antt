@@ -1,7 +1,7 @@
 -- The link that was found has the ends that were asked for.
 use Rattle.std.proofs.Common.{◌≡◌, get_or, sym, ap, ◌∙◌}
 use Rattle.std.proofs.lemmas.Bool.{eq-eqb, ne_eqb}
-use Rattle.sq_ranges.specs.ReconValue.{stage_on}
+use Rattle.sq_moves.specs.ReconValue.{stage_on}
 use Rattle.sq_transition.specs.WorldValue.{WorldValue}
 use Rattle.sq_world.proofs.LinkSteps.{ends_found, link_of_stage}
 use Rattle.sq_world.proofs.state.State.running_link.Goals as goal

@@ -1,10 +1,10 @@
 use Rattle.std.proofs.Common.{◌≡◌, ℕ, ◌<◌, [], length}
 use Rattle.std.specs.Prelude.{slice_index_or}
 use Rattle.sq_leader.specs.Segments.{is_marked_complete}
-use Rattle.sq_ranges.specs.declared.segment.TheConstants.{SEGMENT_LIMIT}
-use Rattle.sq_tree.specs.Status.{reading}
-use Rattle.sq_tree.specs.Tree.{status_at}
-use Rattle.sq_tree.specs.Reading.{is_complete_reading}
+use Rattle.sq_moves.specs.declared.segment.TheConstants.{SEGMENT_LIMIT}
+use Rattle.sq_moves.specs.Status.{reading}
+use Rattle.sq_moves.specs.Tree.{status_at}
+use Rattle.sq_moves.specs.Reading.{is_complete_reading}
 use Rattle.sq_world.proofs.state.leader.complete_by_trees.Given as goal
 
 -- each segment so far has its entry

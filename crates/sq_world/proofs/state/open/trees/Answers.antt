@@ -1,8 +1,8 @@
 use Rattle.std.proofs.Common.{sym, ap, ◌∙◌, arith, ◌≡◌, ℕ, ◌+◌, [], ◌∷◌, ◌++◌, length, get_or, below_more}
 use Rattle.std.proofs.lemmas.List.{get_or_append_left, length-append}
 use Rattle.std.proofs.Math.Seq.{get_or-append_seam}
-use Rattle.sq_tree.specs.declared.status.Status.TheVariants.{Free}
-use Rattle.sq_tree.specs.Tree.{status_at}
+use Rattle.sq_moves.specs.declared.status.Status.TheVariants.{Free}
+use Rattle.sq_moves.specs.Tree.{status_at}
 use Rattle.sq_world.proofs.state.open.trees.Goals as goal
 
 pub loop-segment-preserved : goal.loop-segment-preserved

@@ -1,7 +1,7 @@
 use Rattle.std.proofs.Common.{◌≡◌, ℕ, ◌<◌, [], length}
 use Rattle.std.specs.Prelude.{slice_index_or}
-use Rattle.sq_tree.specs.declared.status.Status.TheVariants.{Free}
-use Rattle.sq_tree.specs.Tree.{status_at}
+use Rattle.sq_moves.specs.declared.status.Status.TheVariants.{Free}
+use Rattle.sq_moves.specs.Tree.{status_at}
 use Rattle.sq_world.proofs.state.open.trees.Given as goal
 
 -- the trees so far are there

@@ -1,5 +1,5 @@
 use Rattle.std.proofs.Common.{subst}
-use Rattle.sq_ranges.specs.ReconValue.{IsRecon}
+use Rattle.sq_moves.specs.ReconValue.{IsRecon}
 use Rattle.sq_exec.proofs.Opens.{ends_within}
 use Rattle.sq_exec.proofs.part_core.open.Places.new.Goals as goal
 

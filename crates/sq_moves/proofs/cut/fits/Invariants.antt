@@ -1,0 +1,15 @@
+use Rattle.std.proofs.Common.{◌≡◌, ◌≤◌, ◌++◌, List, length}
+use Rattle.sq_moves.specs.declared.recon.Range.{Range}
+use Rattle.sq_moves.specs.ReconValue.{segments_of}
+use Rattle.sq_moves.specs.Moves.{moves_of}
+use Rattle.sq_moves.specs.Sweep.{HasAhead, left}
+use Rattle.sq_moves.proofs.cut.fits.Given as goal
+
+abbrev pub invariant-loop-run : goal.invariant-loop-run
+invariant-loop-run l = record {
+  ahead : (done : List Range) × (rest : List Range) × (moves_of l.old l.new ≡ done ++ rest) × HasAhead l.sweep rest × (l.count ≡ length (segments_of l.width done));
+  few : l.count ≤ l.limit;
+}
+
+abbrev pub decreases-loop-run : goal.decreases-loop-run
+decreases-loop-run l = left l.sweep

@@ -1,5 +1,0 @@
-use Rattle.sq_ranges.proofs.Runs.{the_moves}
-use Rattle.sq_ranges.proofs.laws.two_plans_have_one_list_of_moves.Goals as goal
-
-pub returns : goal.returns
-returns c = λ old new is_old is_new. the_moves old new is_old is_new

@@ -1,4 +1,0 @@
-use Rattle.sq_tree.proofs.plain.PlainTree.+nearest_live.Given as goal
-
-abbrev pub decreases-nearest_live : goal.decreases-nearest_live
-decreases-nearest_live l = l.node
