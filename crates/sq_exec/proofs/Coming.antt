@@ -10,8 +10,8 @@ use Rattle.sq_moves.specs.declared.recon.Range.{Range}
 use Rattle.sq_moves.specs.ReconValue.{ReconValue, leaf_at, stage_in}
 use Rattle.sq_store.specs.declared.chunk.Note.{Note}
 use Rattle.sq_store.specs.ChunkValue.{ChunkValue, covers}
-use Rattle.sq_waiting.specs.Index.{is_between}
-use Rattle.sq_waiting.specs.Waiting.{Arrival, WaitingValue, due_if, with_due}
+use Rattle.sq_exec.specs.Index.{is_between}
+use Rattle.sq_exec.specs.Waiting.{Arrival, WaitingValue, due_if, with_due}
 use Rattle.sq_exec.specs.declared.run.Run.{Run}
 use Rattle.sq_exec.specs.Runs.{is_loaded, runs_with}
 use Rattle.sq_exec.specs.CoreValue.{CoreValue, PartCoreValue}

@@ -7,8 +7,8 @@ use Rattle.std.specs.Ordering.{nat_cmp}
 use Rattle.std.specs.declared.cmp.Ordering.TheVariants.{Less}
 use Rattle.std.proofs.lemmas.Bool.{cases_lt, and_parts, leb-true, le-leb, lt-leb, lt-ltb, le-ltb}
 use Rattle.std.proofs.lemmas.Map.Keys.{sorted_head, sorted_tail}
-use Rattle.sq_waiting.specs.Waiting.{Arrival, numbers_of, is_due_from}
-use Rattle.sq_waiting.proofs.Entries.{less_from_less}
+use Rattle.sq_exec.specs.Waiting.{Arrival, numbers_of, is_due_from}
+use Rattle.sq_exec.proofs.Entries.{less_from_less}
 
 -- those below a number pass
 abbrev pub pass_below : (Arrival → Bool) → ℕ → Arrival → Bool

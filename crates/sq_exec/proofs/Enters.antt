@@ -4,7 +4,7 @@ use Rattle.std.specs.Prelude.{◌&&◌, is_some}
 use Rattle.std.specs.List.{list_all}
 use Rattle.sq_schema.specs.TxnValue.{TxnValue}
 use Rattle.sq_moves.specs.ReconValue.{leaf_at}
-use Rattle.sq_waiting.specs.Waiting.{Arrival, WaitingValue, txns_of, numbers_of, due_if, with_due}
+use Rattle.sq_exec.specs.Waiting.{Arrival, WaitingValue, txns_of, numbers_of, due_if, with_due}
 use Rattle.sq_exec.specs.CoreValue.{CoreValue, Numbering, PartCoreValue, entered_core}
 use Rattle.sq_exec.specs.Location.{is_coming_here}
 use Rattle.sq_exec.specs.Kept.{is_due_here, IsCore}

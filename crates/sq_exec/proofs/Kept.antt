@@ -5,7 +5,7 @@ use Rattle.std.specs.List.{list_all}
 use Rattle.sq_schema.specs.TxnValue.{TxnValue}
 use Rattle.sq_moves.specs.ReconValue.{leaf_at}
 use Rattle.sq_store.specs.StoreValue.{StoreValue}
-use Rattle.sq_waiting.specs.Waiting.{Arrival}
+use Rattle.sq_exec.specs.Waiting.{Arrival}
 use Rattle.sq_exec.specs.CoreValue.{CoreValue}
 use Rattle.sq_exec.specs.Kept.{is_due_here, IsCore}
 

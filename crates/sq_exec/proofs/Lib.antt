@@ -1,3 +1,9 @@
+pub mod Entries
+pub mod Places
+pub mod Filled
+pub mod Ranges
+pub mod Arrivals
+pub mod Indexes
 pub mod Runs
 pub mod Kept
 pub mod Works

@@ -6,9 +6,9 @@ use Rattle.std.proofs.lemmas.Option.{same_Some, slice_get_within}
 use Rattle.sq_moves.specs.declared.recon.Range.{Range}
 use Rattle.sq_store.specs.ChunkValue.{ChunkValue}
 use Rattle.sq_schema.specs.TxnValue.{TxnValue}
-use Rattle.sq_waiting.specs.Waiting.{Arrival, WaitingValue, txns_of, numbers_of, due_if, with_due}
-use Rattle.sq_waiting.specs.Index.{is_between}
-use Rattle.sq_waiting.proofs.Arrivals.{txns-due, numbers-due}
+use Rattle.sq_exec.specs.Waiting.{Arrival, WaitingValue, txns_of, numbers_of, due_if, with_due}
+use Rattle.sq_exec.specs.Index.{is_between}
+use Rattle.sq_exec.proofs.Arrivals.{txns-due, numbers-due}
 use Rattle.sq_store.specs.StoreValue.{StoreValue, with_families, has_none_of}
 use Rattle.sq_exec.specs.declared.run.Run.{Run}
 use Rattle.sq_moves.specs.ReconValue.{extent}

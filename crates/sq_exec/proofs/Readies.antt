@@ -9,7 +9,7 @@ use Rattle.std.proofs.lemmas.List.{length-map}
 use Rattle.std.proofs.lemmas.List.Folds.{list_all-map, find_at}
 use Rattle.std.proofs.lemmas.Map.Keys.{sorted_from_strictly_increasing}
 use Rattle.sq_schema.specs.TxnValue.{TxnValue}
-use Rattle.sq_waiting.specs.Waiting.{Arrival, txns_of, numbers_of, is_on, is_due_from}
+use Rattle.sq_exec.specs.Waiting.{Arrival, txns_of, numbers_of, is_on, is_due_from}
 use Rattle.sq_exec.specs.declared.fault.ResumeFault.{ResumeFault}
 use Rattle.sq_exec.specs.declared.fault.ResumeFault.TheVariants.{NoneReady, LogFull}
 use Rattle.sq_exec.specs.CoreValue.{CoreValue}

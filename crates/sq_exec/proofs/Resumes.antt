@@ -9,8 +9,8 @@ use Rattle.std.proofs.lemmas.List.Folds.{list_all_at}
 use Rattle.std.proofs.lemmas.List.Quantifiers.{position-Some}
 use Rattle.sq_schema.specs.TxnValue.{TxnValue}
 use Rattle.sq_store.specs.StoreValue.{StoreValue}
-use Rattle.sq_waiting.specs.Waiting.{Arrival, txns_of, numbers_of, txn_at, without}
-use Rattle.sq_waiting.proofs.Arrivals.{IsAt, at_number, is_there}
+use Rattle.sq_exec.specs.Waiting.{Arrival, txns_of, numbers_of, txn_at, without}
+use Rattle.sq_exec.proofs.Arrivals.{IsAt, at_number, is_there}
 use Rattle.sq_exec.specs.declared.fault.ResumeFault.TheVariants.{NoneReady, LogFull}
 use Rattle.sq_exec.specs.declared.outcome.Outcome.{Outcome}
 use Rattle.sq_exec.specs.CoreValue.{CoreValue, Numbering, PartCoreValue}

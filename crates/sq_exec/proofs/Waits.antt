@@ -8,8 +8,8 @@ use Rattle.std.proofs.lemmas.List.Folds.{list_all-append}
 use Rattle.sq_schema.specs.TxnValue.{TxnValue}
 use Rattle.sq_moves.specs.declared.recon.Range.{Range}
 use Rattle.sq_moves.specs.ReconValue.{leaf_at, segment_of, leaf_of}
-use Rattle.sq_waiting.specs.Waiting.{Arrival, WaitingValue, txns_of, numbers_of, no_number, numbered_from, with_a_number_left, with_last}
-use Rattle.sq_waiting.proofs.Arrivals.{txns-numbered_from, all-numbered_from}
+use Rattle.sq_exec.specs.Waiting.{Arrival, WaitingValue, txns_of, numbers_of, no_number, numbered_from, with_a_number_left, with_last}
+use Rattle.sq_exec.proofs.Arrivals.{txns-numbered_from, all-numbered_from}
 use Rattle.sq_exec.specs.declared.location.Location.{Location}
 use Rattle.sq_exec.specs.CoreValue.{CoreValue, Numbering, PartCoreValue}
 use Rattle.sq_exec.specs.Kept.{is_due_here, IsCore}

@@ -1,6 +1,6 @@
 -- A single partition, as it is stored.
 use Rattle.std.specs.Prelude.{map}
-use Rattle.sq_waiting.specs.Waiting.{txns_of}
+use Rattle.sq_exec.specs.Waiting.{txns_of}
 use Rattle.sq_store.specs.StoreValue.{StoreValue}
 use Rattle.sq_exec.specs.declared.part_core.PartCore.TheInside.{Inside}
 use Rattle.sq_exec.specs.CoreValue.{CoreValue}

@@ -2,7 +2,7 @@
 use Rattle.std.specs.Prelude.{◌≡◌, Bool, true, ◌||◌, List, length, is_some}
 use Rattle.std.specs.List.{list_all}
 use Rattle.sq_moves.specs.ReconValue.{leaf_at}
-use Rattle.sq_waiting.specs.Waiting.{Arrival}
+use Rattle.sq_exec.specs.Waiting.{Arrival}
 use Rattle.sq_exec.specs.CoreValue.{CoreValue, has_ends}
 use Rattle.sq_exec.specs.Location.{is_coming_here}
 

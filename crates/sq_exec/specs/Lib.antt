@@ -1,3 +1,7 @@
+pub mod Index
+pub mod Indexed
+pub mod Slots
+pub mod Waiting
 pub mod Fault
 pub mod Runs
 pub mod GivenUp

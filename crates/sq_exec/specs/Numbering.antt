@@ -1,6 +1,6 @@
 -- The arrival numbers of transactions that wait at a partition.
 use Rattle.std.specs.Prelude.{◌≡◌, ◌+◌, ◌==◌, ◌++◌, ◌∷◌, [], ℕ, List, if◌then◌else◌, length, position, remove, slice_get, Option, Some, option_and_then}
-use Rattle.sq_waiting.specs.Waiting.{no_number}
+use Rattle.sq_exec.specs.Waiting.{no_number}
 use Rattle.sq_exec.specs.declared.outcome.Outcome.{Outcome}
 use Rattle.sq_exec.specs.declared.outcome.Outcome.TheVariants.{Done, Moved, Waits}
 use Rattle.sq_exec.specs.CoreValue.{Numbering, PartCoreValue}

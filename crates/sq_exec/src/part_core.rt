@@ -2,17 +2,17 @@
 ghost use Rattle.std.specs.Prelude.{◌≡◌, ◌↔◌, ◌<◌, true, List, IsTrue, length, map};
 ghost use Rattle.std.specs.Option.{option_copied};
 ghost use Rattle.std.specs.List.{list_all};
-ghost use Rattle.sq_waiting.specs.Waiting.{Arrival, txns_of, numbers_of};
+ghost use Rattle.sq_exec.specs.Waiting.{Arrival, txns_of, numbers_of};
 ghost use Rattle.sq_exec.specs.CoreValue.{out_at, inbox_at, entered_core, folded_core};
 ghost use Rattle.sq_exec.specs.Kept.{IsCore};
 
 use crate::given_up::GivenUp;
 use crate::out_link::OutLink;
 use crate::run::Run;
+use crate::waiting::Waiting;
 use sq_moves::Recon;
 use sq_plan::{PartId, Plan};
 use sq_store::{Chunk, FamilyStore};
-use sq_waiting::Waiting;
 use std::marker::Model;
 
 mod moving;
@@ -49,7 +49,7 @@ impl<S: FamilyStore> Model for PartCore<S> {
     ghost coded = { Prim.hlevel (codes, store_coded) };
 
     ghost use Rattle.std.specs.List.{list_all};
-    ghost use Rattle.sq_waiting.specs.Waiting.{numbers_of};
+    ghost use Rattle.sq_exec.specs.Waiting.{numbers_of};
     ghost use Rattle.sq_exec.specs.CoreInside.{core_inside};
     ghost use Rattle.sq_exec.specs.Kept.{IsCore};
 

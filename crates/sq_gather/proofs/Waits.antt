@@ -5,7 +5,7 @@ use Rattle.std.proofs.lemmas.Bool.{and_from, le-leb, eq-eqb}
 use Rattle.std.proofs.lemmas.List.{length-map}
 use Rattle.std.proofs.lemmas.Option.{same_Some, none-some}
 use Rattle.sq_schema.specs.TxnValue.{TxnValue}
-use Rattle.sq_waiting.specs.Waiting.{Arrival, txns_of, is_numbered, is_due_from, txn_at, without, due_if}
+use Rattle.sq_exec.specs.Waiting.{Arrival, txns_of, is_numbered, is_due_from, txn_at, without, due_if}
 
 -- the arrival number of one that is found is the number of a transaction that waits
 pub found_waits : (p : Arrival → Bool) (xs : List Arrival) (number : ℕ) (txn : TxnValue) → Some (number, txn) ≡ option_map {U = ℕ × TxnValue} (λ a. (a.number, a.txn)) (find p xs) → IsSome (txn_at xs number)

@@ -3,7 +3,7 @@ use Rattle.std.specs.Prelude.{◌≡◌, ℕ, ◌+◌, ◌≤◌, List, [], ◌�
 use Rattle.atomic_table.specs.Seated.{TableId}
 use Rattle.sq_schema.specs.TxnValue.{TxnValue}
 use Rattle.sq_store.specs.StoreValue.{StoreValue}
-use Rattle.sq_waiting.specs.Waiting.{Arrival}
+use Rattle.sq_exec.specs.Waiting.{Arrival}
 use Rattle.sq_exec.specs.Kept.{IsCore}
 use Rattle.sq_shared.specs.Values.{LinkValue}
 use Rattle.sq_shared.specs.Seat.{SeatValue}

@@ -14,14 +14,13 @@ use crate::link_ends::LinkEnds;
 use crate::links::{ClosedLink, close_links};
 use crate::trees::close_trees;
 use crossbeam_queue::ArrayQueue;
-use sq_exec::CoreParts;
+use sq_exec::{CoreParts, Waiting};
 use sq_history::History;
 use sq_moves::{NODES, Status};
 use sq_node::{Fabric, Node, NodeParts, Post, Receipt};
 use sq_schema::Txn;
 use sq_shared::{Pump, SharedLink, StatusTree, TreeSeat};
 use sq_store::SlabStore;
-use sq_waiting::Waiting;
 use std::alloc::{AllocError, Global};
 use std::collections::VecDeque;
 use std::marker::Model;
@@ -45,7 +44,7 @@ impl Model for Gathering {
     ghost use Rattle.std.specs.Prelude.{◌≡◌, map, length, vec_len, vec_capacity};
     ghost use Rattle.std.specs.Coded.{codes};
     ghost use Rattle.sq_store.specs.Prelude.{store_coded};
-    ghost use Rattle.sq_waiting.specs.Waiting.{txns_of};
+    ghost use Rattle.sq_exec.specs.Waiting.{txns_of};
     ghost use Rattle.sq_gather.specs.GatheringValue.{GatheringValue};
     ghost use Rattle.sq_gather.specs.Left.{AreRooms};
 

@@ -1,15 +1,15 @@
 // The unanswered jobs, by partition.
 ghost use Rattle.std.specs.Prelude.{◌≡◌, ◌<◌, ◌≤◌, [], ◌++◌, ◌∷◌, length, map, IfOk, vec_capacity};
-ghost use Rattle.sq_waiting.specs.Waiting.{txns_of};
+ghost use Rattle.sq_exec.specs.Waiting.{txns_of};
 ghost use Rattle.sq_node_model.specs.BeganWith.{BeginsWith};
 ghost use Rattle.sq_gather.specs.Left.{AreRooms, BeginWithWaiting, OnlyGrow};
 
 use crossbeam_queue::ArrayQueue;
+use sq_exec::Waiting;
 use sq_moves::MAX_WAITING;
 use sq_node::{JOB_PLACES, Node, Post};
 use sq_plan::PartId;
 use sq_schema::Txn;
-use sq_waiting::Waiting;
 use std::alloc::{AllocError, Global};
 use std::collections::VecDeque;
 use std::sync::Wait;

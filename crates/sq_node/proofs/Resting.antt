@@ -4,7 +4,7 @@ use Rattle.std.specs.Prelude.{Contains}
 use Rattle.std.proofs.lemmas.Bool.{cases_lt}
 use Rattle.std.proofs.lemmas.List.{get_or_past}
 use Rattle.sq_model.proofs.Lists.{Contains-first}
-use Rattle.sq_waiting.specs.Waiting.{Arrival}
+use Rattle.sq_exec.specs.Waiting.{Arrival}
 use Rattle.sq_exec.specs.OutLink.{OutLinkValue, new_out_link, may_cut}
 use Rattle.sq_exec.specs.CoreValue.{CoreValue, out_at}
 use Rattle.sq_exec.specs.Kept.{IsCore}

@@ -12,11 +12,11 @@ use crate::given_up::GivenUp;
 use crate::out_link::OutLink;
 use crate::part_core::PartCore;
 use crate::run::Run;
+use crate::waiting::Waiting;
 use sq_moves::{Opening, Recon};
 use sq_plan::{PartId, Plan};
 use sq_schema::{Root, Rows};
 use sq_store::{Chunk, FamilyStore, Place, SlabStore};
-use sq_waiting::Waiting;
 use std::alloc::{AllocError, Global};
 
 // The parts of a partition other than its families.

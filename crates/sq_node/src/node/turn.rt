@@ -2,7 +2,7 @@
 ghost use Rattle.std.specs.Prelude.{◌≡◌, ◌↔◌, ◌++◌, ℕ, ◌<◌, true, false, List, [], length, map, slice_get, Some, IsTrue, option_to_list};
 ghost use Rattle.sq_moves.specs.declared.recon.Range.{Range};
 ghost use Rattle.sq_shared.specs.Seat.{IsSameSeat};
-ghost use Rattle.sq_waiting.specs.Waiting.{Arrival, txns_of};
+ghost use Rattle.sq_exec.specs.Waiting.{Arrival, txns_of};
 ghost use Rattle.sq_exec.specs.Prelude.{loaded_at, IsCore, is_whole};
 ghost use Rattle.sq_shared.specs.Seats.{AreSeatsOf, StepsAt};
 ghost use Rattle.sq_node.specs.NodeState.{IsNodeOf};

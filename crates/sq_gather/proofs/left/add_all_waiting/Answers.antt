@@ -4,7 +4,7 @@ use Rattle.std.proofs.lemmas.List.{length-map}
 use Rattle.std.proofs.lemmas.Option.{slice_get_read}
 use Rattle.sq_schema.specs.TxnValue.{TxnValue}
 use Rattle.sq_schema.specs.declared.txn.Txn.{Txn}
-use Rattle.sq_waiting.specs.Waiting.{WaitingValue, Arrival, txns_of}
+use Rattle.sq_exec.specs.Waiting.{WaitingValue, Arrival, txns_of}
 use Rattle.sq_gather.specs.Left.{Room}
 use Rattle.sq_gather.proofs.Filled.{Fills, FillsNext, fills_none, fills_next, all_filled}
 use Rattle.sq_gather.proofs.left.add_all_waiting.Goals as goal

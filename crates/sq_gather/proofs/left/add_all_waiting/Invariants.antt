@@ -1,5 +1,5 @@
 use Rattle.std.proofs.Common.{map, vec_capacity, vec_len}
-use Rattle.sq_waiting.specs.Waiting.{txns_of}
+use Rattle.sq_exec.specs.Waiting.{txns_of}
 use Rattle.sq_gather.proofs.Filled.{Fills}
 use Rattle.sq_gather.proofs.left.add_all_waiting.Given as goal
 

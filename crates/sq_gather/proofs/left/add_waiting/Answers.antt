@@ -1,5 +1,5 @@
 use Rattle.std.proofs.Common.{length, ap, vec_capacity, arith}
-use Rattle.sq_waiting.specs.Waiting.{WaitingValue, is_due_from}
+use Rattle.sq_exec.specs.Waiting.{WaitingValue, is_due_from}
 use Rattle.sq_gather.proofs.Waits.{found_waits, takes_first, takes_more, takes_none, takes_all}
 use Rattle.sq_gather.proofs.left.add_waiting.Goals as goal
 

@@ -1,7 +1,7 @@
 use Rattle.std.proofs.Common.{◌≡◌, true, sym, ap, subst, ◌∙◌, arith}
 use Rattle.std.specs.Prelude.{find, position, slice_get}
 use Rattle.std.specs.List.{list_all}
-use Rattle.sq_waiting.specs.Waiting.{is_due_from}
+use Rattle.sq_exec.specs.Waiting.{is_due_from}
 use Rattle.sq_exec.specs.CoreValue.{PartCoreValue}
 use Rattle.sq_exec.specs.Kept.{is_due_here}
 use Rattle.sq_exec.specs.Serving.{is_ready_here, stays_by}

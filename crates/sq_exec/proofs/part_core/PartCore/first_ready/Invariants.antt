@@ -1,6 +1,6 @@
 use Rattle.std.proofs.Common.{◌≡◌, ◌-◌, true}
 use Rattle.std.specs.List.{list_all}
-use Rattle.sq_waiting.specs.Waiting.{no_number}
+use Rattle.sq_exec.specs.Waiting.{no_number}
 use Rattle.sq_exec.proofs.Due.{pass_below}
 use Rattle.sq_exec.specs.Serving.{stays_by}
 use Rattle.sq_exec.proofs.Readies.{comes, is_off}

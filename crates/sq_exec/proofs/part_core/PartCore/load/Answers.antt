@@ -3,8 +3,8 @@ use Rattle.std.proofs.lemmas.List.{length-map, get_or_default}
 use Rattle.sq_store.specs.declared.chunk.Note.{Note}
 use Rattle.sq_store.specs.ChunkValue.{ChunkValue}
 use Rattle.std.proofs.lemmas.Option.{same_Some}
-use Rattle.sq_waiting.specs.Index.{is_between}
-use Rattle.sq_waiting.specs.Waiting.{txns_of}
+use Rattle.sq_exec.specs.Index.{is_between}
+use Rattle.sq_exec.specs.Waiting.{txns_of}
 use Rattle.sq_exec.specs.Runs.{runs_with}
 use Rattle.sq_exec.specs.CoreValue.{PartCoreValue}
 use Rattle.sq_exec.proofs.Loads.{on_err, came_loadable, was_loaded, runs_kept, all_kept, same_waiting, same_numbering, more_by, none_more, as_due, loads_kept, as_was}

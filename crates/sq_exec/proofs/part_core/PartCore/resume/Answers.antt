@@ -2,7 +2,7 @@ use Rattle.std.proofs.Common.{◌≡◌, true, refl, sym, ap, subst}
 use Rattle.std.specs.Prelude.{unwrap_or, is_some}
 use Rattle.std.specs.List.{list_all}
 use Rattle.sq_moves.specs.ReconValue.{leaf_at}
-use Rattle.sq_waiting.specs.Waiting.{WaitingValue, txns_of}
+use Rattle.sq_exec.specs.Waiting.{WaitingValue, txns_of}
 use Rattle.sq_exec.specs.declared.fault.ResumeFault.TheVariants.{Memory}
 use Rattle.sq_exec.proofs.Kept.{still_core}
 use Rattle.sq_exec.proofs.Resumes.{nothing_refuses, stands, rest_due, rest_moves, was_resumed, number_taken, memory_here}

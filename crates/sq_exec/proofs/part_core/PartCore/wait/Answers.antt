@@ -1,6 +1,6 @@
 use Rattle.std.proofs.Common.{◌≡◌, ◌++◌, ◌∷◌, [], sym, ap, subst, refl, ◌∙◌}
 use Rattle.std.specs.Prelude.{not}
-use Rattle.sq_waiting.specs.Waiting.{WaitingValue, txns_of, numbers_of, with_a_number_left, with_last}
+use Rattle.sq_exec.specs.Waiting.{WaitingValue, txns_of, numbers_of, with_a_number_left, with_last}
 use Rattle.sq_exec.specs.CoreValue.{PartCoreValue}
 use Rattle.sq_exec.specs.Location.{is_coming_here, is_coming_from}
 use Rattle.sq_exec.specs.Kept.{IsCore}

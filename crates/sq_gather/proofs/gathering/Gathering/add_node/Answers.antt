@@ -2,7 +2,7 @@ use Rattle.std.proofs.Common.{◌+◌, ◌++◌, ◌∷◌, [], List, length, ma
 use Rattle.std.proofs.lemmas.List.{map-append}
 use Rattle.sq_shared.specs.declared.tree.TreeSeat.{TreeSeat}
 use Rattle.sq_schema.specs.TxnValue.{TxnValue}
-use Rattle.sq_waiting.specs.Waiting.{WaitingValue, txns_of}
+use Rattle.sq_exec.specs.Waiting.{WaitingValue, txns_of}
 use Rattle.sq_store.specs.ChunkValue.{ChunkValue}
 use Rattle.sq_exec.specs.OutLink.{OutLinkValue, RoomyOutLink}
 use Rattle.sq_shared.specs.Seat.{SeatValue}

@@ -1,6 +1,0 @@
-use Rattle.std.proofs.Common.{◌≡◌, ℕ, ◌||◌, take}
-use Rattle.sq_waiting.specs.Index.{is_among}
-use Rattle.sq_waiting.proofs.index.add_all.Given as goal
-
-abbrev pub invariant-loop-at : goal.invariant-loop-at
-invariant-loop-at l = (n : ℕ) → is_among l.numbers n ≡ (is_among l.initial.numbers n || is_among (take l.at l.lacking) n)

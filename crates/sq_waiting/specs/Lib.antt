@@ -1,4 +1,0 @@
-pub mod Index
-pub mod Indexed
-pub mod Slots
-pub mod Waiting
