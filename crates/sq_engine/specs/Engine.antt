@@ -156,7 +156,7 @@ pub record EndsMove (engine : EngineValue) : Type 0 where
   pub done : IsStageDone engine.opening gathered
   pub last : gathered.stage + 1 ≡ stages engine.opening.recon
 
--- what follows after a stage of which this was gathered
+-- what follows after a stage; `gathered` is what its workers left
 abbrev pub FollowsStage : OpeningValue → GatheredValue → Next → Type 0
 FollowsStage opening gathered next.Nothing = IsStageDone opening gathered → ⊥
 FollowsStage opening gathered next.Stage = IsStageDone opening gathered × (gathered.stage + 1 < stages opening.recon)

@@ -809,8 +809,8 @@ impl<W: Write + Drop> ServeDesk<W> {
         self.end.is_some() && self.moving.is_none() && self.expects_nothing()
     }
 
-    // Returns whether no answer is expected: each job has its answer, or none waits and there was
-    // no work in so many calls that the open jobs count as lost. Then the engine ends unsound.
+    // Returns whether no answer is expected: each job has its answer; or no job waits, and the last
+    // `LOST_CALLS` calls had no work. Then the open jobs count as lost, and the engine ends unsound.
     fn expects_nothing(&self) -> bool
         ensures { result ≡ expects_nothing self.now }
     {

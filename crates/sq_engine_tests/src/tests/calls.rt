@@ -70,7 +70,7 @@ fn refused<R: Wait + Abort>(
     }
 }
 
-// How an epoch ends in which so many answers are awaited.
+// Serves an epoch until `answers` answers have come, and returns how it ended.
 fn served<R: Threads + Wait + Abort + Sync>(
     rt: &R,
     alloc: Global,

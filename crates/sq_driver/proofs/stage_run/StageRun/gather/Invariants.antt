@@ -6,8 +6,8 @@ use Rattle.sq_driver.specs.Told.{nodes_of}
 use Rattle.sq_driver.proofs.Collected.{collected_of}
 use Rattle.sq_driver.proofs.stage_run.StageRun.gather.Given as goal
 
--- some nodes were taken from their tellers, none of which broke off, what these collected is told,
--- and there is room for the other nodes
+-- `nodes` are those of the tellers so far, `told` has what these tellers collected, each of them is
+-- whole, and `nodes` has room for the other nodes
 abbrev pub invariant-loop-pair : goal.invariant-loop-pair
 invariant-loop-pair g l = record {
   nodes : l.nodes.items ≡ nodes_of l.yielded;
