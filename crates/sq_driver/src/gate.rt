@@ -74,6 +74,12 @@ pub trait Gate: Sync {
     /// the worker for it does so at the next call of [`Gate::pass`].
     fn did(&self, _who: u64, _event: WorkerEvent) {}
 
+    /// Returns true, the default, if pump `who` may claim now; otherwise it rests, and asks again in
+    /// its next turn. It is called in each turn of a pump that may take it.
+    fn lets_claim(&self, _who: u64) -> bool {
+        true
+    }
+
     /// Called after a turn in which worker `who` found no work; `turns` is how many such turns it
     /// has taken in a row. A call may delay the worker. By default it yields to other threads, and
     /// after 256 turns it sleeps for 50 microseconds. It isn't called after a turn that lacked
@@ -99,6 +105,9 @@ pub(crate) trait OwnGate {
     /// [`Gate::did`].
     fn hears(&self, who: u64, event: WorkerEvent);
 
+    /// [`Gate::lets_claim`].
+    fn lets_pump_claim(&self, who: u64) -> bool;
+
     /// [`Gate::rests`].
     fn lets_rest<R: Wait>(&self, rt: &R, who: u64, turns: u64);
 
@@ -113,6 +122,10 @@ impl<G: Gate> OwnGate for G {
 
     fn hears(&self, who: u64, event: WorkerEvent) {
         self.did(who, event);
+    }
+
+    fn lets_pump_claim(&self, who: u64) -> bool {
+        self.lets_claim(who)
     }
 
     fn lets_rest<R: Wait>(&self, rt: &R, who: u64, turns: u64) {

@@ -43,6 +43,9 @@ impl Worker for Pump {
         if self.is_done() || !gate.lets_pass(who, NodeStep::Pump) {
             return Turn::Ended;
         }
+        if !gate.lets_pump_claim(who) {
+            return Turn::Rested;
+        }
         let turn = claim(rt, fabric, self);
         if turn == Turn::Worked {
             gate.hears(who, WorkerEvent::Made(NodeStep::Pump));
@@ -64,8 +67,8 @@ impl Worker for Pump {
 ///
 /// It ends earlier if it is done: there was nothing to claim in any segment of the running stage,
 /// and nothing is pending. It also ends if the gate says so, which is asked before each turn, and
-/// once it has lacked memory for about 3 seconds. The gate is told of each claim, and each time
-/// that the pump rests, when it may delay the pump.
+/// once it has lacked memory for about 3 seconds. While the gate lets it claim nothing, it rests.
+/// The gate is told of each claim, and each time that the pump rests, when it may delay the pump.
 pub fn drive_pump<R: Wait, G: Gate>(rt: &R, fabric: &Fabric, pump: &mut Pump, turns: u64, gate: &G)
     requires { AreSeatsOf fabric.now.trees pump.old.seats }
     ensures { PumpDriven fabric.now pump.old pump.new }
