@@ -19,7 +19,7 @@ function define(crate, word) { at[crate, word] = 1; anywhere[word] = 1 }
 function define_code(crate, line,   words, count, i) {
     if (line ~ /^ +[A-Z][A-Za-z]*[,({]/ || line ~ /^ +[A-Z][A-Za-z]* {/) { split(line, words, /[^A-Za-z]+/); define(crate, words[2]) }
     count = split(line, words, /[^A-Za-z0-9_]+/)
-    for (i = 1; i < count; i++) if (words[i] ~ /^(fn|struct|enum|trait|type|const|ensures|requires)$/) define(crate, words[i + 1])
+    for (i = 1; i < count; i++) if (words[i] ~ /^(fn|struct|enum|trait|type|const|ghost|ensures|requires)$/) define(crate, words[i + 1])
 }
 # What a line of the definitions defines: what stands before its colon.
 function define_words(crate, line,   words, count, i) {
@@ -41,9 +41,30 @@ function judge(text, crates,   quoted, words, count, i) {
         }
     }
 }
+# Judges the names in a crate's README: the crate defines them, or another one that the README names.
+function judge_readme(crate, text, crates,   quoted, words, count, i) {
+    while (match(text, /`[^`]+`/)) {
+        quoted = substr(text, RSTART + 1, RLENGTH - 2)
+        text = substr(text, RSTART + RLENGTH)
+        if (quoted !~ /^[A-Za-z_:]+$/) continue
+        count = split(quoted, words, "::")
+        for (i = 1; i <= count; i++) {
+            if (words[i] in is_crate || words[i] in plain) continue
+            read++
+            if (!has(crates, words[i])) { print "crates/" crate "/README.md: " words[i]; gone++ }
+        }
+    }
+}
+BEGIN {
+    # Words of READMEs that no crate defines: folders, a crate of the kit, the calls of tests/refused_calls.sh.
+    count = split("src args clap vec block two_stages folds", words, " ")
+    for (i = 1; i <= count; i++) plain[words[i]] = 1
+}
 FILENAME ~ /^crates/ {
     split(FILENAME, path, "/")
+    if (path[3] == "README.md") { readme[path[2]] = readme[path[2]] $0 " "; next }
     is_crate[path[2]] = 1
+    if (FNR == 1) { file = path[split(FILENAME, path, "/")]; sub(/\..*/, "", file); define(path[2], file) }
     if (path[3] == "src") define_code(path[2], $0)
     else define_words(path[2], $0)
     next
@@ -61,7 +82,8 @@ FILENAME ~ /^crates/ {
     judge(last, crates_in(last) != "" ? crates_in(last) : row != "" ? row : heading)
 }
 END {
-    if (looked < 570) { print looked " names are too few"; exit 1 }
-    print looked + 0 " names of docs/proof, " gone + 0 " of them gone"
+    for (name in readme) judge_readme(name, readme[name], name " " crates_in(readme[name]))
+    if (looked < 570 || read < 600) { print looked " and " read " names are too few"; exit 1 }
+    print looked + 0 " names of docs/proof and " read + 0 " of READMEs, " gone + 0 " of them gone"
     exit gone > 0
 }
