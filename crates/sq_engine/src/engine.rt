@@ -73,7 +73,6 @@ pub struct Served {
 /// A long-running engine: it takes and answers jobs while rows move, and performs one move after
 /// another. To a contract it is an `EngineValue`, which has the list of all its events, and which
 /// some epochs lead to.
-#[derive(Drop)]
 pub struct Engine {
     pub(crate) opening: Opening,
     pub(crate) jobs: OpenJobs,
@@ -81,6 +80,20 @@ pub struct Engine {
     pub(crate) progress: StageProgress,
     pub(crate) pumps: u32,
     first: Kept<Opening>,
+}
+
+// A function of its own, so that each function that drops an engine calls it.
+impl Drop for Engine {
+    fn drop(self) {
+        let Engine {
+            opening: _,
+            jobs: _,
+            at: _,
+            progress: _,
+            pumps: _,
+            first: _,
+        } = self;
+    }
 }
 
 impl Model for Engine {
