@@ -27,14 +27,16 @@ mod streams;
 mod text_places;
 mod unread_stages;
 mod usage;
+mod whole;
 
 use beginning::write_demo;
+use either::{Left, Right};
 use explaining::explanation;
 use live_runs::live_run;
 use outputs::refuse_outputs;
 use owning::owners;
 use plans::lines_of_plans;
-use progress::{Progress, Silent};
+use progress::Progress;
 use serving::{EngineInput, serve_engine};
 use session::{listing, open_input, refuse_file, refuse_for_memory, refuse_words, script};
 use source::{Source, is_table};
@@ -44,6 +46,7 @@ use sq_live::Watch;
 use sq_outputs::PipeEnd;
 use sq_serving::ServeConfig;
 use sq_world::ScriptManner;
+use std::alloc::Global;
 use std::cell::Cell;
 use std::convert::AsStr;
 use std::io::{BufWriter, IsTerminal, Read, Write};
@@ -56,6 +59,7 @@ use std::{env, io};
 use steps::steps;
 use streams::Streams;
 use usage::print_usage;
+use whole::{AfterPlans, FileRows, MainPart, Whole};
 
 // How many bytes the output buffer holds.
 const WRITE_SIZE: usize = 65_536;
@@ -94,10 +98,14 @@ where
         }
         let Some(name) = self.input.file else {
             self.streams.say_wait(self.rt, self.input);
-            return self.work_on_parts(reader, writer);
+            let main: MainPart<'_, R, T::File> = Left(reader);
+            return self.work_on_parts(main, writer);
         };
         match open_input(self.rt, name) {
-            Ok(file) => self.work_on_parts(file, writer),
+            Ok(file) => {
+                let main: MainPart<'_, R, T::File> = Right(file);
+                self.work_on_parts(main, writer)
+            }
             Err(error) => refuse_file(self.rt, name, &error),
         }
     }
@@ -118,14 +126,17 @@ where
             is_closed: self.streams.is_closed,
         };
         let Some(plans) = self.input.plans else {
-            return self.work(&source, main, writer);
+            let whole: Whole<'_, R, T::File> = Left(main);
+            return self.work(&source, whole, writer);
         };
         let lines = match lines_of_plans(self.rt, plans) {
             Ok(lines) => lines,
             Err(status) => return status,
         };
         let Some(name) = plans.rows else {
-            return self.work(&source, lines.as_slice().chain(main), writer);
+            let behind: AfterPlans<'_, R, T::File> = Left(main);
+            let whole: Whole<'_, R, T::File> = Right(lines.as_slice().chain(behind));
+            return self.work(&source, whole, writer);
         };
         match open_input(self.rt, name) {
             Ok(file) => self.work_with_rows(&source, &lines, main, name, file, writer),
@@ -148,17 +159,12 @@ where
         ensures { EndsWithRows self.now.task lines.now (M.remaining main) (W.contents writer.old)
             (W.contents writer.new) result }
     {
-        if !is_table(name) {
-            let behind = Inserting::new(main, bare_rows(file, source.records), source.rows);
-            return self.work(source, lines.chain(behind), writer);
-        }
-        match CsvRows::new(self.rt.alloc(), file, source.records) {
-            Ok(rows) => {
-                let behind = Inserting::new(main, rows, source.rows);
-                self.work(source, lines.chain(behind), writer)
-            }
-            Err(_) => refuse_for_memory(self.rt),
-        }
+        let Ok(rows) = rows_in(self.rt.alloc(), name, file, source.records) else {
+            return refuse_for_memory(self.rt);
+        };
+        let behind: AfterPlans<'_, M, F> = Right(Inserting::new(main, rows, source.rows));
+        let whole: Whole<'_, M, F> = Right(lines.chain(behind));
+        self.work(source, whole, writer)
     }
 
     // Performs the task with the text that `reader` reads from `source`, and returns the exit
@@ -191,10 +197,19 @@ where
     }
 }
 
-// The rows of a file that isn't a table of values, without empty lines and comments; `lines` gets
-// the lines on which they are.
-fn bare_rows<F: Read>(file: F, lines: &RecordLines) -> RowLines<BareLines<'_, F>> {
-    RowLines::new(BareLines::new(file, lines))
+// The rows of the file `name`, which may be a table of values; else without empty lines and
+// comments. `lines` gets the lines on which they are. Fails if memory runs out.
+fn rows_in<'a, F: Read + Drop>(
+    alloc: Global,
+    name: &str,
+    file: F,
+    lines: &'a RecordLines,
+) -> io::Result<FileRows<'a, F>> {
+    if is_table(name) {
+        Ok(Right(CsvRows::new(alloc, file, lines)?))
+    } else {
+        Ok(Left(RowLines::new(BareLines::new(file, lines))))
+    }
 }
 
 // Does what the words of a command line ask for. Returns the writer and the exit status.
@@ -286,13 +301,8 @@ fn main(rt: HostRuntime) -> ExitCode {
         is_closed: &is_closed,
     };
     let mut reader = rt.reader();
-    let (writer, status) = if rt.stderr().is_terminal() {
-        // It shows the progress of a live run.
-        let progress = Progress::new(&rt);
-        obey(&rt, &words, &mut reader, writer, &progress, streams)
-    } else {
-        obey(&rt, &words, &mut reader, writer, &Silent, streams)
-    };
+    let progress = Progress::new(&rt, rt.stderr().is_terminal());
+    let (writer, status) = obey(&rt, &words, &mut reader, writer, &progress, streams);
     // A buffer that is dropped would write the bytes that a failed write has left.
     let (_unbuffered, _unwritten) = writer.into_parts();
     ExitCode::from(status)

@@ -13,12 +13,14 @@ const BLANK: &str = "\r                                                         
 // The shortest time between two updates of the line, in microseconds.
 const PAUSE: u64 = 100_000;
 
-/// A watch that lets each worker pass, and shows on standard error how many jobs are answered, how
-/// many families have moved and how many segments are complete: on one line, which is rewritten as
-/// these counts grow; no count ever falls. The line is removed once the threads have ended.
+/// A watch that lets each worker pass. If standard error is a terminal, it shows there how many
+/// jobs are answered, how many families have moved and how many segments are complete: on one line,
+/// which is rewritten as these counts grow; no count ever falls. The line is removed once the
+/// threads have ended.
 #[derive(Drop)]
 pub struct Progress<'a, E> {
     to: &'a E,
+    is_shown: bool,
     clock: Stopwatch<'a, E>,
     jobs: AtomicU64,
     segments: AtomicU64,
@@ -32,10 +34,11 @@ pub struct Progress<'a, E> {
 }
 
 impl<'a, E: Eprint + Clock> Progress<'a, E> {
-    /// The progress of a run that hasn't begun.
-    pub fn new(to: &'a E) -> Progress<'a, E> {
+    /// The progress of a run that hasn't begun; `is_shown` says whether it is shown.
+    pub fn new(to: &'a E, is_shown: bool) -> Progress<'a, E> {
         Progress {
             to,
+            is_shown,
             clock: Stopwatch::start(to),
             jobs: AtomicU64::new(0),
             segments: AtomicU64::new(0),
@@ -49,6 +52,9 @@ impl<'a, E: Eprint + Clock> Progress<'a, E> {
 
     // Adds to a count, and updates the line, unless another worker is doing so.
     fn add(&self, count: &AtomicU64, more: u64) {
+        if !self.is_shown {
+            return;
+        }
         count.fetch_add(more, Ordering::SeqCst);
         if !self.busy.swap(true, Ordering::SeqCst) {
             self.go_on();
@@ -95,42 +101,28 @@ impl<E: Eprint + Clock + Sync> Gate for Progress<'_, E> {
 
 impl<E: Eprint + Clock + Sync> Watch for Progress<'_, E> {
     fn begins(&self, jobs: u64, segments: u64) {
+        if !self.is_shown {
+            return;
+        }
         self.jobs.store(jobs, Ordering::SeqCst);
         self.segments.store(segments, Ordering::SeqCst);
         self.say();
     }
 
     fn leaves(&self, left: Gathered, told: Vec<Receipt>, opening: Opening, jobs: Vec<Job>) {
-        leave(left, told, opening, jobs);
+        // Frees nothing: the program ends, and the system reclaims its memory faster than it could
+        // be freed.
+        forget(left);
+        forget(told);
+        forget(opening);
+        forget(jobs);
     }
 
     fn ends(&self) {
+        if !self.is_shown {
+            return;
+        }
         self.say();
         let _ = eprint!(self.to; "{BLANK}");
     }
-}
-
-/// A watch that lets each worker pass, and shows nothing.
-#[derive(Clone, Copy, Debug)]
-pub struct Silent;
-
-impl Gate for Silent {
-    fn pass(&self, _who: u64, _step: NodeStep) -> bool {
-        true
-    }
-}
-
-impl Watch for Silent {
-    fn leaves(&self, left: Gathered, told: Vec<Receipt>, opening: Opening, jobs: Vec<Job>) {
-        leave(left, told, opening, jobs);
-    }
-}
-
-// Frees nothing: the program ends, and the system reclaims its memory faster than it could be
-// freed.
-fn leave(left: Gathered, told: Vec<Receipt>, opening: Opening, jobs: Vec<Job>) {
-    forget(left);
-    forget(told);
-    forget(opening);
-    forget(jobs);
 }

@@ -1,0 +1,17 @@
+// The text of an input, put together from its parts. Each has one type, however it is put together,
+// so that the program holds the code that reads it once.
+use either::Either;
+use sq_input::{BareLines, CsvRows, Inserting, RowLines};
+use std::io::Chain;
+
+/// The main part: what is read, or a named file.
+pub type MainPart<'a, R, F> = Either<&'a mut R, F>;
+
+/// The rows of a file: as lines, or as a table of values.
+pub type FileRows<'a, F> = Either<RowLines<BareLines<'a, F>>, CsvRows<'a, F>>;
+
+/// What comes after the lines of the plans: the main part alone, or with rows inserted.
+pub type AfterPlans<'a, M, F> = Either<M, Inserting<'a, M, FileRows<'a, F>>>;
+
+/// The whole: the main part alone, or after the lines of the plans.
+pub type Whole<'a, M, F> = Either<M, Chain<&'a [u8], AfterPlans<'a, M, F>>>;
