@@ -12,6 +12,8 @@ use crate::source::{FaultPlace, is_table};
 use crate::streams::Streams;
 use crate::text_places::TextPlaces;
 use crate::unread_stages::PlansWatched;
+use crate::whole::{EngineMain, EngineText};
+use either::{Left, Right};
 use sq_command::{EngineFiles, EngineReports};
 use sq_serving::{
     CountedLines, FaultyHeader, FileLines, Following, LinePlace, LineSource, ServeConfig,
@@ -148,11 +150,12 @@ where
     let typed = PlansWatched::new(*rt, rt.reader(), None);
     let Some(name) = serving.input.file else {
         say_wait(rt, serving.input, serving.streams);
-        return serve_main(rt, writer, typed, None, serving, watch);
+        let main: EngineMain<T, T::File, T::Reader> = Left(typed);
+        return serve_main(rt, writer, main, None, serving, watch);
     };
     match told(rt, name, open_counted(rt, name)) {
         Ok((file, lines)) => {
-            let main = Following::new(file, typed);
+            let main: EngineMain<T, T::File, T::Reader> = Right(Following::new(file, typed));
             serve_main(rt, writer, main, Some(lines), serving, watch)
         }
         Err(status) => (writer, status),
@@ -216,7 +219,8 @@ where
             rows: None,
             file,
         };
-        return serve_text(rt, writer, main, places, serving, watch);
+        let whole: EngineText<I> = Left(main);
+        return serve_text(rt, writer, whole, places, serving, watch);
     };
     let mut main = main;
     match front_of(rt, files, &mut main) {
@@ -226,7 +230,7 @@ where
                 rows,
                 file,
             };
-            let whole = Cursor::new(text).chain(main);
+            let whole: EngineText<I> = Right(Cursor::new(text).chain(main));
             let serving = Serving { flaw, ..serving };
             serve_text(rt, writer, whole, places, serving, watch)
         }
