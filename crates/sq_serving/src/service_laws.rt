@@ -34,7 +34,7 @@ pub fn a_service_writes_each_answer<V: ServeWatch>()
 /// Whatever the ending that is told of an engine, each answer that it gave is written, once, unless
 /// its desk stopped, and the line of the ending is the last. If it is sound, the engine was closed
 /// where planned, no job is open or waits, and the line counts the commits that were written.
-pub fn a_sound_service_writes_all<W: Write, V: ServeWatch>()
+pub fn a_service_writes_its_answers_and_ending<W: Write, V: ServeWatch>()
     ensures { (watch : V) (strict : Bool) (old new : W) (ending : ServeEnding)
         → ServesWriter strict (V.Saves watch) W.contents old new ending
         → Serves strict (V.Saves watch) (W.contents old) (W.contents new) ending }
