@@ -39,6 +39,13 @@ pub trait Client {
     fn take_back(&mut self, job: Job, fault: PostFault)
         ensures { Becomes self.old (Returned job fault) self.new };
 
+    /// Returns how many pumps may claim: only the first so many of the engine do, all by default. It
+    /// is asked as an epoch begins and before each call of [`Client::next`]. While no pump may claim,
+    /// only keys move for which a transaction waits.
+    fn claiming_pumps(&self) -> u64 {
+        u64::MAX
+    }
+
     /// Waits a while, after the client asked for nothing `tries` times in a row while nothing moves
     /// and each job has its answer. It may wait until it has something to ask for, and has to
     /// return after some milliseconds in any case. By default it yields to other threads, and after

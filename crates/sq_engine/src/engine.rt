@@ -236,7 +236,8 @@ impl Engine {
     /// receipt arrives that is no open job's, a node gets no thread, or a worker lacks memory for
     /// some seconds. Then all workers have ended, and `client` has been given the answers that were
     /// still on their way. The engine continues: to the next stage once each segment of this one is
-    /// complete, and after the last stage to rest.
+    /// complete, and after the last stage to rest. While `client` lets some pumps claim nothing,
+    /// these rest, and a stage with keys that nobody claims goes on.
     ///
     /// If memory runs out before the epoch, `client` is not called and no event is added.
     pub fn serve<C: Client, R: Threads + Wait + Sync>(
@@ -275,8 +276,9 @@ impl Engine {
         ensures not_called { OnErr result (client.new ≡ client.old) }
     {
         let told = self.progress();
+        let claiming_pumps = client.claiming_pumps();
         match mem::replace(&mut self.at, At::Changing) {
-            At::Running(run) => match make_ready(alloc, run, told) {
+            At::Running(run) => match make_ready(alloc, run, told, claiming_pumps) {
                 Ok(ready) => {
                     let served = run_ready(rt, ready, &mut self.jobs, turns, client);
                     let ServedRun { run, progress, end } = served;

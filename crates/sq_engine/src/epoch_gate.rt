@@ -14,7 +14,7 @@ use std::sync::atomic::{AtomicBool, AtomicU64, Ordering};
 /// The gate of an epoch that serves a client: it lets each worker pass until the epoch ends. The
 /// epoch ends if its client asks for it, each segment of its stage is complete, a receipt arrives
 /// that is no open job's, or a node gets no thread. While nothing moves, a node without work sleeps
-/// until a job arrives for it.
+/// until a job arrives for it. The first pumps claim, as many as the client says.
 #[derive(Drop)]
 pub(crate) struct EpochGate {
     is_over: AtomicBool,
@@ -23,6 +23,7 @@ pub(crate) struct EpochGate {
     lack_memory: AtomicBool,
     nodes: NodesHere,
     bells: Vec<NodeBell>,
+    claiming_pumps: AtomicU64,
     pub(crate) segments: u64,
     complete: AtomicU64,
     moved: AtomicU64,
@@ -31,11 +32,13 @@ pub(crate) struct EpochGate {
 
 impl EpochGate {
     /// Returns the gate of an epoch of `parts` partitions whose stage has come as far as
-    /// `progress`, and whose workers haven't started. If the stage is done, the epoch is over.
+    /// `progress`, and whose workers haven't started; the first `claiming_pumps` pumps claim. If the
+    /// stage is done, the epoch is over.
     pub(crate) fn new(
         alloc: Global,
         parts: u8,
         progress: StageProgress,
+        claiming_pumps: u64,
     ) -> Result<EpochGate, AllocError>
         ensures { IfOk result (λ gate. gate.segments ≡ progress.segments) }
     {
@@ -47,6 +50,7 @@ impl EpochGate {
             lack_memory: AtomicBool::new(false),
             nodes: NodesHere::new(parts),
             bells,
+            claiming_pumps: AtomicU64::new(claiming_pumps),
             segments: progress.segments,
             complete: AtomicU64::new(progress.complete),
             moved: AtomicU64::new(progress.moved),
@@ -115,6 +119,11 @@ impl EpochGate {
         }
     }
 
+    /// Lets only the first `count` pumps claim from now on.
+    pub(crate) fn let_claim(&self, count: u64) {
+        self.claiming_pumps.store(count, Ordering::SeqCst);
+    }
+
     /// Returns true if nothing moves in the stage.
     pub(crate) fn is_rest(&self) -> bool {
         self.segments == 0
@@ -159,6 +168,11 @@ impl Gate for EpochGate {
                 }
             }
         }
+    }
+
+    fn lets_claim(&self, who: u64) -> bool {
+        let pump = who.saturating_sub(self.bells.len() as u64);
+        pump < self.claiming_pumps.load(Ordering::SeqCst)
     }
 
     fn rests<R: Wait>(&self, rt: &R, who: u64, turns: u64) {

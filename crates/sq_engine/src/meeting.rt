@@ -186,6 +186,7 @@ fn execute_command<C: Client, R: Wait>(
     ensures { DoesCommand fabric.now.parts (InStage gate.now.segments C.Becomes)
         jobs.old client.old jobs.new client.new }
 {
+    gate.let_claim(client.claiming_pumps());
     match client.next(gate.progress()) {
         Command::Post(job) => {
             offer(rt, fabric, gate, jobs, job, client);

@@ -59,12 +59,13 @@ pub(crate) struct ServedRun {
     pub(crate) end: EpochEnd,
 }
 
-/// Gives tellers to the nodes of `run`, whose stage has come as far as `progress`. If memory runs
-/// out, `run` is returned.
+/// Gives tellers to the nodes of `run`, whose stage has come as far as `progress`; its first
+/// `claiming_pumps` pumps claim. If memory runs out, `run` is returned.
 pub(crate) fn make_ready(
     alloc: Global,
     run: RunParts,
     progress: StageProgress,
+    claiming_pumps: u64,
 ) -> Result<Ready, RunParts>
     requires { length run.nodes.items ≡ run.fabric.parts }
     ensures ready { IfOk result (IsReady run.fabric.parts) }
@@ -81,7 +82,7 @@ pub(crate) fn make_ready(
     let Ok((tellers, rings)) = open_rings(alloc, parts) else {
         return Err(run);
     };
-    let Ok(gate) = EpochGate::new(alloc, parts, progress) else {
+    let Ok(gate) = EpochGate::new(alloc, parts, progress, claiming_pumps) else {
         return Err(run);
     };
     let RunParts {

@@ -19,8 +19,10 @@ pub type AfterPlans<'a, M, F> = Either<M, Inserting<'a, M, FileRows<'a, F>>>;
 pub type Whole<'a, M, F> = Either<M, Chain<&'a [u8], AfterPlans<'a, M, F>>>;
 
 /// The main part of an engine's text: what is read, or a named file and then that.
-pub type EngineMain<T, F, R> =
-    Either<PlansWatched<T, R>, Following<CountedLines<PlansWatched<T, F>>, PlansWatched<T, R>>>;
+pub type EngineMain<T, F, R> = Either<
+    PlansWatched<T, R>,
+    Following<CountedLines<PlansWatched<T, F>>, PlansWatched<T, R>>,
+>;
 
 /// The whole text of an engine: the main part alone, or after a text.
 pub type EngineText<M> = Either<M, Chain<Cursor<Vec<u8>>, M>>;
