@@ -206,7 +206,8 @@ fn rows_in<'a, F: Read + Drop>(
     lines: &'a RecordLines,
 ) -> io::Result<FileRows<'a, F>> {
     if is_table(name) {
-        Ok(Right(CsvRows::new(alloc, file, lines)?))
+        let rows = Box::new(alloc, CsvRows::new(alloc, file, lines)?)?;
+        Ok(Right(rows))
     } else {
         Ok(Left(RowLines::new(BareLines::new(file, lines))))
     }

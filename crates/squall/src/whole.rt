@@ -4,13 +4,14 @@ use crate::unread_stages::PlansWatched;
 use either::Either;
 use sq_input::{BareLines, CsvRows, Inserting, RowLines};
 use sq_serving::{CountedLines, Following};
+use std::alloc::Global;
 use std::io::{Chain, Cursor};
 
 /// The main part: what is read, or a named file.
 pub type MainPart<'a, R, F> = Either<&'a mut R, F>;
 
-/// The rows of a file: as lines, or as a table of values.
-pub type FileRows<'a, F> = Either<RowLines<BareLines<'a, F>>, CsvRows<'a, F>>;
+/// The rows of a file: as lines, or as a table of values, whose reader is large.
+pub type FileRows<'a, F> = Either<RowLines<BareLines<'a, F>>, Box<CsvRows<'a, F>, Global>>;
 
 /// What comes after the lines of the plans: the main part alone, or with rows inserted.
 pub type AfterPlans<'a, M, F> = Either<M, Inserting<'a, M, FileRows<'a, F>>>;
