@@ -261,7 +261,7 @@ some_of() {
         thread*) seq 7 ;;
         allocation) echo 1; seq 9 31 500 ;;
         allocations) echo 1; seq 20 60 320; seq 340 10 440; echo 500 ;;
-        second) echo 1; seq 40 60 280; seq 300 20 340; seq 350 5 375; seq 380 20 520 ;;
+        second) echo 1; seq 40 60 280; seq 300 20 340; seq 350 5 450; seq 460 20 520 ;;
     esac
 }
 

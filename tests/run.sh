@@ -543,6 +543,7 @@ try_results() {
     give "$tests/cases/run/chunks_in_each_place/in" run --rows-out "$folder/moving"
     grep '^row ' "$tests/cases/run/chunks_in_each_place/in" > "$room/wanted"
     count rows_in_each_place "$(difference "$room/wanted" "$folder/moving")"
+    try_tables_of_rows "$folder"
     try_chain_of_scripts "$folder"
     try_results_with_folds "$folder"
     try_bad_outputs "$folder"
@@ -550,6 +551,23 @@ try_results() {
     try_clashes "$folder"
     try_broken_writes "$folder"
     count no_part_of_a_file "$(find "$folder" -name '*.squall-part')"
+}
+
+# try_tables_of_rows FOLDER: rows as a table of values, with a note of each kind, by a script and by a live run. A run that reads
+# the table leaves the rows of the lines.
+try_tables_of_rows() {
+    local plans=(--old "$1/0.json" --new "$1/0.json")
+    printf '%s\n' 'row 5 0 0 10 -' 'row 5 1 7 -3 612c20226222' 'row 6 0 0 4 6865783a' 'row 7 0 0 1 c3bc' 'row 8 0 0 2 00ff' \
+        'row 9 0 0 3 610a62' > "$1/given"
+    printf '%s\n' 'root,table,sub,number,note' '5,0,0,10,' '5,1,7,-3,"a, ""b"""' '6,0,0,4,hex:6865783a' '7,0,0,1,ü' \
+        '8,0,0,2,hex:00ff' '9,0,0,3,hex:610a62' > "$room/wanted"
+    echo 'config 1 64 1' > "$1/sizes"
+    give "$1/sizes" run "${plans[@]}" --rows "$1/given" --rows-out "$1/table.csv"
+    count table_of_a_script "$(difference "$room/wanted" "$1/table.csv")"
+    give "$1/sizes" live "${plans[@]}" --rows "$1/table.csv" --rows-out "$1/live.CSV"
+    count table_of_a_live_run "$(difference "$room/wanted" "$1/live.CSV")"
+    give "$1/sizes" run "${plans[@]}" --rows "$1/live.CSV" --rows-out "$1/back"
+    count table_read_again "$(difference "$1/given" "$1/back")"
 }
 
 # chain_plans FOLDER: the plans and the rows that a chain of runs begins with.

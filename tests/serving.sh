@@ -86,11 +86,20 @@ said_so_far() {
 miscounted() {
     awk 'NR == FNR { jobs += $1 == "txn"; if ($1 == "status") before[++asked] = jobs; next }
         $1 == "commit" || $1 == "abort" { answered_jobs++ }
-        / jobs open$/ { if (answered_jobs + $(NF - 2) != before[++answered]) print answered_jobs + 0, "answers, and then: " $0 }
+        match($0, /[0-9]+ jobs open/) {
+            split(substr($0, RSTART), word, " ")
+            if (answered_jobs + word[1] != before[++answered]) print answered_jobs + 0, "answers, and then: " $0
+            jobs_at = 0
+            if (match($0, /; open .*$/)) {
+                parts = split(substr($0, RSTART + 7), open_at, ", ")
+                for (i = 1; i <= parts; i++) { split(open_at[i], words_of, " "); jobs_at += words_of[1] }
+            }
+            if (jobs_at != word[1]) print jobs_at, "jobs of partitions: " $0
+        }
         END { if (answered != asked) print answered + 0, "of", asked, "are answered" }' "$1" "$2"
 }
 
-# At rest too `status` says how many jobs have no answer.
+# At rest too `status` says how many jobs have no answer, and of which partitions they are.
 served_status() {
     local most
     {
@@ -98,7 +107,7 @@ served_status() {
         seq 1 5000 | awk '{ print "txn 0", $1, "5 add 0 0 1" } $1 % 100 == 0 { print "status" }'
     } > "$room/jobs"
     give "$room/jobs" serve
-    most=$(sed -n 's/^at rest, \([0-9]*\) jobs open$/\1/p' "$room/out" | sort -n | tail -n 1)
+    most=$(sed -n 's/^at rest, \([0-9]*\) jobs open; open \1 at 0$/\1/p' "$room/out" | sort -n | tail -n 1)
     if [ "${most:-0}" = 0 ]; then why='no job is open; '; else why=; fi
     count 'serve: jobs that are open at rest' "$why$(miscounted "$room/jobs" "$room/out")"
 }
@@ -193,6 +202,46 @@ served_rows() {
     end_engine 'serve: rows' 'sound 2 families 3 committed'
 }
 
+# Rows as tables of values: of a line, and at the end, after which a table holds what the last jobs left. No line has them saved in
+# the file of the end.
+served_tables() {
+    begin_engine --rows-out "$room/end.csv"
+    opening >&8
+    ask "rows $room/rows.csv" 'rows 2'
+    printf '%s\n' 'root,table,sub,number,note' '5,0,0,10,' '9,0,0,20,' > "$room/wanted"
+    why="$why$(difference "$room/wanted" "$room/rows.csv")"
+    ask "rows $room/end.csv" 'refused 124'
+    said_so_far "squall: the file '$room/end.csv' can't be written: a report is to be in it" \
+        "squall: line 6: refused 124: the output can't be written"
+    refused=1
+    ask 'txn 0 1 9 put 1 3 -4 68692c' 'commit 1 ok'
+    end_engine 'serve: rows as tables' 'sound 2 families 1 committed'
+    printf '%s\n' 'root,table,sub,number,note' '5,0,0,10,' '9,0,0,20,' '9,1,3,-4,"hi,"' > "$room/wanted"
+    count 'serve: rows at the end as a table' "$(difference "$room/wanted" "$room/end.csv")"
+    give <(opening) serve --rows-out "$room/end.txt"
+    opening | grep '^row ' > "$room/wanted"
+    count 'serve: rows at the end' "$(difference "$room/wanted" "$room/end.txt")"
+    give <(echo 'plan {}') serve --rows-out "$room/end.none"
+    count 'serve: no rows after a fault' "$(ls "$room/end.none" 2> /dev/null || true)"
+}
+
+# Who owns a root key by the plan in force, before a move and after it. A number that is no root key is a fault.
+served_owners() {
+    begin_engine
+    opening >&8
+    ask 'owner 5' 'owner 5 0'
+    ask "move $four_at_1" 'moving 1' 'moved 1'
+    ask $'owner 3\nowner 4\nowner 7\nowner 8' 'owner 3 0' 'owner 4 1' 'owner 7 1' 'owner 8 0'
+    ask 'owner 4294967295' 'owner 4294967295 0'
+    ask 'owner 4294967296' 'fault 126 12'
+    ask 'owner' 'fault 126 13'
+    said_so_far "squall: line 12: fault 126: $no_line" "squall: line 13: fault 126: $no_line"
+    refused=2
+    ask "move $all_at_0" 'moving 1' 'moved 1'
+    ask 'owner 4' 'owner 4 0'
+    end_engine 'serve: owners' 'sound 2 families 0 committed'
+}
+
 # While rows move, and once a line before asked for a move, they aren't written, and nothing changes.
 served_rows_in_a_move() {
     local plan='{"version":1,"partitions":2,"ranges":[[0,50000,OWNER],[50000,4294967296,0]]}'
@@ -213,7 +262,7 @@ served_rows_in_a_move() {
 
 # A line that is refused while rows move says which move is under way, and one that asks for too many segments how many they are.
 served_refused_moves() {
-    local answer side=1 tries plan='{"version":1,"partitions":2,"ranges":[[0,50000,OWNER],[50000,4294967296,0]]}'
+    local plan='{"version":1,"partitions":2,"ranges":[[0,50000,OWNER],[50000,4294967296,0]]}'
     local few="there would be 1563 segments, and 256 is the most: the width of a leaf is to be 7 at least ('config 7 ..'); "
     few+='1563 segments are of the range from 0 to 50000, in which keys without rows count too'
     begin_engine
@@ -228,21 +277,106 @@ served_refused_moves() {
         printf '%s\n' "plan ${plan/OWNER/0}" 'config 64 64 1'
         seq -f 'row %.0f 0 0 1 -' 0 49999
     } >&8
-    for tries in 1 2 3 4 5 6 7 8; do
-        ask "move ${plan/OWNER/$side}" 'moving 25'
-        echo "move ${plan/OWNER/$((1 - side))}" >&8 || true
-        answer=
-        read -r -t 30 answer <&7 || true
-        if [ "$answer" = 'refused 217' ]; then break; fi
-        # It moved already, and so moves back.
-        read -r -t 30 answer <&7 || true
-        read -r -t 30 answer <&7 || true
-    done
-    read -r -t 30 answer <&7 || true
-    if [ "$answer" != 'moved 25' ]; then why="$why$answer, and not moved 25; "; fi
-    said_so_far "squall: line $((50002 + 2 * tries)): $rows_move" "squall: line $((50002 + 2 * tries)): a move of 25 segments is under way"
+    ask 'pause' 'paused'
+    ask "move ${plan/OWNER/1}" 'moving 25'
+    ask 'rows' 'refused 217'
+    said_so_far "squall: line 50005: $rows_move" 'squall: line 50005: a move of 25 segments is under way'
+    ask 'resume' 'resumed' 'moved 25'
     refused=1
     end_engine 'serve: a line while rows move' 'sound 50000 families 0 committed'
+}
+
+# While an engine is paused its pumps claim nothing, and a job still pulls the keys that it waits for. The segment has four leaves; one of
+# them moves with a job, and the others once the pumps go on.
+served_pause() {
+    local rate='s/, [0-9]+ families a second/, N families a second/'
+    begin_engine
+    { printf '%s\n' "plan $all_at_0" 'config 1 64 1' 'row 4 0 0 1 -' 'row 5 0 0 10 -' 'row 6 0 0 2 -' 'row 7 0 0 3 -'; } >&8
+    ask 'pause' 'paused'
+    ask 'status' 'at rest, 0 jobs open, paused'
+    ask "move $four_at_1" 'moving 1'
+    ask 'status' 'moving 0 of 1 segments, 0 jobs open, paused; in all 0 of 1 segments, moved 0 families and 0 bytes, 0 families a second'
+    ask 'txn 1 1 5 add 0 0 1' 'commit 1 11'
+    ask_masked "$rate" 'status' 'moving 0 of 1 segments, 0 jobs open, paused; in all 0 of 1 segments, moved 1 families and 56 bytes, N families a second'
+    ask 'rows' 'refused 217'
+    said_so_far "squall: line 13: $rows_move" 'squall: line 13: a move of 1 segments is under way'
+    ask 'resume' 'resumed' 'moved 1'
+    ask 'status' 'at rest, 0 jobs open'
+    ask 'pumps 0' 'pumps 0'
+    ask "move $all_at_0" 'moving 1'
+    ask 'txn 0 2 5 get 0 0' 'commit 2 11/-'
+    ask_masked "$rate" 'status' 'moving 0 of 1 segments, 0 jobs open, paused; in all 0 of 1 segments, moved 1 families and 56 bytes, N families a second'
+    ask 'pumps 1' 'pumps 1' 'moved 1'
+    ask 'pumps 2' 'fault 126 21'
+    ask 'pumps -1' 'fault 126 22'
+    ask 'pumps' 'fault 126 23'
+    said_so_far "squall: line 21: fault 126: $no_line" "squall: line 22: fault 126: $no_line" "squall: line 23: fault 126: $no_line"
+    ask 'pumps 0' 'pumps 0'
+    ask 'resume' 'resumed'
+    ask "move $four_at_1" 'moving 1' 'moved 1'
+    refused=4
+    end_engine 'serve: pumps that rest' 'sound 4 families 2 committed'
+}
+
+# A line sets the most bytes of a chunk for the moves of later lines, which end as ever; those before it keep theirs. Limits that chunks
+# can't have, and what is no number, are faults.
+served_chunks() {
+    local no_limit
+    no_limit="fault 114: $(sed -n 's/^114 //p' "$tests/texts")"
+    begin_engine
+    opening >&8
+    ask 'pause' 'paused'
+    ask "move $four_at_1" 'moving 1'
+    ask 'chunk 4096' 'chunk 4096'
+    ask "move $all_at_0" 'queued 1'
+    ask 'chunk 63' 'fault 114 9'
+    ask 'chunk 1048577' 'fault 114 10'
+    ask 'chunk x' 'fault 126 11'
+    ask 'chunk' 'fault 126 12'
+    said_so_far "squall: line 9: $no_limit" "squall: line 10: $no_limit" "squall: line 11: fault 126: $no_line" \
+        "squall: line 12: fault 126: $no_line"
+    ask 'resume' 'resumed' 'moved 1' 'moving 1' 'moved 1'
+    ask 'chunk 64' 'chunk 64'
+    ask 'chunk 1048576' 'chunk 1048576'
+    ask "move $four_at_1" 'moving 1' 'moved 1'
+    refused=4
+    end_engine 'serve: chunks of another limit' 'sound 2 families 0 committed'
+}
+
+# A move that is asked for while rows move waits, and begins after those before it, in their order; the last one is dropped. A plan that
+# doesn't fit is refused when its turn comes, and one with a fault of its own at once. At most 16 wait.
+served_queue() {
+    local number ends=('moved 1')
+    begin_engine
+    opening >&8
+    ask 'drop' 'nothing queued'
+    ask 'pause' 'paused'
+    ask "move $four_at_1" 'moving 1'
+    ask "move $all_at_0" 'queued 1'
+    ask "move ${all_at_0/2/3}" 'queued 2'
+    ask "move $four_at_1" 'queued 3'
+    ask "move $all_at_0" 'queued 4'
+    ask 'move {' 'refused 101'
+    ask 'drop' 'dropped 3'
+    ask 'plan' 'plan {"partitions":2,"ranges":[[0,4294967296,0]],"version":1}'
+    ask 'resume' 'resumed' 'moved 1' 'moving 1' 'moved 1' 'refused 111' 'moving 1' 'moved 1'
+    ask 'plan' 'plan {"partitions":2,"ranges":[[0,4,0],[4,8,1],[8,4294967296,0]],"version":1}'
+    said_so_far "squall: line 12: refused 101: a plan isn't JSON" \
+        'squall: line 12: its JSON ends too soon, at its line 1, column 1' \
+        'squall: line 9: refused 111: the old and the new plan have different numbers of partitions' \
+        'squall: line 9: its plan has 3 partitions, and the plan in force 2'
+    ask 'pause' 'paused'
+    ask "move $all_at_0" 'moving 1'
+    for number in 1 2 3 4 5 6 7 8 9 10 11 12 13 14 15 16; do
+        if [ $((number % 2)) = 1 ]; then ask "move $four_at_1" "queued $number"; else ask "move $all_at_0" "queued $number"; fi
+        ends+=('moving 1' 'moved 1')
+    done
+    ask "move $four_at_1" 'refused 217'
+    said_so_far "squall: line 35: $rows_move" 'squall: line 35: a move of 1 segments is under way'
+    ask 'drop' 'dropped 15'
+    ask "move $all_at_0" 'queued 16'
+    refused=3
+    end_engine 'serve: moves that wait' "${ends[@]}" 'sound 2 families 0 committed'
 }
 
 # Lines that ask nothing are reported with their numbers and the ids of their jobs, and the engine runs on: one that is none, one that
@@ -365,7 +499,7 @@ served_many_rows() {
 # The example, whose answers come in any order.
 served_example() {
     give "$examples/engine.txt" serve
-    grep -v ' jobs open$' "$room/out" | sort > "$room/got"
+    grep -v ' jobs open' "$room/out" | sort > "$room/got"
     printf '%s\n' 'abort 4 0 small' 'commit 1 11' 'commit 2 12' 'commit 3 20/-' 'moved 1' 'moving 1' \
         'sound 2 families 3 committed' > "$room/wanted"
     count 'serve: the example' "$(difference "$room/wanted" "$room/got")"
@@ -567,7 +701,7 @@ served_full_queue() {
         seq -f 'txn 0 %.0f 60000 add 0 0 1' 30001 30100
     } > "$room/jobs"
     give "$room/jobs" serve
-    open=$(sed -n 's/^moving [0-9]* of 25 segments, \([0-9]*\) jobs open$/\1/p' "$room/out")
+    open=$(sed -n 's/^moving [0-9]* of 25 segments, \([0-9]*\) jobs open; in all .*/\1/p' "$room/out")
     if [ "${open:-0}" -le 20000 ]; then why="$open jobs open; "; else why=; fi
     {
         grep -n -x -e 'commit 30100 100' -e 'moved 25' "$room/out" | cut -d : -f 2
@@ -590,7 +724,7 @@ served_full_sides() {
         echo 'status'
     } > "$room/jobs"
     give "$room/jobs" serve
-    open=$(sed -n -E 's/^(moving [0-9]* of 25 segments|at rest), ([0-9]*) jobs open$/\2/p' "$room/out")
+    open=$(sed -n -E 's/^(moving [0-9]* of 25 segments|at rest), ([0-9]*) jobs open.*/\2/p' "$room/out")
     if [ "${open:-150000}" -ge 150000 ]; then why="$open jobs open; "; else why=; fi
     grep -c '^commit ' "$room/out" > "$room/got" || true
     tail -n 1 "$room/out" >> "$room/got"
@@ -632,6 +766,84 @@ served_without_threads() {
             count "serve: with $threads threads" "$why$(comm -23 "$room/got" "$room/all")"
         fi
     done
+}
+
+# The figures of a move that stands still, and of one that is done, and JSON of both: only the numbers that no time changes are compared.
+served_figures() {
+    local plan='{"version":1,"partitions":2,"ranges":[[0,2000,OWNER],[2000,4294967296,0]]}'
+    local masked='s/"(memory_bytes|microseconds)":[1-9][0-9]*/"\1":N/g
+        s/"waits":(null|\{"longest":[0-9]*,"median":[0-9]*,"p99":[0-9]*\})/"waits":W/'
+    begin_engine
+    {
+        printf '%s\n' "plan ${plan/OWNER/0}" 'config 64 64 1'
+        seq -f 'row %.0f 0 0 1 -' 0 1999
+    } >&8
+    ask 'txn 0 1 5 get 0 0' 'commit 1 1/-'
+    ask pause paused
+    ask "move ${plan/OWNER/1}" 'moving 1'
+    ask status 'moving 0 of 1 segments, 0 jobs open, paused; in all 0 of 1 segments, moved 0 families and 0 bytes, 0 families a second'
+    ask_masked "$masked" 'status json' '{"aborted":0,"bytes_moved":0,"committed":1,"families_moved":0,"memory_bytes":N,"microseconds":N,"move":{"bytes_moved":0,"families_a_second":0,"families_moved":0,"left":null,"segments":1,"segments_complete":0,"stage_segments":1,"stage_segments_complete":0},"moves_done":0,"open":0,"open_at":[0,0],"pumps":0,"state":"moving","waits":W}'
+    ask resume resumed 'moved 1'
+    ask status 'at rest, 0 jobs open'
+    ask_masked "$masked" 'status json' '{"aborted":0,"bytes_moved":112000,"committed":1,"families_moved":2000,"memory_bytes":N,"microseconds":N,"move":null,"moves_done":1,"open":0,"open_at":[0,0],"pumps":1,"state":"at rest","waits":W}'
+    end_engine 'serve: figures' 'sound 2000 families 1 committed'
+}
+
+# ask_masked MASK LINE ANSWER: sends a line; the next line that comes is to be this one once sed has masked it.
+ask_masked() {
+    local answer=
+    echo "$2" >&8 || true
+    read -r -t 30 answer <&7 || true
+    answer=$(sed -E "$1" <<< "$answer")
+    if [ "$answer" != "$3" ]; then why="$why$2: $answer, and not $3; "; fi
+}
+
+# The file of figures is written while the engine runs and at its end, by each second whole; a folder that isn't there is told once, and
+# tried again. It never goes over what is read.
+served_metrics() {
+    local tries
+    mkdir "$room/figures"
+    begin_engine --metrics "$room/figures/now"
+    opening >&8
+    ask 'txn 0 1 5 add 0 0 1' 'commit 1 11'
+    for tries in 1 2 3 4 5 6 7 8 9 10 11 12 13 14 15; do
+        if grep -q -x 'squall_jobs_committed_total 1' "$room/figures/now" 2> /dev/null; then break; fi
+        sleep 0.2
+    done
+    if [ "$tries" = 15 ]; then why="${why}no figures of a commit; "; fi
+    rm -r "$room/figures"
+    sleep 2.5
+    said_so_far "squall: the file '$room/figures/now' can't be written: No such file or directory (os error 2)"
+    mkdir "$room/figures"
+    sleep 1.5
+    if [ ! -e "$room/figures/now" ]; then why="${why}no figures after a failed write; "; fi
+    ask "move $four_at_1" 'moving 1' 'moved 1'
+    ask 'txn 0 2 5 check 0 0 99' 'abort 2 0 small'
+    end_engine 'serve: figures in a file' 'sound 2 families 1 committed'
+    grep -v '^#' "$room/figures/now" | grep -v -e '^squall_wait_seconds' -e '^squall_memory_bytes' -e '^squall_served_seconds' > "$room/got"
+    printf '%s\n' 'squall_jobs_committed_total 1' 'squall_jobs_aborted_total 1' 'squall_moves_total 1' 'squall_families_moved_total 1' \
+        'squall_bytes_moved_total 56' 'squall_jobs_open{partition="0"} 0' 'squall_jobs_open{partition="1"} 0' 'squall_moving 0' \
+        'squall_segments 0' 'squall_segments_complete 0' 'squall_families_per_second 0' 'squall_pumps 0' > "$room/wanted"
+    count 'serve: figures at the end' "$(difference "$room/wanted" "$room/got")$(ls "$room/figures" | grep -v -x now || true)"
+    awk '/^# TYPE / { typed[$3]++; next } /^# HELP / { helped[$3]++; next } { sub(/[{ ].*/, ""); if (typed[$0] != 1 || helped[$0] != 1) print }' \
+        "$room/figures/now" > "$room/got"
+    count 'serve: each figure in a file has its type' "$(difference /dev/null "$room/got")"
+    rm -r "$room/figures"
+    opening > "$room/begin"
+    give /dev/null serve --metrics "$room/begin" "$room/begin"
+    : > "$room/wanted"
+    echo "squall: --metrics names the file '$room/begin', which the run reads" > "$room/said"
+    judge 'serve: figures over what is read' 2 "$room/wanted" "$room/said"
+}
+
+# At a terminal an engine whose output goes elsewhere says how far it is, on one line that is blank at the end.
+served_progress() {
+    { opening; echo 'txn 0 1 5 add 0 0 1'; } > "$room/begin"
+    timeout 60 script -qefc "(cat '$room/begin'; sleep 1) | '$squall' serve > '$room/out'" /dev/null < /dev/null | tr '\r' '\n' > "$room/terminal"
+    grep -x '[01] jobs answered, [01] open' "$room/terminal" | tail -n 1 > "$room/got"
+    tail -n 1 "$room/terminal" >> "$room/got"
+    printf '1 jobs answered, 0 open\n%72s\n' '' > "$room/wanted"
+    count 'serve: progress at a terminal' "$(difference "$room/wanted" "$room/got")"
 }
 
 # What an engine did: each answer is in one interval, and each of the 2,000 families, of 56 bytes each; the account has the same. No
@@ -717,16 +929,24 @@ try_serve() {
     local engine why rows refused rows_move="refused 217: rows move, and it is to be asked again once they don't"
     local empty_word='word 1 is empty, where one space stands between two words and none at an end'
     local no_note="word 6 is missing: a note, '-' or two digits from 0-9 and a-f for each byte"
-    local no_line='the line is no job, and none of move, fold, status, plan and rows'
+    local no_line='the line is no job, and none of move, drop, pause, resume, pumps, chunk, fold, status, plan, owner and rows'
     trap '' PIPE
     served_session
     served_before_a_stop
     served_unread_stages
     served_rows
+    served_tables
+    served_owners
     served_rows_in_a_move
     served_faults
     served_refused_moves
+    served_pause
+    served_chunks
+    served_queue
     served_short_moves
+    served_figures
+    served_metrics
+    served_progress
     served_closed_output
     trap - PIPE
     served_example

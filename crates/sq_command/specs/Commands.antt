@@ -61,8 +61,9 @@ with_input shape =
 -- the subcommand that executes the steps of a script
 abbrev pub run_shape : Shape
 run_shape =
-    with_input (larger (larger (larger (new_shape (codes "run"))
-    (flag_rule (codes "echo"))) (flag_rule (codes "strict"))) (valued_rule (codes "rows-out")))
+    with_input (larger (larger (larger (larger (new_shape (codes "run"))
+    (flag_rule (codes "echo"))) (flag_rule (codes "json"))) (flag_rule (codes "strict")))
+    (valued_rule (codes "rows-out")))
 
 -- the subcommand that lists what moves
 abbrev pub ranges_shape : Shape
@@ -84,8 +85,9 @@ numbered_shape =
 -- the same with all its options
 abbrev pub live_shape : Shape
 live_shape =
-    with_input (larger (larger (larger (larger (larger (larger numbered_shape
-    (flag_rule (codes "fold"))) (flag_rule (codes "summary"))) (valued_rule (codes "summary-out")))
+    with_input (larger (larger (larger (larger (larger (larger (larger numbered_shape
+    (flag_rule (codes "fold"))) (flag_rule (codes "json"))) (flag_rule (codes "summary")))
+    (valued_rule (codes "summary-out")))
     (valued_rule (codes "timeline"))) (valued_rule (codes "replies")))
     (valued_rule (codes "rows-out")))
 
@@ -113,8 +115,9 @@ width_rule = record (valued_rule (codes "width")) { parser = Some (Unsigned 1 MA
 -- the subcommand that writes the owners of root keys
 abbrev pub owner_shape : Shape
 owner_shape =
-    larger (larger (larger (larger (new_shape (codes "owner"))
-    (needed_rule (codes "old"))) (needed_rule (codes "new"))) width_rule) keys_rule
+    larger (larger (larger (larger (larger (new_shape (codes "owner"))
+    (needed_rule (codes "old"))) (needed_rule (codes "new"))) width_rule)
+    (flag_rule (codes "json"))) keys_rule
 
 -- the subcommand that writes a sample input, with its options for partitions, root keys and rows
 abbrev pub placed_shape : Shape
@@ -146,10 +149,11 @@ served_shape =
     (counted_rule (codes "pumps") 1 MAX_PUMPS (codes "1")))
     (flag_rule (codes "strict"))
 
--- the same with its options for reports
+-- the same with its options for reports and for the rows at the end
 abbrev pub reported_shape : Shape
 reported_shape =
-    larger (larger served_shape (valued_rule (codes "summary-out"))) (valued_rule (codes "timeline"))
+    larger (larger (larger (larger served_shape (valued_rule (codes "summary-out")))
+    (valued_rule (codes "timeline"))) (valued_rule (codes "rows-out"))) (valued_rule (codes "metrics"))
 
 -- the same with all its options
 abbrev pub serve_shape : Shape

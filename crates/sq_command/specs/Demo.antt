@@ -38,7 +38,7 @@ abbrev pub IsDemoLine : List Row → Line → Type 0
 IsDemoLine rows (line.Demo demo folder) =
     IsDemoOf rows demo × IsNameOf (codes "folder") rows (Some folder)
 IsDemoLine rows (line.Work task input) = ⊥
-IsDemoLine rows (line.Owner keys plans width) = ⊥
+IsDemoLine rows (line.Owner keys plans width json) = ⊥
 IsDemoLine rows (line.Serve pumps strict files file reports) = ⊥
 IsDemoLine rows (line.Explain number) = ⊥
 

@@ -1,5 +1,5 @@
 -- What the words of a command line ask for.
-use Rattle.std.specs.Prelude.{◌≡◌, ◌⊎◌, ◌≤◌, ◌<◌, ◌^◌, ℕ, List, true, false, codes, [], ◌∷◌, length, Option, Some, None, IfSome, Result, Ok, Err}
+use Rattle.std.specs.Prelude.{◌≡◌, ◌⊎◌, ◌≤◌, ◌<◌, ◌^◌, ℕ, Bool, List, true, false, codes, [], ◌∷◌, length, Option, Some, None, IfSome, Result, Ok, Err}
 use Rattle.std.specs.List.{list_any}
 use Rattle.std.specs.Str.{bytes_eq}
 use Rattle.std.specs.Str.Parse.{IsNumeral, digits_value, without_leading_plus}
@@ -8,7 +8,7 @@ use Rattle.clap.specs.Walk.{Text, Row, one_of}
 use Rattle.clap.specs.Words.{HasKind, fault_of, subcommand_of}
 use Rattle.clap.specs.declared.error.Error.{Error}
 use Rattle.clap.specs.declared.error.kind.ErrorKind.{ErrorKind}
-use Rattle.clap.specs.declared.error.kind.ErrorKind.TheVariants.{ArgumentConflict, OutOfMemory}
+use Rattle.clap.specs.declared.error.kind.ErrorKind.TheVariants.{ArgumentConflict, MissingRequiredArgument, OutOfMemory}
 use Rattle.sq_command.specs.Commands.{squall}
 use Rattle.sq_command.specs.Options.{NumberOf, FlagOf, IsNameOf, IsInputOf, LacksPlan, Asks, clash_kind}
 use Rattle.sq_command.specs.Owner.{IsOwnerLine, OwnerClash}
@@ -46,18 +46,24 @@ IsFormOf rows Json =
 IsFormOf rows Svg =
     FlagOf (one_of (codes "json") rows) false × FlagOf (one_of (codes "svg") rows) true
 
+-- the JSON flag is given or isn't, and it is given only with `--echo`
+abbrev pub IsJsonOf : List Row → Bool → Type 0
+IsJsonOf rows json =
+    FlagOf (one_of (codes "json") rows) json
+    × (json ≡ true → FlagOf (one_of (codes "echo") rows) true)
+
 -- the task is a run, with the flags and the file of these options
 abbrev pub IsRunTask : List Row → Task → Type 0
-IsRunTask rows (Run echoes strict rows_out) =
+IsRunTask rows (Run echoes strict json rows_out) =
     FlagOf (one_of (codes "echo") rows) echoes × FlagOf (one_of (codes "strict") rows) strict
-    × IsNameOf (codes "rows-out") rows rows_out
+    × IsJsonOf rows json × IsNameOf (codes "rows-out") rows rows_out
 IsRunTask rows (Ranges form sizes) = ⊥
 IsRunTask rows (Live live) = ⊥
 IsRunTask rows Steps = ⊥
 
 -- the task is a listing in the format that is asked for, with sizes if that flag is given
 abbrev pub IsRangesTask : List Row → Task → Type 0
-IsRangesTask rows (Run echoes strict rows_out) = ⊥
+IsRangesTask rows (Run echoes strict json rows_out) = ⊥
 IsRangesTask rows (Ranges form sizes) =
     IsFormOf rows form × FlagOf (one_of (codes "sizes") rows) sizes
 IsRangesTask rows (Live live) = ⊥
@@ -68,6 +74,7 @@ pub record AreLiveOptions (rows : List Row) (live : LiveOptions) : Type 0 where
   pub turns : NumberOf 1 MAX_TURNS TURNS (one_of (codes "turns") rows) live.turns
   pub pumps : NumberOf 1 MAX_PUMPS PUMPS (one_of (codes "pumps") rows) live.pumps
   pub folds : FlagOf (one_of (codes "fold") rows) live.folds
+  pub json : FlagOf (one_of (codes "json") rows) live.json
   pub summary : FlagOf (one_of (codes "summary") rows) live.summary
   pub summary_out : IsNameOf (codes "summary-out") rows live.summary_out
   pub timeline : IsNameOf (codes "timeline") rows live.timeline
@@ -76,7 +83,7 @@ pub record AreLiveOptions (rows : List Row) (live : LiveOptions) : Type 0 where
 
 -- the task is a live run with these options
 abbrev pub IsLiveTask : List Row → Task → Type 0
-IsLiveTask rows (Run echoes strict rows_out) = ⊥
+IsLiveTask rows (Run echoes strict json rows_out) = ⊥
 IsLiveTask rows (Ranges form sizes) = ⊥
 IsLiveTask rows (Live live) = AreLiveOptions rows live
 IsLiveTask rows Steps = ⊥
@@ -88,7 +95,7 @@ IsStepsTask rows task = task ≡ Steps
 -- the line performs a task that satisfies `IsTask`, with the input that is named
 abbrev pub IsWorkLine : (List Row → Task → Type 0) → List Row → Line → Type 0
 IsWorkLine IsTask rows (Work task input) = IsTask rows task × IsInputOf rows input
-IsWorkLine IsTask rows (Owner keys plans width) = ⊥
+IsWorkLine IsTask rows (Owner keys plans width json) = ⊥
 IsWorkLine IsTask rows (Demo demo folder) = ⊥
 IsWorkLine IsTask rows (Serve pumps strict files file reports) = ⊥
 IsWorkLine IsTask rows (Explain number) = ⊥
@@ -96,7 +103,7 @@ IsWorkLine IsTask rows (Explain number) = ⊥
 -- the line asks for the number that is named
 abbrev pub IsExplainLine : List Row → Line → Type 0
 IsExplainLine rows (Work task input) = ⊥
-IsExplainLine rows (Owner keys plans width) = ⊥
+IsExplainLine rows (Owner keys plans width json) = ⊥
 IsExplainLine rows (Demo demo folder) = ⊥
 IsExplainLine rows (Serve pumps strict files file reports) = ⊥
 IsExplainLine rows (Explain number) = GivenNumber (one_of (codes "number") rows) number
@@ -112,6 +119,16 @@ abbrev pub RangesClash : List Row → ErrorKind → Type 0
 RangesClash rows kind =
     FormClash rows kind ⊎ LacksPlan rows kind
 
+-- the JSON flag is refused because it is given without `--echo`
+abbrev pub EchoClash : List Row → ErrorKind → Type 0
+EchoClash rows kind =
+    (kind ≡ MissingRequiredArgument) × FlagOf (one_of (codes "json") rows) true
+    × FlagOf (one_of (codes "echo") rows) false
+
+-- a run is refused because it lacks `--echo` or the file of a plan
+abbrev pub RunClash : List Row → ErrorKind → Type 0
+RunClash rows kind = EchoClash rows kind ⊎ LacksPlan rows kind
+
 -- the names of the program's subcommands
 abbrev pub subcommand_names : List Text
 subcommand_names =
@@ -126,7 +143,7 @@ IsSubcommand name = list_any (bytes_eq name) subcommand_names ≡ true
 abbrev pub IsAskedOf : Option (Text × List Row) → Result Line Clash → Type 0
 IsAskedOf None asked = ⊥
 IsAskedOf (Some sub) asked =
-    ((sub.0 ≡ codes "run") × Asks (IsWorkLine IsRunTask) LacksPlan sub.1 asked)
+    ((sub.0 ≡ codes "run") × Asks (IsWorkLine IsRunTask) RunClash sub.1 asked)
     ⊎ (((sub.0 ≡ codes "ranges") × Asks (IsWorkLine IsRangesTask) RangesClash sub.1 asked)
     ⊎ (((sub.0 ≡ codes "live") × Asks (IsWorkLine IsLiveTask) LacksPlan sub.1 asked)
     ⊎ (((sub.0 ≡ codes "steps") × Asks (IsWorkLine IsStepsTask) LacksPlan sub.1 asked)
@@ -158,7 +175,7 @@ ComesOf words (Err error) = HasKind (fault_of squall words) error ⊎ ClashesAt 
 
 -- the numbers of a task are within their limits
 abbrev pub IsWithin : Task → Type 0
-IsWithin (Run echoes strict rows_out) = Unit {0}
+IsWithin (Run echoes strict json rows_out) = Unit {0}
 IsWithin (Ranges form sizes) = Unit {0}
 IsWithin (Live live) =
     (1 ≤ live.turns) × (live.turns ≤ MAX_TURNS) × (1 ≤ live.pumps) × (live.pumps ≤ MAX_PUMPS)
@@ -168,7 +185,7 @@ IsWithin Steps = Unit {0}
 -- root key
 abbrev pub LineIsWithin : Line → Type 0
 LineIsWithin (Work task input) = IsWithin task
-LineIsWithin (Owner keys plans width) =
+LineIsWithin (Owner keys plans width json) =
     (1 ≤ length keys.items) × IfSome width (λ n. (1 ≤ n) × (n ≤ MAX_WIDTH))
 LineIsWithin (Demo demo folder) = DemoIsWithin demo
 LineIsWithin (Serve pumps strict files file reports) =

@@ -11,7 +11,14 @@ use Rattle.sq_command.specs.declared.line.Plans.{Plans}
 use Rattle.sq_command.specs.declared.line.Line.{Line}
 use Rattle.sq_command.specs.declared.line.Line.TheVariants.{Work, Owner, Demo, Serve, Explain}
 use Rattle.sq_command.specs.declared.owner.TheConstants.{MAX_WIDTH}
-use Rattle.sq_command.specs.Options.{GivenNumberOf, IsNameOf, ArePlansOf, LacksPlan, clash_kind}
+use Rattle.sq_command.specs.Options.{
+  GivenNumberOf,
+  FlagOf,
+  IsNameOf,
+  ArePlansOf,
+  LacksPlan,
+  clash_kind,
+}
 
 -- the words that are to be root keys
 abbrev pub key_words : List Row → List Text
@@ -57,11 +64,13 @@ abbrev pub PlansClash : List Row → ErrorKind → Type 0
 PlansClash rows kind =
     LacksPlan rows kind ⊎ ((kind ≡ MissingRequiredArgument) × IsNameOf (codes "old") rows None)
 
--- the line asks for the keys, the plans and the width of leaves that are named
+-- the line asks for the keys, the plans and the width of leaves that are named, as JSON if that
+-- flag is given
 abbrev pub IsOwnerLine : List Row → Line → Type 0
-IsOwnerLine rows (Owner keys plans width) =
+IsOwnerLine rows (Owner keys plans width json) =
     AreKeysOf rows keys.items × HasPlans rows plans
     × GivenNumberOf 1 MAX_WIDTH (one_of (codes "width") rows) width
+    × FlagOf (one_of (codes "json") rows) json
 IsOwnerLine rows (Work task input) = ⊥
 IsOwnerLine rows (Demo demo folder) = ⊥
 IsOwnerLine rows (Serve pumps strict files file reports) = ⊥

@@ -23,11 +23,13 @@ LacksEnginePlan rows kind =
     (kind ≡ MissingRequiredArgument) × (is_some (first_of (codes "rows") rows) ≡ true)
     × IsNameOf (codes "plan") rows None
 
--- the reports go to the files that are named
+-- the reports and the rows at the end go to the files that are named
 abbrev pub AreReportsOf : List Row → EngineReports → Type 0
 AreReportsOf rows reports =
     IsNameOf (codes "summary-out") rows reports.summary_out
     × IsNameOf (codes "timeline") rows reports.timeline
+    × IsNameOf (codes "rows-out") rows reports.rows_out
+    × IsNameOf (codes "metrics") rows reports.metrics
 
 -- the line serves an engine with the number, the flag and the files of these options
 abbrev pub IsEngineLine : List Row → Line → Type 0
@@ -36,6 +38,6 @@ IsEngineLine rows (Serve pumps strict files file reports) =
     × FlagOf (one_of (codes "strict") rows) strict
     × AreEngineFilesOf rows files × IsMainOf rows file × AreReportsOf rows reports
 IsEngineLine rows (Work task input) = ⊥
-IsEngineLine rows (Owner keys plans width) = ⊥
+IsEngineLine rows (Owner keys plans width json) = ⊥
 IsEngineLine rows (Demo demo folder) = ⊥
 IsEngineLine rows (Explain number) = ⊥

@@ -26,6 +26,8 @@ pub enum Clash {
     NoFolder,
     /// `--rows` is given without `--plan`.
     NoEnginePlan,
+    /// `--json` is given without `--echo`.
+    NoEcho,
     /// Memory ran out.
     Memory,
 }
@@ -68,6 +70,7 @@ impl Clash {
             Clash::NoFolder => "the following required arguments were not provided:\n  <DIR>",
             Clash::NoEnginePlan =>
                 "the following required arguments were not provided:\n  --plan <FILE>",
+            Clash::NoEcho => "the following required arguments were not provided:\n  --echo",
             Clash::Memory => "out of memory",
         }
     }
@@ -81,6 +84,7 @@ impl Clash {
             Clash::NoKeys | Clash::BadKey => "--old <FILE> --new <FILE> <KEY>...",
             Clash::NoFolder => "<DIR>",
             Clash::NoEnginePlan => "--plan <FILE> --rows <FILE> [FILE]",
+            Clash::NoEcho => "--echo --json [FILE]",
         }
     }
 }

@@ -52,6 +52,8 @@ pub const RUN_ABOUT: &str = "Executes a script step by step";
 
 pub const ECHO: &str = "Write each step before its answer, and explain refusals";
 
+pub const RUN_JSON: &str = "Write each line and its answer as JSON (with --echo)";
+
 pub const STRICT: &str = "Stop at the first refused line";
 
 pub const RUN: &str = with_header!(
@@ -69,13 +71,15 @@ Standard output gets one line for each step, and at the end the place of every
 row. A refused step changes nothing. Its line is 'refused' and a number, which
 'squall explain' explains. With --echo each answer follows its step, as in
 'start -> ok', and a refusal says what its number means, as in
-'cut 0 1 -> refused 201: the move isn't under way'.
+'cut 0 1 -> refused 201: the move isn't under way'. With --echo --json each line
+of the output is a JSON value, as in '{"answer":"ok","line":"start"}'.
 
 With --strict the run stops at the first refused line, names it and the reason
 on standard error, writes the dump, and exits with status 3.
 
 With --rows-out FILE the rows at the end are written to a file by rising key, as
-lines of a header: a next run may begin from them (--rows).
+lines of a header, or as comma-separated values if its name ends in '.csv': a
+next run may begin from them (--rows).
 
 Example:
 
@@ -166,6 +170,8 @@ const _: () = prove!(MAX_PUMPS == 16);
 
 pub const FOLD: &str = "Audit answers and truncate logs between stages";
 
+pub const LIVE_JSON: &str = "Write the outcome as a JSON value";
+
 pub const SUMMARY: &str = "Write what the run did to standard error";
 
 pub const SUMMARY_OUT: &str = "Write an account of the run to this file";
@@ -204,6 +210,9 @@ fault NUMBER                           of the input, before any thread began, or
                                        memory ran out, or the system granted too
                                        few threads
 
+With --json the line is a JSON value, which has the exit status too, as in
+'{"committed":3,"families":2,"outcome":"sound","status":0}'.
+
 At a terminal, standard error shows meanwhile how many jobs are answered, how
 many families moved, and how many segments are complete.
 
@@ -216,8 +225,9 @@ name ends in '.csv', else a chart in SVG.
 
 With --replies FILE a file gets the answer to each job, as 'squall run' writes
 it, in the order of the jobs. With --rows-out FILE the rows at the end are
-written to a file, as lines of a header: a next run, whose old plan is the new
-one of this run, may begin from them (--rows).
+written to a file, as lines of a header, or as comma-separated values if its
+name ends in '.csv': a next run, whose old plan is the new one of this run, may
+begin from them (--rows).
 
 Example:
 
@@ -269,13 +279,15 @@ pub const OWNER_ABOUT: &str = "Says who owns root keys before a move and after i
 
 pub const WIDTH: &str = "Root keys per leaf, the first number of the config line";
 
+pub const OWNER_JSON: &str = "Write a JSON value for each root key";
+
 pub const KEYS: &str = "The root keys, numbers below 4294967296";
 
 pub const OWNER: &str = "\
 Standard output gets a line for each root key, in the order of the words: its
 owner by the plan before the move, and its owner by the plan after it. If the
 key moves, the line has its range and its stage too, and with --width also its
-segment and leaf.
+segment and leaf. With --json each line is a JSON value.
 
 Example:
 
@@ -333,6 +345,8 @@ pub const SERVE_STRICT: &str = "Stop at the first line with a fault or a refusal
 
 pub const SERVE_TIMELINE: &str = "Write what was done in each 10 ms to this file";
 
+pub const METRICS: &str = "Write Prometheus figures to this file each second";
+
 pub const PLAN: &str = "Read the first plan from this file";
 
 pub const SERVE: &str = "\
@@ -341,15 +355,24 @@ a line 'plan JSON', a line 'config W L C' and the rows. The plan and the rows
 may be in files of their own. After that each line asks for something:
 
 txn P ID ROOT OP..   a job; its answer is written as soon as it is done
-move JSON            rows move to the places of this plan
+move JSON            rows move to the places of this plan, after the moves that
+                     were asked for before
+drop                 the move that waits last is dropped
+pause, resume        threads that pull rows rest, and go on
+pumps N              only the first N of these threads pull rows
+chunk BYTES          chunks of moves asked for later have at most BYTES bytes
 fold                 how many answers were found sound
 status               how far a move is, and how many jobs are open
+status json          the same and more figures, as JSON
 plan                 the plan that is in force
+owner ROOT           the partition that owns this root key by that plan
 rows                 each row, as a line 'row ..'; refused while rows move
-rows FILE            the same, written to this file
+rows FILE            the same, written to this file; as comma-separated values
+                     if its name ends in '.csv'
 
-At the end of the input all jobs are answered, and a move goes to its end:
-'sound F families N committed' is the last line.
+At the end of the input all jobs are answered, and moves go to their ends:
+'sound F families N committed' is the last line. With --rows-out FILE the rows
+are then written to a file, as by 'rows FILE'.
 
 Example:
 

@@ -30,6 +30,8 @@ pub enum Line<'a> {
         plans: Plans<'a>,
         /// How many root keys a leaf has; `None` if segments and leaves aren't to be written.
         width: Option<u32>,
+        /// Whether each root key is written as a JSON value.
+        json: bool,
     },
     /// Write a sample input.
     Demo {
@@ -92,6 +94,10 @@ pub struct EngineReports<'a> {
     pub summary_out: Option<&'a str>,
     /// The name of the file for the timeline, by short intervals, if one is asked for.
     pub timeline: Option<&'a str>,
+    /// The name of the file for the rows at the end, if one is asked for.
+    pub rows_out: Option<&'a str>,
+    /// The name of the file for figures, which is written each second, if one is asked for.
+    pub metrics: Option<&'a str>,
 }
 
 /// The output format of `ranges`.
@@ -114,6 +120,8 @@ pub enum Task<'a> {
         echoes: bool,
         /// Whether the run stops at the first refused step.
         strict: bool,
+        /// Whether each line is written as a JSON value; only with `echoes`.
+        json: bool,
         /// The name of the file for the rows at the end, if one is asked for.
         rows_out: Option<&'a str>,
     },
@@ -137,6 +145,8 @@ pub struct LiveOptions<'a> {
     pub pumps: u32,
     /// Whether the logs are folded between stages.
     pub folds: bool,
+    /// Whether the outcome is written as a JSON value.
+    pub json: bool,
     /// Whether a summary is written to standard error.
     pub summary: bool,
     /// The name of the file for a longer summary, if one is asked for.
@@ -170,8 +180,8 @@ pub struct Demo {
 /// Parses `words`, of which the first is the program's name. Returns an error in `clap`'s form if
 /// `words` aren't of the command's form, ask for a help text or the version, or combine options
 /// that don't go together, or if memory runs out. `--old` and `--new` need each other, `--rows`
-/// needs both, and `--json` excludes `--svg`. `owner` needs the plans and at least one key, `demo`
-/// a folder, and the `--rows` of `serve` its `--plan`.
+/// needs both, and `--json` excludes `--svg`. The `--json` of `run` needs its `--echo`. `owner`
+/// needs the plans and at least one key, `demo` a folder, and the `--rows` of `serve` its `--plan`.
 pub fn line_of<'a, S: AsStr>(alloc: Global, words: &'a [S]) -> Result<Line<'a>, Error>
     ensures comes { ComesOf (map S.text words.now) result }
     ensures within { IfOk result LineIsWithin }

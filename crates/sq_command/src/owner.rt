@@ -9,10 +9,10 @@ ghost use Rattle.sq_command.specs.Owner.{HasPlans, PlansClash};
 ghost use Rattle.sq_command.specs.Line.{LineIsWithin};
 
 use crate::clash::Clash;
-use crate::commands::{numbers, path, subcommand, valued, with};
+use crate::commands::{numbers, path, subcommand, valued, with, with_flag};
 use crate::help;
 use crate::line::{Line, Plans};
-use crate::options::{given_number, plans_of};
+use crate::options::{given_number, is_given, plans_of};
 use clap::{Arg, ArgAction, ArgMatches, Command, value_parser};
 use std::alloc::{AllocError, Global};
 
@@ -56,7 +56,8 @@ pub fn owner<'a>(alloc: Global) -> Result<Command<'a>, AllocError>
     let with_old = with(plain, needed_path(alloc, "old", help::OLD));
     let with_new = with(with_old, needed_path(alloc, "new", help::NEW));
     let with_width = with(with_new, width(alloc));
-    with(with_width, keys(alloc))
+    let with_json = with_flag(alloc, with_width, "json", help::OWNER_JSON);
+    with(with_json, keys(alloc))
 }
 
 /// The root keys and plans that `options` name. Fails if a file of a plan or a root key is missing,
@@ -70,6 +71,7 @@ pub fn owner_line<'a>(alloc: Global, options: &ArgMatches<'a>) -> Result<Line<'a
         keys: keys_of(alloc, options)?,
         plans,
         width: width_of(options),
+        json: is_given(options, "json"),
     })
 }
 

@@ -34,7 +34,9 @@ fn reported<'a>(alloc: Global) -> Result<Command<'a>, AllocError>
     ensures { HasShape reported_shape result }
 {
     let accounting = with_path(alloc, served(alloc), "summary-out", help::SUMMARY_OUT);
-    with_path(alloc, accounting, "timeline", help::SERVE_TIMELINE)
+    let timed = with_path(alloc, accounting, "timeline", help::SERVE_TIMELINE);
+    let filed = with_path(alloc, timed, "rows-out", help::ROWS_OUT);
+    with_path(alloc, filed, "metrics", help::METRICS)
 }
 
 /// The subcommand `serve`, which serves an engine.
@@ -80,5 +82,7 @@ fn reports_of<'a>(options: &ArgMatches<'a>) -> EngineReports<'a>
     EngineReports {
         summary_out: name_of(options, "summary-out"),
         timeline: name_of(options, "timeline"),
+        rows_out: name_of(options, "rows-out"),
+        metrics: name_of(options, "metrics"),
     }
 }

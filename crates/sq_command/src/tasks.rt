@@ -4,7 +4,7 @@ ghost use Rattle.clap.specs.Matches.{found_of};
 ghost use Rattle.clap.specs.Walk.{rows_of};
 ghost use Rattle.sq_command.specs.Commands.{HasShape, run_shape, ranges_shape, numbered_shape, live_shape, steps_shape};
 ghost use Rattle.sq_command.specs.Options.{Asks, LacksPlan};
-ghost use Rattle.sq_command.specs.Line.{IsWorkLine, IsRunTask, IsRangesTask, IsLiveTask, IsStepsTask, IsFormOf, FormClash, RangesClash, LineIsWithin};
+ghost use Rattle.sq_command.specs.Line.{IsWorkLine, IsRunTask, IsRangesTask, IsLiveTask, IsStepsTask, IsFormOf, FormClash, RangesClash, IsJsonOf, EchoClash, RunClash, LineIsWithin};
 
 use crate::clash::Clash;
 use crate::commands::{counted, subcommand, with, with_flag, with_input, with_path};
@@ -31,23 +31,38 @@ pub fn run<'a>(alloc: Global) -> Result<Command<'a>, AllocError>
 {
     let plain = Ok(subcommand(alloc, "run", help::RUN_ABOUT, help::RUN));
     let echoing = with_flag(alloc, plain, "echo", help::ECHO);
-    let stopping = with_flag(alloc, echoing, "strict", help::STRICT);
+    let with_json = with_flag(alloc, echoing, "json", help::RUN_JSON);
+    let stopping = with_flag(alloc, with_json, "strict", help::STRICT);
     let keeping = with_path(alloc, stopping, "rows-out", help::ROWS_OUT);
     with_input(alloc, keeping)
 }
 
-/// The run that `options` ask for. Fails if a file of a plan is missing.
+/// The run that `options` ask for. Fails if `--json` is given without `--echo`, or if a file of a
+/// plan is missing.
 pub fn run_line<'a>(options: &ArgMatches<'a>) -> Result<Line<'a>, Clash>
-    ensures line { Asks (IsWorkLine IsRunTask) LacksPlan (rows_of (found_of options.now)) result }
+    ensures line { Asks (IsWorkLine IsRunTask) RunClash (rows_of (found_of options.now)) result }
     ensures within { IfOk result LineIsWithin }
 {
-    let input = input_of(options)?;
     let task = Task::Run {
         echoes: is_given(options, "echo"),
         strict: is_given(options, "strict"),
+        json: json_of(options)?,
         rows_out: name_of(options, "rows-out"),
     };
-    Ok(Line::Work { task, input })
+    Ok(Line::Work {
+        task,
+        input: input_of(options)?,
+    })
+}
+
+// Whether `options` of a run ask for JSON. Fails if they do without `--echo`.
+fn json_of(options: &ArgMatches<'_>) -> Result<bool, Clash>
+    ensures { Asks IsJsonOf EchoClash (rows_of (found_of options.now)) result }
+{
+    match (is_given(options, "json"), is_given(options, "echo")) {
+        (true, false) => Err(Clash::NoEcho),
+        (json, _) => Ok(json),
+    }
 }
 
 /// The subcommand `ranges`, which lists what moves.
@@ -108,7 +123,8 @@ pub fn live<'a>(alloc: Global) -> Result<Command<'a>, AllocError>
     ensures { HasShape live_shape result }
 {
     let folding = with_flag(alloc, numbered(alloc), "fold", help::FOLD);
-    let summing = with_flag(alloc, folding, "summary", help::SUMMARY);
+    let with_json = with_flag(alloc, folding, "json", help::LIVE_JSON);
+    let summing = with_flag(alloc, with_json, "summary", help::SUMMARY);
     let accounting = with_path(alloc, summing, "summary-out", help::SUMMARY_OUT);
     let timed = with_path(alloc, accounting, "timeline", help::TIMELINE);
     let replying = with_path(alloc, timed, "replies", help::REPLIES);
@@ -127,6 +143,7 @@ pub fn live_line<'a>(options: &ArgMatches<'a>) -> Result<Line<'a>, Clash>
         turns,
         pumps: pumps as u32,
         folds: is_given(options, "fold"),
+        json: is_given(options, "json"),
         summary: is_given(options, "summary"),
         summary_out: name_of(options, "summary-out"),
         timeline: name_of(options, "timeline"),

@@ -1,5 +1,5 @@
 -- An engine by its fields, and what holds of it after a step that changes them.
-use Rattle.std.proofs.Common.{◌≡◌, ◌+◌, ◌<◌, Bool, true, false, List, [], ◌∷◌, ◌++◌, sym, ap, ◌∙◌, subst}
+use Rattle.std.proofs.Common.{ℕ, ◌≡◌, ◌+◌, ◌<◌, Bool, true, false, List, [], ◌∷◌, ◌++◌, sym, ap, ◌∙◌, subst}
 use Rattle.sq_plan.specs.PlanValue.{PlanValue}
 use Rattle.sq_moves.specs.ReconValue.{stages}
 use Rattle.sq_moves.specs.OpeningValue.{OpeningValue}
@@ -37,7 +37,7 @@ module _ (engine : EngineValue) (g : GatheredValue) (at : engine.at ≡ Between 
   stage_between = between_stage engine.first reached.past engine.opening g (between_stands engine g false at reached)
 
 -- a move is due after the last stage of the one before
-module _ (e : Inside) (plan : PlanValue) (kept : OpeningValue) (at : AtValue) (opening : kept ≡ onward_opening e.opening plan) (set_up : IsSetUp kept)
+module _ (e : Inside) (plan : PlanValue) (limit : ℕ) (kept : OpeningValue) (at : AtValue) (opening : kept ≡ onward_opening e.opening plan limit) (set_up : IsSetUp kept)
     (made : IsMadeDue (at_value e.at) at) (ends : EndsMove (here e)) (reached : IsReached (here e)) where
   due_at : at ≡ Between ends.gathered true
   due_at =
@@ -45,18 +45,18 @@ module _ (e : Inside) (plan : PlanValue) (kept : OpeningValue) (at : AtValue) (o
       let g : made.0 ≡ ends.gathered = cc in
       made.2 ∙ ap (λ (x : GatheredValue). Between x true) g
 
-  set_up_then : IsSetUp (onward_opening (here e).opening plan)
-  set_up_then = set_up_onward e.opening plan e.first.value.table reached.set_up (subst IsSetUp opening set_up)
+  set_up_then : IsSetUp (onward_opening (here e).opening plan limit)
+  set_up_then = set_up_onward e.opening plan limit e.first.value.table reached.set_up (subst IsSetUp opening set_up)
 
   pub rest_here : plan ≡ e.opening.new → IsReached (engine_value e.first.value kept e.jobs at)
   rest_here same =
       subst (λ (p : OpeningValue × AtValue). IsReached (engine_value e.first.value p.0 e.jobs p.1)) (λ i. (sym opening i, sym due_at i))
-      (rest_reached (here e) ends.gathered plan ends.at ends.done ends.last set_up_then reached same)
+      (rest_reached (here e) ends.gathered plan limit ends.at ends.done ends.last set_up_then reached same)
 
   pub due_here : (jobs : OpenJobsValue) → Adds (MovesTo plan) e.jobs jobs → IsReached (engine_value e.first.value kept jobs at)
   due_here jobs adds =
       subst (λ (p : OpeningValue × AtValue). IsReached (engine_value e.first.value p.0 jobs p.1)) (λ i. (sym opening i, sym due_at i))
-      (due_reached (here e) ends.gathered plan ends.at ends.done ends.last set_up_then reached jobs adds)
+      (due_reached (here e) ends.gathered plan limit ends.at ends.done ends.last set_up_then reached jobs adds)
 
 -- the event that a move begins leaves the open jobs as they are
 pub adds_move : (plan : PlanValue) (old new : OpenJobsValue) (events : List Event) → events ≡ old.events ++ MovesTo plan ∷ []

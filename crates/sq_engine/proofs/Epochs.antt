@@ -46,8 +46,8 @@ module _ (o : OpeningValue) where
       elim follows.1 [
         | inl next ↦ subst (λ (s : StartValue). s.began.stage < stages s.opening.recon) (sym next.1) next.0
         | inr move ↦
-            subst (λ (s : StartValue). s.began.stage < stages s.opening.recon) (sym move.2)
-            (some_stage (onward_opening last.opening move.1).recon)
+            subst (λ (s : StartValue). s.began.stage < stages s.opening.recon) (sym move.3)
+            (some_stage (onward_opening last.opening move.1 move.2).recon)
       ]
 
   pub stage_there : (earlier : List EndedEpoch) (last : EndedEpoch) → HaveCome o (last ∷ earlier)
@@ -65,7 +65,7 @@ module _ (o : OpeningValue) where
       ap (λ (a : OpeningValue). a.table) come.1.2.opening ∙ rows_at_start earlier come.1.0 come.0 come.1.1 in
       elim follows.1 [
         | inl next ↦ ap (λ (s : StartValue). s.opening.table) next.1 ∙ here
-        | inr move ↦ ap (λ (s : StartValue). s.opening.table) move.2 ∙ here
+        | inr move ↦ ap (λ (s : StartValue). s.opening.table) move.3 ∙ here
       ]
 
   pub rows_there : (earlier : List EndedEpoch) (last : EndedEpoch) → HaveCome o (last ∷ earlier) → last.opening.table ≡ o.table
@@ -151,15 +151,15 @@ module _ (o : OpeningValue) where
         )
 
     -- a move to a plan is due
-    pub due_stands : (past : List EndedEpoch) (g : GatheredValue) (plan : PlanValue) → IsOpening opening
+    pub due_stands : (past : List EndedEpoch) (g : GatheredValue) (plan : PlanValue) (limit : ℕ) → IsOpening opening
         → IsStageDone opening g → g.stage + 1 ≡ stages opening.recon
-        → Stands o past opening (Between g false) → Stands o past (onward_opening opening plan) (Between g true)
-    due_stands [] g plan is done end at = absurd at
-    due_stands (last ∷ earlier) g plan is done end at = (
+        → Stands o past opening (Between g false) → Stands o past (onward_opening opening plan limit) (Between g true)
+    due_stands [] g plan limit is done end at = absurd at
+    due_stands (last ∷ earlier) g plan limit is done end at = (
       at.0,
       ap (λ (e : EndedEpoch). e.gathered) at.1,
-      subst (λ (e : EndedEpoch). IsDueAfter e (onward_opening opening plan)) (sym at.1)
-          (record { was = is; done = done; end = end; plan = plan; opening = refl }),
+      subst (λ (e : EndedEpoch). IsDueAfter e (onward_opening opening plan limit)) (sym at.1)
+          (record { was = is; done = done; end = end; plan = plan; limit = limit; opening = refl }),
     )
 
     -- the first stage of a move that is due runs
@@ -181,8 +181,8 @@ module _ (o : OpeningValue) where
           rows = ap (λ (a : OpeningValue). a.table) is.opening;
         }) in (
           at.0,
-          move_start last plan,
-          (is.done, inr (is.end, plan, refl)),
+          move_start last plan is.limit,
+          (is.done, inr (is.end, plan, is.limit, refl)),
           record {
             opening_is = is.opening;
             stage = subst (λ (p : OpeningValue × GatheredValue). IsRunInStage p.0 (onward_began last.opening p.1) run.fabric run.nodes run.pumps)

@@ -170,16 +170,16 @@ module _ (engine : EngineValue) where
   }
 
   -- a move to `plan` is due, with its event, or with none if it is the plan that was reached
-  module _ (g : GatheredValue) (plan : PlanValue) (at : engine.at ≡ Between g false) (done : IsStageDone engine.opening g)
-      (last : g.stage + 1 ≡ stages engine.opening.recon) (set_up : IsSetUp (onward_opening engine.opening plan)) (reached : IsReached engine) where
+  module _ (g : GatheredValue) (plan : PlanValue) (limit : ℕ) (at : engine.at ≡ Between g false) (done : IsStageDone engine.opening g)
+      (last : g.stage + 1 ≡ stages engine.opening.recon) (set_up : IsSetUp (onward_opening engine.opening plan limit)) (reached : IsReached engine) where
     pub due_reached : (jobs : OpenJobsValue) → Adds (MovesTo plan) engine.jobs jobs
-        → IsReached (record engine { opening = onward_opening engine.opening plan; jobs = jobs; at = Between g true })
+        → IsReached (record engine { opening = onward_opening engine.opening plan limit; jobs = jobs; at = Between g true })
     due_reached jobs adds =
         let more : List Event = MovesTo plan ∷ [] in
         record {
           set_up = set_up;
           past = reached.past;
-          stands = due_stands engine.first engine.opening reached.past g plan reached.set_up.opening done last (between_stands g false at reached);
+          stands = due_stands engine.first engine.opening reached.past g plan limit reached.set_up.opening done last (between_stands g false at reached);
           open_jobs = open_on more engine.jobs jobs (adds_one (MovesTo plan) engine.jobs jobs adds) reached.open_jobs;
           written = subst (λ (events : List Event). AreReceipts events g.receipts) (sym adds.events)
               (same_receipts engine.jobs.events more g.receipts refl (receipts_at (Between g false) at reached));
@@ -187,11 +187,11 @@ module _ (engine : EngineValue) where
         }
 
     pub rest_reached : plan ≡ engine.opening.new
-        → IsReached (record engine { opening = onward_opening engine.opening plan; at = Between g true })
+        → IsReached (record engine { opening = onward_opening engine.opening plan limit; at = Between g true })
     rest_reached same = record {
       set_up = set_up;
       past = reached.past;
-      stands = due_stands engine.first engine.opening reached.past g plan reached.set_up.opening done last (between_stands g false at reached);
+      stands = due_stands engine.first engine.opening reached.past g plan limit reached.set_up.opening done last (between_stands g false at reached);
       open_jobs = reached.open_jobs;
       written = receipts_at (Between g false) at reached;
       plan = same ∙ reached.plan;
@@ -215,10 +215,10 @@ epoch_reached becomes old opening run driven jobs more end before after runs wen
 }
 
 -- an opening that goes on is set up, whatever rows the one in memory has
-pub set_up_onward : (kept : OpeningValue) (plan : PlanValue) (rows : TableValue) → IsSetUp (folded_opening kept rows)
-    → IsSetUp (onward_opening kept plan) → IsSetUp (onward_opening (folded_opening kept rows) plan)
-set_up_onward kept plan rows was is = record {
-  opening = rowless_opening (onward_opening kept plan) rows is.opening;
+pub set_up_onward : (kept : OpeningValue) (plan : PlanValue) (limit : ℕ) (rows : TableValue) → IsSetUp (folded_opening kept rows)
+    → IsSetUp (onward_opening kept plan limit) → IsSetUp (onward_opening (folded_opening kept rows) plan limit)
+set_up_onward kept plan limit rows was is = record {
+  opening = rowless_opening (onward_opening kept plan limit) rows is.opening;
   some_table = is.some_table;
   few_tables = is.few_tables;
   width = is.width;

@@ -171,11 +171,11 @@ BeginsNext engine next.Stage =
 BeginsNext engine next.Rest = EndsMove engine
 BeginsNext engine next.Move = (gathered : GatheredValue) × (engine.at ≡ Between gathered true)
 
--- a move to `plan` began: its event was added, the same jobs are open, and the opening in force is
--- that of the move
-pub record HasBegunMove (plan : PlanValue) (old new : EngineValue) : Type 0 where
+-- a move to `plan` began, with chunks of at most `limit` bytes: its event was added, the same jobs are
+-- open, and the opening in force is that of the move
+pub record HasBegunMove (plan : PlanValue) (limit : ℕ) (old new : EngineValue) : Type 0 where
   pub adds : Adds (MovesTo plan) old.jobs new.jobs
-  pub opening : new.opening ≡ onward_opening old.opening plan
+  pub opening : new.opening ≡ onward_opening old.opening plan limit
   pub first : new.first ≡ old.first
 
 -- why a move to `plan` doesn't begin; memory is the reason only if the move has no fault

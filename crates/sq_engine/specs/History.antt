@@ -1,9 +1,9 @@
 -- The epochs of an engine, one after another.
-use Rattle.std.specs.Prelude.{◌≡◌, ◌+◌, ◌<◌, ◌⊎◌, true, false, List, [], ◌∷◌, ◌++◌, length}
+use Rattle.std.specs.Prelude.{◌≡◌, ℕ, ◌+◌, ◌<◌, ◌⊎◌, true, false, List, [], ◌∷◌, ◌++◌, length}
 use Rattle.sq_plan.specs.PlanValue.{PlanValue}
 use Rattle.sq_moves.specs.ReconValue.{stages}
 use Rattle.sq_moves.specs.Between.{recon_of}
-use Rattle.sq_moves.specs.OpeningValue.{OpeningValue}
+use Rattle.sq_moves.specs.OpeningValue.{OpeningValue, limited}
 use Rattle.sq_moves.specs.Opening.{IsOpening}
 use Rattle.sq_node_model.specs.NodeValue.{ReceiptValue}
 use Rattle.sq_node_model.specs.Gathered.{GatheredValue}
@@ -32,15 +32,17 @@ first_start o = record { opening = o; began = first_began o }
 abbrev pub stage_start : EndedEpoch → StartValue
 stage_start last = record { opening = last.opening; began = next_began last.opening last.gathered }
 
--- the opening of a move to `plan` that follows the move of `o`: it has the same sizes and rows
-abbrev pub onward_opening : OpeningValue → PlanValue → OpeningValue
-onward_opening o plan = record o { old = o.new; new = plan; recon = recon_of o.new plan o.config.width }
+-- the opening of a move to `plan`, with chunks of at most `limit` bytes, that follows the move of `o`:
+-- it has the same rows, and else the same sizes
+abbrev pub onward_opening : OpeningValue → PlanValue → ℕ → OpeningValue
+onward_opening o plan limit =
+    limited limit (record o { old = o.new; new = plan; recon = recon_of o.new plan o.config.width })
 
 -- the first stage of a move to `plan`, with what was gathered of the last stage of the move before
-abbrev pub move_start : EndedEpoch → PlanValue → StartValue
-move_start last plan =
+abbrev pub move_start : EndedEpoch → PlanValue → ℕ → StartValue
+move_start last plan limit =
     record {
-      opening = onward_opening last.opening plan;
+      opening = onward_opening last.opening plan limit;
       began = onward_began last.opening last.gathered;
     }
 
@@ -62,7 +64,7 @@ abbrev pub Follows : EndedEpoch → StartValue → Type 0
 Follows last start =
     HasDoneStage last
     × ((HasMoreStages last × (start ≡ stage_start last))
-    ⊎ (IsLastStage last × (plan : PlanValue) × (start ≡ move_start last plan)))
+    ⊎ (IsLastStage last × (plan : PlanValue) × (limit : ℕ) × (start ≡ move_start last plan limit)))
 
 -- an epoch that began with `start` runs: its workers and what they share are a run in its stage,
 -- and its nodes are in the order of their partitions
@@ -103,7 +105,8 @@ pub record IsDueAfter (last : EndedEpoch) (next : OpeningValue) : Type 0 where
   pub done : HasDoneStage last
   pub end : IsLastStage last
   pub plan : PlanValue
-  pub opening : next ≡ onward_opening last.opening plan
+  pub limit : ℕ
+  pub opening : next ≡ onward_opening last.opening plan limit
 
 -- an engine that opened with `o` came through the epochs `past`, and is here, with this opening in
 -- force

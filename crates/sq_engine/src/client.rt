@@ -35,6 +35,10 @@ pub trait Client {
     fn take(&mut self, part: PartId, receipt: Receipt)
         ensures { Becomes self.old (Told part receipt) self.new };
 
+    /// Is told that a job that was posted to `part` is answered; its answer follows. By default
+    /// nothing happens.
+    fn note_answered(&self, _part: PartId) {}
+
     /// Takes back a job that was not posted, with the reason.
     fn take_back(&mut self, job: Job, fault: PostFault)
         ensures { Becomes self.old (Returned job fault) self.new };

@@ -10,6 +10,7 @@ ghost use Rattle.sq_engine.specs.Ending.{EndsAsPlanned, HasAnsweredAll};
 ghost use Rattle.sq_node_model.specs.Prelude.{folded_opening};
 
 use crate::at::At;
+use crate::chunk_limit::ChunkLimit;
 use crate::client::Client;
 use crate::open_jobs::{OpenJobs, PostFault};
 use crate::posting::post_job;
@@ -298,11 +299,17 @@ impl Engine {
         }
     }
 
-    /// Begins a move to `plan`, in its first stage. If rows move or the plans have a fault, nothing
-    /// changes. It fails with `Memory` only if neither holds; then at most an epoch has ended.
-    pub fn move_to<R: Wait>(&mut self, rt: &R, alloc: Global, plan: Plan) -> Result<(), NotMoved>
+    /// Begins a move to `plan`, in its first stage, with chunks of at most `limit`. If rows move or the plans have a fault, nothing changes. It fails
+    /// with `Memory` only if neither holds; then at most an epoch has ended.
+    pub fn move_to<R: Wait>(
+        &mut self,
+        rt: &R,
+        alloc: Global,
+        plan: Plan,
+        limit: ChunkLimit,
+    ) -> Result<(), NotMoved>
         ensures at_rest { OnOk result (rests self.old ≡ true) }
-        ensures begun { OnOk result (HasBegunMove plan self.old self.new) }
+        ensures begun { OnOk result (HasBegunMove plan limit self.old self.new) }
         ensures not_moved { IfErr result (λ why. IsNotMoved plan why self.old self.new) }
     {
         if !self.is_at_rest() {
@@ -311,7 +318,7 @@ impl Engine {
         if let Some(fault) = self.plan_fault(&plan) {
             return Err(NotMoved::Plans(fault));
         }
-        if !self.end_move(rt, alloc) || !self.set_out(alloc, plan) {
+        if !self.end_move(rt, alloc) || !self.set_out(alloc, plan, limit) {
             return Err(NotMoved::Memory);
         }
         self.begin_move(alloc);

@@ -11,6 +11,7 @@
 
 mod at;
 mod back_off;
+mod chunk_limit;
 mod client;
 mod crew;
 mod engine;
@@ -29,6 +30,7 @@ mod stages;
 mod telling;
 
 pub use back_off::BackOff;
+pub use chunk_limit::ChunkLimit;
 pub use client::{Client, Command};
 pub use engine::{Engine, NotEnded, NotMoved, NotPosted, Served};
 pub use event::Event;

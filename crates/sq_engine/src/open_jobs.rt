@@ -141,18 +141,20 @@ impl OpenJobs {
         self.events = events;
     }
 
-    /// Returns the receipt if an open job of its transaction exists, and closes that job, with the
-    /// event that it is answered. Otherwise the receipt is dropped, with an event for that.
-    pub(crate) fn answer(&mut self, part: PartId, receipt: Receipt) -> Option<Receipt>
+    /// Returns the receipt, and the partition to which its job was posted, if an open job of its
+    /// transaction exists, and closes that job, with the event that it is answered. Otherwise the
+    /// receipt is dropped, with an event for that.
+    pub(crate) fn answer(&mut self, part: PartId, receipt: Receipt) -> Option<(PartId, Receipt)>
         ensures answers { IfSome result (λ same. Adds (Answers part receipt) self.old self.new) }
-        ensures same { IfSome result (λ same. same ≡ receipt) }
+        ensures same { IfSome result (λ same. same.1 ≡ receipt) }
         ensures drops { IfNone result (Adds (Drops part receipt) self.old self.new) }
     {
         if self.has_open(&receipt.txn) {
-            drop(self.unanswered.remove(&receipt.txn.id()));
+            let closed = self.unanswered.remove(&receipt.txn.id());
+            let asked = closed.map_or(part, |job| job.part);
             let answers = Event::Answers(part, receipt);
             self.events = self.events.and(&answers);
-            Some(answer_of(answers))
+            Some((asked, answer_of(answers)))
         } else {
             self.events = self.events.and(&Event::Drops(part, receipt));
             self.all_known = false;

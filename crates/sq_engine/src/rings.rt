@@ -74,7 +74,8 @@ fn give_known<C: Client>(
     let known = ring.cached_slots();
     for _receipt in 0..known {
         let arrived = ring.pop_known();
-        if let Some(receipt) = jobs.answer(part, arrived) {
+        if let Some((asked, receipt)) = jobs.answer(part, arrived) {
+            client.note_answered(asked);
             client.take(part, receipt);
         }
     }

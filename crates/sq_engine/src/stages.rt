@@ -9,6 +9,7 @@ ghost use Rattle.sq_engine.specs.Values.{at_value, IsEnded, IsMadeDue};
 ghost use Rattle.sq_node_model.specs.Prelude.{AllGrown};
 
 use crate::at::At;
+use crate::chunk_limit::ChunkLimit;
 use crate::engine::Engine;
 use crate::stage_progress::progress_at_start;
 use sq_gather::{Gathered, gather, move_on, reopen};
@@ -122,20 +123,22 @@ impl Engine {
         let Ok(plan) = self.opening.new_plan().clone() else {
             return;
         };
-        if make_due(alloc, &mut self.opening, &mut self.at, plan) {
+        let limit = ChunkLimit::of(&self.opening);
+        if make_due(alloc, &mut self.opening, &mut self.at, plan, limit) {
             self.begin_move(alloc);
         }
     }
 
-    /// Prepares the move to `plan`, with its event, after the last stage of a move. Returns true if
-    /// it is due now. If the plans have a fault or memory runs out, nothing changes.
-    pub(crate) fn set_out(&mut self, alloc: Global, plan: Plan) -> bool
+    /// Prepares the move to `plan`, with its event, after the last stage of a move, with chunks of
+    /// at most `limit`. Returns true if it is due now. If the plans have a fault or memory runs out,
+    /// nothing changes.
+    pub(crate) fn set_out(&mut self, alloc: Global, plan: Plan, limit: ChunkLimit) -> bool
         requires { EndsMove self.old }
-        ensures due { OnTrue result (HasBegunMove plan self.old self.new) }
+        ensures due { OnTrue result (HasBegunMove plan limit self.old self.new) }
         ensures not_due { OnFalse result (self.new ≡ self.old) }
     {
         let (plan, events) = self.jobs.with_move(plan);
-        if !make_due(alloc, &mut self.opening, &mut self.at, plan) {
+        if !make_due(alloc, &mut self.opening, &mut self.at, plan, limit) {
             return false;
         }
         self.jobs.begin_move(events);
@@ -203,10 +206,17 @@ impl Engine {
 }
 
 // Goes on from `opening`, after the last stage of its move, to the move to `plan`, which is due
-// from then on. Returns false, with nothing changed, if the plans have a fault or memory runs out.
-fn make_due(alloc: Global, opening: &mut Opening, at: &mut At, plan: Plan) -> bool
+// from then on, with chunks of at most `limit`. Returns false, with nothing changed, if the plans
+// have a fault or memory runs out.
+fn make_due(
+    alloc: Global,
+    opening: &mut Opening,
+    at: &mut At,
+    plan: Plan,
+    limit: ChunkLimit,
+) -> bool
     requires { IsEnded (at_value at.old) }
-    ensures due { OnTrue result (opening.new ≡ onward_opening opening.old plan) }
+    ensures due { OnTrue result (opening.new ≡ onward_opening opening.old plan limit) }
     ensures set_up { OnTrue result (IsSetUp opening.new) }
     ensures at { OnTrue result (IsMadeDue (at_value at.old) (at_value at.new)) }
     ensures opening { OnFalse result (opening.new ≡ opening.old) }
@@ -215,6 +225,7 @@ fn make_due(alloc: Global, opening: &mut Opening, at: &mut At, plan: Plan) -> bo
     if opening.go_onward(alloc, plan).is_err() {
         return false;
     }
+    opening.set_limit(limit.bytes());
     if let At::Between { is_due, .. } = at {
         *is_due = true;
     }

@@ -1,5 +1,5 @@
 -- How an engine goes to a plan and back, step by step.
-use Rattle.std.proofs.Common.{◌≡◌, sym, ap, ◌∙◌, subst}
+use Rattle.std.proofs.Common.{◌≡◌, ℕ, sym, ap, ◌∙◌, subst}
 use Rattle.std.specs.Prelude.{Option, Some, None, Result, Ok, Err, IfOk, MatchResult, OnSome}
 use Rattle.std.specs.Result.{result_ok}
 use Rattle.std.proofs.lemmas.Option.{same_Some, none-some}
@@ -34,7 +34,7 @@ pub served_stays : {X : Type 0} {becomes : X → ClientCall → X → Type 0} {o
 served_stays served = record { first = served.epoch.first; plan = served.epoch.plan }
 
 -- a move begins
-pub begun_goes : {plan : PlanValue} {old new : EngineValue} → HasBegunMove plan old new → GoesTo plan old new
+pub begun_goes : {plan : PlanValue} {limit : ℕ} {old new : EngineValue} → HasBegunMove plan limit old new → GoesTo plan old new
 begun_goes begun = record { first = begun.first; goes = ap (λ (o : OpeningValue). o.new) begun.opening }
 
 -- an engine that goes to a plan stays there

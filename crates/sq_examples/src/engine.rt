@@ -10,7 +10,7 @@ mod broker;
 use self::asker::{Asker, JOBS};
 use self::broker::Broker;
 use sq_audit::Verdict;
-use sq_engine::{Engine, EpochEnd};
+use sq_engine::{ChunkLimit, Engine, EpochEnd};
 use sq_moves::Opening;
 use sq_plan::Plan;
 use std::alloc::Global;
@@ -98,7 +98,8 @@ fn go_to<R: Threads + Wait + Sync>(
 ) -> Option<()>
     ensures { OnSome result (GoesTo plan engine.old engine.new) }
 {
-    engine.move_to(rt, alloc, plan).ok()?;
+    let limit = ChunkLimit::of(engine.opening());
+    engine.move_to(rt, alloc, plan, limit).ok()?;
     for _stage in 0..engine.opening().recon().stages() {
         if engine.is_at_rest() {
             break;

@@ -22,7 +22,7 @@ pub use Rattle.sq_plan.specs.PlanValue.{PlanValue, owner}
 pub use Rattle.sq_moves.specs.Moves.{IsMovingRun}
 pub use Rattle.sq_moves.specs.Prelude.{IsOpening, IsSetUp, OpeningValue, stages}
 pub use Rattle.sq_moves.specs.ReconValue.{AreLinks, ReconValue, is_link, segment_of, segments_of, stage_on}
-pub use Rattle.sq_moves.specs.declared.ranges_fault.OpeningFault.{OpeningFault}
+pub use Rattle.sq_moves.specs.declared.opening_fault.OpeningFault.{OpeningFault}
 pub use Rattle.sq_moves.specs.declared.recon.Extent.{Extent}
 pub use Rattle.sq_moves.specs.declared.recon.Link.{Link}
 pub use Rattle.sq_moves.specs.declared.recon.Range.{Range}

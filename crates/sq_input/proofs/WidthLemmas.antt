@@ -6,7 +6,7 @@ use Rattle.std.proofs.lemmas.Bool.{and_from, le-leb, le-ltb}
 use Rattle.sq_plan.specs.PlanValue.{PlanValue}
 use Rattle.sq_moves.specs.declared.recon.TheConstants.{MAX_WIDTH}
 use Rattle.sq_moves.specs.declared.recon.Range.{Range}
-use Rattle.sq_moves.specs.declared.ranges_fault.ReconFault.TheVariants.{PartitionsDiffer, Width, TooManySegments}
+use Rattle.sq_moves.specs.declared.opening_fault.ReconFault.TheVariants.{PartitionsDiffer, Width, TooManySegments}
 use Rattle.sq_moves.specs.ReconValue.{segment_width, segment_count, segments_in, segments_of, is_width}
 use Rattle.sq_moves.specs.Moves.{moves_of}
 use Rattle.sq_moves.specs.Between.{segment_limit, recon_fault}

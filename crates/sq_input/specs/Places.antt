@@ -2,9 +2,9 @@
 use Rattle.std.specs.Prelude.{ℕ, Option, Some, None}
 use Rattle.sq_schema.specs.declared.fault.TxnFault.{TxnFault}
 use Rattle.sq_schema.specs.declared.fault.TxnFault.TheVariants.{BadOps, BadRoot, BadTable, BadSub, BadNote}
-use Rattle.sq_moves.specs.declared.ranges_fault.ReconFault.TheVariants.{Width}
-use Rattle.sq_moves.specs.declared.ranges_fault.OpeningFault.{OpeningFault}
-use Rattle.sq_moves.specs.declared.ranges_fault.OpeningFault.TheVariants as opening
+use Rattle.sq_moves.specs.declared.opening_fault.ReconFault.TheVariants.{Width}
+use Rattle.sq_moves.specs.declared.opening_fault.OpeningFault.{OpeningFault}
+use Rattle.sq_moves.specs.declared.opening_fault.OpeningFault.TheVariants as opening
 
 -- the word of a row's line that a fault of the schema is about
 abbrev pub row_word : TxnFault → Option ℕ

@@ -10,13 +10,13 @@ use csv::ByteRecord;
 use std::alloc::{AllocError, Global};
 
 /// The names of the columns in a header.
-const NAMES: [&[u8]; 5] = [b"root", b"table", b"sub", b"number", b"note"];
+pub(crate) const NAMES: [&[u8]; 5] = [b"root", b"table", b"sub", b"number", b"note"];
 
 /// The column of the note, from 0.
 pub const NOTE_COLUMN: usize = 4;
 
-// How a note in hexadecimal digits begins.
-const HEX: [u8; 4] = *b"hex:";
+/// How a note in hexadecimal digits begins.
+pub(crate) const HEX: [u8; 4] = *b"hex:";
 
 // Replaces a byte that a word can't have.
 const NO_BYTE: u8 = b'?';

@@ -27,6 +27,7 @@ mod told_column;
 mod wanted;
 mod widths;
 mod words;
+mod written_table;
 
 pub use bare_lines::BareLines;
 pub use columns::NOTE_COLUMN;
@@ -47,3 +48,4 @@ pub use told_column::ToldColumn;
 pub use wanted::Wanted;
 pub use widths::{MoveLines, SegmentFlaw, ToldSegments, segment_flaw};
 pub use words::{job_word, opening_word};
+pub use written_table::table_of;

@@ -18,8 +18,8 @@ use Rattle.sq_schema.specs.Refusals.{key_fault, note_fault, row_fault}
 use Rattle.sq_schema.specs.Table.{row_given_fault}
 use Rattle.sq_schema.proofs.Sound.{or_none}
 use Rattle.sq_schema.proofs.Tables.{is_opening-with_row, is_rooted-opening}
-use Rattle.sq_moves.specs.declared.ranges_fault.OpeningFault.TheVariants.{Row}
-use Rattle.sq_moves.specs.RangesFault.{of_row}
+use Rattle.sq_moves.specs.declared.opening_fault.OpeningFault.TheVariants.{Row}
+use Rattle.sq_moves.specs.OpeningFaults.{of_row}
 use Rattle.sq_moves.specs.Given.{GivenValue, no_rows, with_one}
 use Rattle.sq_moves.specs.Refused.{shape_fault, given_fault}
 use Rattle.sq_text.specs.Pieces.{PieceValue, bytes_of}

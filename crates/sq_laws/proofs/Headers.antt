@@ -4,7 +4,7 @@ use Rattle.std.specs.Prelude.{nat_eq, codes}
 use Rattle.std.specs.List.{AllZip, starts_with}
 use Rattle.sq_schema.specs.Chain.{◌>>=◌}
 use Rattle.sq_schema.specs.Effect.{RowTable}
-use Rattle.sq_moves.specs.declared.ranges_fault.OpeningFault.{OpeningFault}
+use Rattle.sq_moves.specs.declared.opening_fault.OpeningFault.{OpeningFault}
 use Rattle.sq_moves.specs.Given.{GivenValue, no_rows, with_one}
 use Rattle.sq_moves.specs.Refused.{given_fault}
 use Rattle.sq_text.specs.Pieces.{PieceValue, bytes_of, next_begins}

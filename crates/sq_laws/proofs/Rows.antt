@@ -10,11 +10,11 @@ use Rattle.sq_schema.specs.Effect.{RowTable}
 use Rattle.sq_schema.specs.declared.fault.RowFault.{RowFault}
 use Rattle.sq_schema.specs.declared.fault.RowFault.TheVariants.{RowRepeated}
 use Rattle.sq_moves.specs.declared.opening.GivenRow.{GivenRow}
-use Rattle.sq_moves.specs.declared.ranges_fault.OpeningFault.TheVariants as opening
+use Rattle.sq_moves.specs.declared.opening_fault.OpeningFault.TheVariants as opening
 use Rattle.sq_moves.specs.declared.opening.Config.{Config}
 use Rattle.sq_plan.specs.PlanValue.{PlanValue}
 use Rattle.sq_schema.specs.Table.{TableValue, rows_in, row_given_fault}
-use Rattle.sq_moves.specs.RangesFault.{of_row}
+use Rattle.sq_moves.specs.OpeningFaults.{of_row}
 use Rattle.sq_moves.specs.Given.{GivenValue, value_of, no_rows, with_one, given_rows}
 use Rattle.sq_moves.specs.Refused.{config_fault, shape_fault, given_fault, rows_fault, opening_fault}
 use Rattle.sq_model.proofs.Lists.{Contains-first, Contains-later, Contains-cases, Contains-nothing, Contains-slice_get}

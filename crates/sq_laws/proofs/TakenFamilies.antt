@@ -9,7 +9,7 @@ use Rattle.std.proofs.lemmas.List.Sums.{sum_by-cons}
 use Rattle.sq_schema.specs.Chain.{◌>>=◌}
 use Rattle.sq_schema.specs.Effect.{RowTable}
 use Rattle.sq_schema.specs.Family.{FamilyValue, rows_of}
-use Rattle.sq_moves.specs.declared.ranges_fault.OpeningFault.{OpeningFault}
+use Rattle.sq_moves.specs.declared.opening_fault.OpeningFault.{OpeningFault}
 use Rattle.sq_moves.specs.Given.{no_rows}
 use Rattle.sq_text.specs.Pieces.{PieceValue, InputEnd, pieces_in, next_begins}
 use Rattle.sq_text.specs.declared.located.LocatedFault.{LocatedFault}

@@ -17,9 +17,9 @@ use Rattle.sq_schema.specs.declared.fault.RowFault.{RowFault}
 use Rattle.sq_schema.specs.declared.fault.TxnFault.{TxnFault}
 use Rattle.sq_schema.specs.declared.fault.TxnFault.TheVariants.{BadRoot}
 use Rattle.sq_schema.specs.declared.root.TheConstants.{ROOT_END}
-use Rattle.sq_moves.specs.declared.ranges_fault.OpeningFault.{OpeningFault}
-use Rattle.sq_moves.specs.declared.ranges_fault.OpeningFault.TheVariants as opening
-use Rattle.sq_moves.specs.RangesFault.{of_row}
+use Rattle.sq_moves.specs.declared.opening_fault.OpeningFault.{OpeningFault}
+use Rattle.sq_moves.specs.declared.opening_fault.OpeningFault.TheVariants as opening
+use Rattle.sq_moves.specs.OpeningFaults.{of_row}
 use Rattle.sq_moves.specs.Given.{GivenValue, with_one}
 use Rattle.sq_moves.specs.Refused.{shape_fault, given_fault}
 use Rattle.sq_text.specs.declared.buffer.TheConstants.{MAX_UNENDED}

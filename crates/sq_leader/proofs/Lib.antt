@@ -2,5 +2,5 @@ pub mod Marked
 pub mod Wholes
 pub mod Counted
 pub mod Stages
-pub mod Leading
+pub mod LedStages
 pub mod Complete

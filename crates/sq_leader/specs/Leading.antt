@@ -8,8 +8,8 @@ use Rattle.sq_leader.specs.LeaderValue.{StageValue}
 use Rattle.sq_leader.specs.Marks.{none_marked, is_marked}
 use Rattle.sq_leader.specs.Segments.{all_marked_complete}
 use Rattle.sq_leader.specs.Leader.{answer_to_next, answer_to_finish}
-use Rattle.sq_leader.specs.declared.stages_leader.Led.{Led}
-use Rattle.sq_leader.specs.declared.stages_leader.Led.TheVariants.{Next, Ended, Missing}
+use Rattle.sq_leader.specs.declared.leading.Led.{Led}
+use Rattle.sq_leader.specs.declared.leading.Led.TheVariants.{Next, Ended, Missing}
 
 -- the leader of the move of the opening at the start of a stage: no partition has reported
 abbrev pub leading : OpeningValue → ℕ → StageValue

@@ -7,13 +7,13 @@
 mod fault;
 pub mod laws;
 mod leader;
+mod leading;
 mod marks;
 mod moving;
 mod report;
-mod stages_leader;
 
 pub use fault::{FinishFault, NextFault, PrepareFault, ReportFault, StageFault, StartFault};
 pub use leader::{Idle, Leader, Preparing, Refused};
+pub use leading::{Led, lead_on, start_move};
 pub use moving::{Ended, Moving};
 pub use report::Report;
-pub use stages_leader::{Led, lead_on, start_move};

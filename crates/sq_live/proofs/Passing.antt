@@ -20,7 +20,7 @@ use Rattle.sq_audit.specs.Answers.{IdsDiffer}
 use Rattle.sq_live.specs.declared.outcome.LiveOutcome.{LiveOutcome}
 use Rattle.sq_live.specs.declared.stages.Ready.{Ready}
 use Rattle.sq_live.specs.Account.{AccountValue, first_account}
-use Rattle.sq_leader.specs.declared.stages_leader.Led.TheVariants.{Next, Ended, Missing}
+use Rattle.sq_leader.specs.declared.leading.Led.TheVariants.{Next, Ended, Missing}
 use Rattle.sq_leader.specs.Leading.{leading, AreComplete, HasGoneOn, HasEnded, Leads}
 use Rattle.sq_live.specs.Judged.{MarksMoved}
 use Rattle.sq_driver.specs.StageRunValue.{RanFrom}

@@ -11,7 +11,7 @@ use Rattle.sq_moves.specs.declared.segment.TheConstants.{SEGMENT_LIMIT}
 use Rattle.sq_moves.specs.ReconValue.{is_width, are_in_key_order, segments_of}
 use Rattle.sq_moves.specs.Moves.{moves_of}
 use Rattle.sq_moves.specs.Between.{segment_limit, recon_fault, recon_of, IsReconOf}
-use Rattle.sq_moves.specs.declared.ranges_fault.ReconFault.TheVariants.{PartitionsDiffer, Width, TooManySegments}
+use Rattle.sq_moves.specs.declared.opening_fault.ReconFault.TheVariants.{PartitionsDiffer, Width, TooManySegments}
 use Rattle.sq_moves.proofs.Overlaps.{moves_of-moves}
 use Rattle.sq_moves.proofs.Segments.{moves-rising}
 

@@ -15,9 +15,10 @@ use Rattle.sq_schema.specs.Effect.{RowList, RowTable}
 use Rattle.sq_schema.specs.Table.{TableValue, rows_in, is_opening}
 use Rattle.sq_schema.proofs.Latest.{nat_eq-cmp}
 use Rattle.sq_schema.specs.declared.root.TheConstants.{ROOT_END}
-use Rattle.sq_moves.specs.declared.ranges_fault.OpeningFault.{OpeningFault}
-use Rattle.sq_moves.specs.declared.ranges_fault.OpeningFault.TheVariants.{Row}
+use Rattle.sq_moves.specs.declared.opening_fault.OpeningFault.{OpeningFault}
+use Rattle.sq_moves.specs.declared.opening_fault.OpeningFault.TheVariants.{Row}
 use Rattle.sq_moves.specs.declared.opening.GivenRow.{GivenRow}
+use Rattle.sq_moves.specs.declared.opening.TheConstants.{MIN_LIMIT, MAX_LIMIT}
 use Rattle.sq_moves.specs.OpeningValue.{OpeningValue}
 use Rattle.sq_moves.specs.SetUp.{IsSetUp}
 use Rattle.sq_moves.specs.Given.{GivenValue, value_of, no_rows, with_one, given_rows, IsTableOf}
@@ -130,9 +131,9 @@ table-set_up o table set_up rising opening below =
       roots = roots-below table below opening;
     }
 
--- an opening stays set up with another limit of its logs
-pub limit-set_up : (o : OpeningValue) (most : ℕ) → IsSetUp o → IsSetUp (record o { config = record o.config { log_limit = most } })
-limit-set_up o most set_up =
+-- an opening stays set up with other limits of its chunks and logs
+pub limits-set_up : (o : OpeningValue) (limit log_limit : ℕ) → MIN_LIMIT ≤ limit → limit ≤ MAX_LIMIT → IsSetUp o → IsSetUp (record o { config = record o.config { limit = limit; log_limit = log_limit } })
+limits-set_up o limit log_limit some small set_up =
     record {
       opening = record {
         old_plan = set_up.opening.old_plan;
@@ -143,14 +144,14 @@ limit-set_up o most set_up =
         few_segments = set_up.opening.few_segments;
         some_width = set_up.opening.some_width;
         small_width = set_up.opening.small_width;
-        some_limit = set_up.opening.some_limit;
+        some_limit = some;
         some_capacity = set_up.opening.some_capacity;
         small_capacity = set_up.opening.small_capacity;
       };
       some_table = set_up.some_table;
       few_tables = set_up.few_tables;
       width = set_up.width;
-      small_limit = set_up.small_limit;
+      small_limit = small;
       rising = set_up.rising;
       rows = set_up.rows;
       roots = set_up.roots;

@@ -4,8 +4,8 @@ use Rattle.sq_plan.specs.declared.version.Version.{Version}
 use Rattle.sq_plan.specs.declared.version.Version.TheVariants.{First, Second}
 use Rattle.sq_plan.specs.Version.{is_auto}
 use Rattle.sq_plan.specs.PlanValue.{PlanValue}
-use Rattle.sq_moves.specs.declared.ranges_fault.ReconFault.{ReconFault}
-use Rattle.sq_moves.specs.declared.ranges_fault.ReconFault.TheVariants.{PartitionsDiffer, Width, TooManySegments}
+use Rattle.sq_moves.specs.declared.opening_fault.ReconFault.{ReconFault}
+use Rattle.sq_moves.specs.declared.opening_fault.ReconFault.TheVariants.{PartitionsDiffer, Width, TooManySegments}
 use Rattle.sq_moves.specs.declared.segment.TheConstants.{SEGMENT_LIMIT, FIRST_SEGMENT_LIMIT}
 use Rattle.sq_moves.specs.ReconValue.{ReconValue, IsRecon, segments_of, is_width}
 use Rattle.sq_moves.specs.Moves.{moves_of, AreMoves}

@@ -7,7 +7,7 @@ pub mod Tree
 pub mod Prelude
 pub mod ReconValue
 pub mod Moves
-pub mod RangesFault
+pub mod OpeningFaults
 pub mod Between
 pub mod Sweep
 pub mod Laws

@@ -23,3 +23,7 @@ opening_of parts =
 -- the opening with logs that hold as many transactions as can be counted
 abbrev pub unlimited : OpeningValue → OpeningValue
 unlimited o = record o { config = record o.config { log_limit = MAX_LOG } }
+
+-- the opening with chunks of at most `limit` bytes
+abbrev pub limited : ℕ → OpeningValue → OpeningValue
+limited limit o = record o { config = record o.config { limit = limit } }

@@ -8,13 +8,13 @@ use Rattle.sq_schema.specs.declared.fault.TxnFault.{TxnFault}
 use Rattle.sq_schema.specs.declared.fault.TxnFault.TheVariants.{BadRoot}
 use Rattle.sq_schema.specs.declared.root.TheConstants.{ROOT_END}
 use Rattle.sq_plan.specs.PlanValue.{PlanValue}
-use Rattle.sq_moves.specs.declared.ranges_fault.OpeningFault.{OpeningFault}
-use Rattle.sq_moves.specs.declared.ranges_fault.OpeningFault.TheVariants.{Limit, Capacity, Row, Memory}
+use Rattle.sq_moves.specs.declared.opening_fault.OpeningFault.{OpeningFault}
+use Rattle.sq_moves.specs.declared.opening_fault.OpeningFault.TheVariants.{Limit, Capacity, Row, Memory}
 use Rattle.sq_moves.specs.declared.opening.TheConstants.{MIN_LIMIT, MAX_LIMIT, MAX_CAPACITY}
 use Rattle.sq_moves.specs.declared.opening.Config.{Config}
 use Rattle.sq_moves.specs.declared.opening.GivenRow.{GivenRow}
 use Rattle.sq_moves.specs.Between.{recon_fault}
-use Rattle.sq_moves.specs.RangesFault.{of_recon, of_row}
+use Rattle.sq_moves.specs.OpeningFaults.{of_recon, of_row}
 use Rattle.sq_moves.specs.Given.{GivenValue, value_of, no_rows, with_one}
 
 -- a chunk may be set to hold this many bytes of families

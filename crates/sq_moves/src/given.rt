@@ -12,7 +12,7 @@ ghost use Rattle.sq_moves.specs.Given.{value_of, no_rows, with_one, given_rows, 
 ghost use Rattle.sq_moves.specs.Refused.{HasFitSizes, config_fault, given_fault, rows_fault, first_fault, opening_fault, MayRefuse, MayRefuseOpening};
 
 use crate::opening::{Config, GivenRow, MAX_CAPACITY, MAX_LIMIT, MIN_LIMIT};
-use crate::ranges_fault::OpeningFault;
+use crate::opening_fault::OpeningFault;
 use crate::recon::Recon;
 use sq_plan::Plan;
 use sq_schema::Table;

@@ -7,8 +7,8 @@ mod given;
 pub mod laws;
 mod node;
 mod opening;
+mod opening_fault;
 mod plain;
-mod ranges_fault;
 mod recon;
 mod segment;
 mod stage;
@@ -22,8 +22,8 @@ pub use opening::{
     Config, GivenRow, LOG_LIMIT, MAX_CAPACITY, MAX_LIMIT, MAX_WAITING, MIN_LIMIT, Opening,
     OpeningParts, RefusedOpening, RefusedPlans,
 };
+pub use opening_fault::{OpeningFault, ReconFault};
 pub use plain::PlainTree;
-pub use ranges_fault::{OpeningFault, ReconFault};
 pub use recon::{Extent, Link, MAX_WIDTH, Range, Recon};
 pub use segment::{FIRST_SEGMENT_LIMIT, SEGMENT_LIMIT, SegId};
 pub use status::{Reading, Status};

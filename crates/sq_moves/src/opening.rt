@@ -4,7 +4,7 @@ ghost use Rattle.sq_schema.specs.declared.root.TheConstants.{ROOT_END};
 ghost use Rattle.sq_schema.specs.Prelude.{rows_in};
 
 use crate::given::{moves, moves_and_table, take_over};
-use crate::ranges_fault::OpeningFault;
+use crate::opening_fault::OpeningFault;
 use crate::recon::Recon;
 use sq_plan::Plan;
 use sq_schema::{MAX_LOG, MAX_NOTE, Root, Row, RowKey, Schema, Table, TxnFault};
@@ -112,7 +112,8 @@ impl Model for Opening {
 }
 
 impl Opening {
-    ghost use Rattle.sq_moves.specs.OpeningValue.{unlimited};
+    ghost use Rattle.sq_moves.specs.declared.opening.TheConstants.{MIN_LIMIT, MAX_LIMIT};
+    ghost use Rattle.sq_moves.specs.OpeningValue.{unlimited, limited};
     ghost use Rattle.sq_moves.specs.SetUp.{IsSetUp};
     ghost use Rattle.sq_moves.specs.Between.{recon_of};
     ghost use Rattle.sq_moves.specs.Given.{IsOpeningOf, value_of, with_one};
@@ -296,6 +297,16 @@ impl Opening {
                 ..self.parts
             },
         }
+    }
+
+    /// Sets the most bytes of families that a chunk holds, unless it holds a single family.
+    pub fn set_limit(&mut self, limit: u64)
+        requires some { MIN_LIMIT ≤ limit }
+        requires small { limit ≤ MAX_LIMIT }
+        ensures opening { self.new ≡ limited limit self.old }
+        ensures set_up { IsSetUp self.new }
+    {
+        self.parts.config.limit = limit;
     }
 
     /// Goes on to the next move: from the plan after this move to `new`, with the same sizes and

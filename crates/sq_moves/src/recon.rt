@@ -7,7 +7,7 @@ ghost use Rattle.sq_moves.specs.ReconValue.{is_width, are_in_key_order, leaf_sta
 
 use crate::cut::{count, fits, links, moves, segments};
 use crate::node::{LEAVES, Leaf, NodeId};
-use crate::ranges_fault::ReconFault;
+use crate::opening_fault::ReconFault;
 use crate::segment::SegId;
 use crate::stage::{place_on, places};
 use sq_plan::{PartId, Plan};

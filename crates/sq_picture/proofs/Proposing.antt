@@ -6,7 +6,7 @@ use Rattle.std.proofs.Math.Nat.{pow-suc}
 use Rattle.sq_plan.specs.PlanValue.{PlanValue}
 use Rattle.sq_moves.specs.declared.recon.TheConstants.{MAX_WIDTH}
 use Rattle.sq_moves.specs.OpeningValue.{OpeningValue}
-use Rattle.sq_moves.specs.declared.ranges_fault.ReconFault.{ReconFault}
+use Rattle.sq_moves.specs.declared.opening_fault.ReconFault.{ReconFault}
 use Rattle.sq_moves.specs.Between.{recon_fault}
 use Rattle.sq_picture.specs.Proposal.{keys_moved, width_of_keys, HasFaultAfter, IsWidthFor, IsLimitFor}
 use Rattle.sq_picture.specs.Sizes.{in_64_bits}

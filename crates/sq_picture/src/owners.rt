@@ -80,8 +80,8 @@ fn write_owners_of<W: Write>(writer: &mut W, opening: &Opening, root: Root) -> i
     write!(writer, "key {key} {old} {new}")
 }
 
-// The reconfiguration range that contains a root key.
-fn range_with(recon: &Recon, root: Root) -> Option<Range>
+/// The reconfiguration range that contains a root key.
+pub(crate) fn range_with(recon: &Recon, root: Root) -> Option<Range>
     ensures { result ≡ range_with recon.now root }
 {
     let key = root.number();
@@ -108,8 +108,8 @@ fn write_range_with<W: Write>(writer: &mut W, recon: &Recon, root: Root) -> io::
     }
 }
 
-// The segment and the leaf of a root key; `None` if it doesn't move, or if they aren't asked for.
-fn told_leaf(recon: &Recon, root: Root, tells_leaf: bool) -> Option<(SegId, Leaf)>
+/// The segment and the leaf of a root key; `None` if it doesn't move, or if they aren't asked for.
+pub(crate) fn told_leaf(recon: &Recon, root: Root, tells_leaf: bool) -> Option<(SegId, Leaf)>
     ensures { result ≡ told_leaf tells_leaf recon.now root }
 {
     if tells_leaf { recon.find(root) } else { None }

@@ -5,7 +5,7 @@ use crate::poster::Poster;
 use crate::printing::{print_line, print_refused, value_of};
 use crate::unfinished::Unfinished;
 use sq_audit::{Job, Verdict};
-use sq_engine::{Engine, EpochEnd, NotPosted, Served};
+use sq_engine::{ChunkLimit, Engine, EpochEnd, NotPosted, Served};
 use sq_moves::Opening;
 use sq_plan::Plan;
 use std::alloc::{AllocError, Global};
@@ -125,10 +125,11 @@ pub fn move_to<R: Wait + Print>(
 ) -> Result<(), Unfinished> {
     let plan = Plan::read(alloc, text.as_bytes())?;
     let again = plan.clone()?;
+    let limit = ChunkLimit::of(engine.opening());
     print_line(rt, "moves");
-    if engine.move_to(rt, alloc, plan).is_err() {
+    if engine.move_to(rt, alloc, plan, limit).is_err() {
         print_refused(rt, "move");
-        value_of(engine.move_to(rt, alloc, again))?;
+        value_of(engine.move_to(rt, alloc, again, limit))?;
     }
     print_pending(rt, engine);
     Ok(())

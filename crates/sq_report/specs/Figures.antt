@@ -2,7 +2,7 @@
 use Rattle.std.specs.Prelude.{ℕ, List}
 use Rattle.sq_store.specs.StoreValue.{StoreValue}
 use Rattle.sq_node_model.specs.Gathered.{GatheredLink}
-use Rattle.sq_report.specs.declared.summary_figures.LinkFigures.{LinkFigures}
+use Rattle.sq_report.specs.declared.run_figures.LinkFigures.{LinkFigures}
 use Rattle.sq_report.specs.declared.measure.Measure.TheVariants.{Rows, Bytes}
 use Rattle.sq_report.specs.Notes.{told}
 use Rattle.sq_report.specs.Counts.{link_count}

@@ -26,7 +26,7 @@ HasOfferTime old id micros new =
 
 -- the times after a mark
 abbrev pub NotesOffer : OfferTimes → ServeMark → ℕ → OfferTimes → Type 0
-NotesOffer old (JobOffered id) micros new = HasOfferTime old id micros new
+NotesOffer old (JobOffered part id) micros new = HasOfferTime old id micros new
 NotesOffer old (JobAnswered part id is_commit) micros new =
     (get nat_eq new id ≡ None) × SameBut id old new
 NotesOffer old mark micros new = new ≡ old

@@ -1,7 +1,7 @@
 -- How many jobs were answered in each short interval.
 use Rattle.std.specs.Prelude.{ℕ, ◌/◌, ◌==◌, ◌&&◌, max, is_some, List, fold, count_by}
 use Rattle.sq_report.specs.declared.moment.Moment.{Moment}
-use Rattle.sq_report.specs.declared.summary_intervals.Interval.{Interval}
+use Rattle.sq_report.specs.declared.chart_intervals.Interval.{Interval}
 
 -- how many jobs were answered in interval `number`, each `len` microseconds long
 abbrev pub answered_in : List Moment → ℕ → ℕ → ℕ

@@ -1,8 +1,8 @@
 // The course of an engine as a chart.
 ghost use Rattle.std.specs.Prelude.{◌<◌};
 
+use crate::chart_intervals::{INTERVALS, Interval, write_intervals};
 use crate::moment::Moment;
-use crate::summary_intervals::{INTERVALS, Interval, write_intervals};
 use crate::svg::{interval_len, write_curves, write_ground, write_start};
 use std::alloc::{AllocError, Global};
 use std::io;

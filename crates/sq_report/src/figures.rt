@@ -4,7 +4,7 @@ ghost use Rattle.sq_report.specs.Figures.{link_figures};
 
 use crate::counts::{LinkCount, count_link};
 use crate::measure::Measure;
-use crate::summary_figures::LinkFigures;
+use crate::run_figures::LinkFigures;
 use sq_gather::{ClosedLink, Gathered};
 use sq_store::SlabStore;
 use std::alloc::{AllocError, Global};

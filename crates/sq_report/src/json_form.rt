@@ -1,7 +1,7 @@
 // The figures of a live run as JSON.
 use crate::part_figures::PartFigures;
+use crate::run_figures::{LinkFigures, RunFigures};
 use crate::spread::Spread;
-use crate::summary_figures::{LinkFigures, RunFigures};
 use crate::times::Times;
 use serde_json::{Value, json};
 use std::alloc::{AllocError, Global};

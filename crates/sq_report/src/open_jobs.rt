@@ -39,7 +39,7 @@ impl OpenJobs {
         ensures { OnOk result (NotesOffer self.old.offered mark.now micros self.new.offered) }
     {
         match *mark {
-            ServeMark::JobOffered { id } => self.offer(id, micros),
+            ServeMark::JobOffered { id, .. } => self.offer(id, micros),
             ServeMark::JobAnswered { id, .. } => {
                 self.offered.remove(&id);
                 Ok(())

@@ -13,7 +13,7 @@ use crate::kept::KeptSummary;
 use crate::moment::moments_of;
 use crate::part_figures::PartFigures;
 use crate::results::{KeptReplies, KeptRows};
-use crate::summary_figures::RunFigures;
+use crate::run_figures::RunFigures;
 use crate::text_form::write_figures;
 use crate::timeline::Timeline;
 use crate::times::{Times, write_times};

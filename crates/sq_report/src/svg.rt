@@ -2,8 +2,8 @@
 ghost use Rattle.std.specs.Prelude.{◌≡◌, ◌<◌};
 ghost use Rattle.sq_report.specs.Curves.{share_of};
 
+use crate::chart_intervals::{INTERVALS, intervals_of, write_intervals};
 use crate::moment::{Moment, StageStart};
-use crate::summary_intervals::{INTERVALS, intervals_of, write_intervals};
 use std::alloc::Global;
 use std::io;
 use std::io::Write;

@@ -1,6 +1,7 @@
 // The counts of an engine that is served.
 ghost use Rattle.std.specs.Prelude.{◌≡◌};
 ghost use Rattle.sq_report.specs.Tallies.{answer_counted, answers_noted, moved_noted};
+ghost use Rattle.sq_report.specs.Tallies.{capped_sum};
 ghost use Rattle.sq_report.specs.Tallies.{epoch_begun, epoch_ended, epochs_noted};
 
 use sq_serving::ServeMark;
@@ -74,11 +75,21 @@ impl MovedTally {
         ensures { result ≡ moved_noted self mark.now }
     {
         match *mark {
-            ServeMark::FamiliesMoved { families, bytes } => MovedTally {
-                families: self.families.saturating_add(families),
-                bytes: self.bytes.saturating_add(bytes),
-            },
+            ServeMark::FamiliesMoved { families, bytes } => self.with(families, bytes),
             _ => self,
+        }
+    }
+
+    /// The tally with `families` more, of `bytes` bytes.
+    pub(crate) fn with(self, families: u64, bytes: u64) -> MovedTally
+        ensures { result ≡ record {
+          families = capped_sum self.families families;
+          bytes = capped_sum self.bytes bytes;
+        } }
+    {
+        MovedTally {
+            families: self.families.saturating_add(families),
+            bytes: self.bytes.saturating_add(bytes),
         }
     }
 }

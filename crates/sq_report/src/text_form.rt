@@ -1,7 +1,7 @@
 // The figures of a live run as text.
 use crate::part_figures::PartFigures;
+use crate::run_figures::{LinkFigures, RunFigures};
 use crate::spread::Spread;
-use crate::summary_figures::{LinkFigures, RunFigures};
 use crate::times::write_times;
 use std::io;
 use std::io::Write;

@@ -4,8 +4,8 @@ use Rattle.std.specs.Prelude.{Option, Some, None, unwrap_or, Result, Ok, Err, If
 use Rattle.sq_text.proofs.Appending.{both}
 use Rattle.sq_text.specs.Texts.{refused_line}
 use Rattle.sq_plan.specs.PlanValue.{PlanValue}
-use Rattle.sq_moves.specs.declared.ranges_fault.ReconFault.{ReconFault}
-use Rattle.sq_moves.specs.RangesFault.{recon_fault_number}
+use Rattle.sq_moves.specs.declared.opening_fault.ReconFault.{ReconFault}
+use Rattle.sq_moves.specs.OpeningFaults.{recon_fault_number}
 use Rattle.sq_schema.specs.Fault.{memory_number}
 use Rattle.sq_engine.specs.Values.{EngineValue}
 use Rattle.sq_engine.specs.declared.engine.NotEnded.{NotEnded}
@@ -16,6 +16,7 @@ use Rattle.sq_engine.specs.Engine.{rests, HasBegunMove, IsNotMoved}
 use Rattle.sq_serving.specs.declared.line_place.LinePlace.{LinePlace}
 use Rattle.sq_serving.specs.declared.serve_answer.ServeAnswer.TheVariants.{Fault, Moving, Moved, Rows}
 use Rattle.sq_serving.specs.ServeAnswers.{serve_answer_line}
+use Rattle.sq_serving.specs.declared.desk.AskedMove.{AskedMove}
 use Rattle.sq_serving.specs.declared.desk.MoveProgress.{MoveProgress}
 use Rattle.sq_serving.specs.declared.desk.Wish.{Wish}
 use Rattle.sq_serving.specs.declared.ending.ServeEnding.{ServeEnding}
@@ -96,19 +97,19 @@ move_told_if (Ok done) engine segments a b c all is stands begins ends = move_to
 move_told_if (Err ending) engine segments a b c all is stands begins ends = tt
 
 -- a line that asks for a move is answered: the move begins, or it is refused
-pub move_answered : {A : Type 0} (plan : PlanValue) (old : EngineValue) (before : ServeDeskValue) (result : Result A ServeEnding)
-    (new : EngineValue) (after : ServeDeskValue) → HasBegunMove plan old new → OnOk result (TellsMove new before after)
-    → OnOk result (AnswersMove plan old before new after)
-move_answered plan old before (Ok done) new after begun tells = inl (begun.opening, tells)
-move_answered plan old before (Err ending) new after begun tells = tt
+pub move_answered : {A : Type 0} (asked : AskedMove) (old : EngineValue) (before : ServeDeskValue) (result : Result A ServeEnding)
+    (new : EngineValue) (after : ServeDeskValue) → HasBegunMove asked.plan asked.limit old new
+    → OnOk result (TellsMove new before after) → OnOk result (AnswersMove asked old before new after)
+move_answered asked old before (Ok done) new after begun tells = inl (begun.opening, tells)
+move_answered asked old before (Err ending) new after begun tells = tt
 
-pub refusal_answered : {A : Type 0} (plan : PlanValue) (why : NotMoved) (old : EngineValue) (before : ServeDeskValue)
-    (result : Result A ServeEnding) (new : EngineValue) (after : ServeDeskValue) → IsNotMoved plan why old new
-    → OnOk result (RefusesMove why before after) → OnOk result (AnswersMove plan old before new after)
-refusal_answered plan (moved.Plans fault) old before (Ok done) new after is refuses = inr (fault, is.1, refuses)
-refusal_answered plan moved.Moving old before (Ok done) new after is refuses = absurd refuses
-refusal_answered plan moved.Memory old before (Ok done) new after is refuses = absurd refuses
-refusal_answered plan why old before (Err ending) new after is refuses = tt
+pub refusal_answered : {A : Type 0} (asked : AskedMove) (why : NotMoved) (old : EngineValue) (before : ServeDeskValue)
+    (result : Result A ServeEnding) (new : EngineValue) (after : ServeDeskValue) → IsNotMoved asked.plan why old new
+    → OnOk result (RefusesMove why before after) → OnOk result (AnswersMove asked old before new after)
+refusal_answered asked (moved.Plans fault) old before (Ok done) new after is refuses = inr (fault, is.1, refuses)
+refusal_answered asked moved.Moving old before (Ok done) new after is refuses = absurd refuses
+refusal_answered asked moved.Memory old before (Ok done) new after is refuses = absurd refuses
+refusal_answered asked why old before (Err ending) new after is refuses = tt
 
 -- nothing is written to close an engine
 pub stays_silent : {A : Type 0} (result : Result A ServeEnding) (a : ServeDeskValue) → OnOk result (a ≡ a)

@@ -4,7 +4,7 @@ use Rattle.std.specs.Prelude.{Option, None, Some, Ok, Err}
 use Rattle.std.specs.List.{flat_map}
 use Rattle.std.specs.Io.KnownBytes.{Appends}
 use Rattle.std.proofs.lemmas.Grind.{flat_map-append}
-use Rattle.std.proofs.lemmas.Bool.{or_parts, cases_eq, eq-eqb, ne_eqb}
+use Rattle.std.proofs.lemmas.Bool.{or_parts, cases_eq, cases_lt, eq-eqb, ne_eqb}
 use Rattle.sq_audit.specs.declared.job.Job.{Job}
 use Rattle.sq_schema.specs.TxnValue.{TxnValue}
 use Rattle.sq_text.proofs.Appending.{both, appends_none}
@@ -12,8 +12,10 @@ use Rattle.sq_serving.specs.declared.faulty_line.FaultyLine.{FaultyLine}
 use Rattle.sq_serving.specs.declared.line_place.LinePlace.{LinePlace}
 use Rattle.sq_plan.specs.declared.fault.PlanFault.{PlanFault}
 use Rattle.sq_plan.specs.Fault.{plan_fault_number}
+use Rattle.sq_plan.specs.PlanValue.{owner}
 use Rattle.sq_serving.specs.declared.serve_answer.ServeAnswer.{ServeAnswer}
-use Rattle.sq_serving.specs.declared.serve_answer.ServeAnswer.TheVariants.{Fault}
+use Rattle.sq_serving.specs.declared.serve_answer.ServeAnswer.TheVariants.{Fault, Pumps, Queued, Dropped, NothingQueued, Owner}
+use Rattle.sq_serving.specs.ServeAnswers.{serve_answer_line}
 use Rattle.sq_serving.specs.ServeFaults.{serve_fault_number}
 use Rattle.sq_serving.specs.declared.serve_fault.ServeFault.{ServeFault}
 use Rattle.sq_serving.specs.declared.serve_fault.ServeFault.TheVariants.{NotAServeLine, TooLong, Txn, Plan, Memory}
@@ -22,17 +24,19 @@ use Rattle.sq_serving.specs.declared.feed.Fed.{Fed}
 use Rattle.sq_serving.specs.declared.feed.Fed.TheVariants as fed
 use Rattle.sq_serving.specs.declared.desk.AskedTxn.{AskedTxn}
 use Rattle.sq_serving.specs.declared.desk.MoveProgress.{MoveProgress}
+use Rattle.sq_serving.specs.declared.desk.AskedMove.{AskedMove}
 use Rattle.sq_serving.specs.declared.desk.Wish.{Wish}
+use Rattle.sq_serving.specs.declared.desk.Wish.TheVariants as wish
 use Rattle.sq_serving.specs.declared.outlet.Outlet.{Outlet}
-use Rattle.sq_serving.specs.Saying.{Says, OtherLine, Answered, Refused, other_line}
+use Rattle.sq_serving.specs.Saying.{Says, OtherLine, Answered, Refused, other_line, StatusTold, JsonTold}
 use Rattle.sq_serving.specs.InputEnds.{KnowsEnd, KeepsEnd, LearnsEnd}
 use Rattle.sq_serving.specs.Ending.{outcome_refused}
 use Rattle.sq_serving.specs.declared.ending.InputOutcome.{InputOutcome}
 use Rattle.sq_serving.specs.declared.ending.InputOutcome.TheVariants as outcome
 use Rattle.sq_serving.specs.declared.feed.InputEnd.TheVariants as end
-use Rattle.sq_serving.specs.Settling.{Standing, refusal_of, AnswersFault, SettlesFed, SettlesEach}
+use Rattle.sq_serving.specs.Settling.{Standing, WishChange, Keeps, Drops, Changes, refusal_of, chunk_answer, AnswersFault, SettlesFed, SettlesEach}
 use Rattle.sq_serving.specs.Sides.{waiting_at, ChangesAt, TakesFirst}
-use Rattle.sq_serving.specs.Becoming.{ServeDeskValue, asked_by, asked_at, Handles, Hears, Speaks, WritesBytes, WritesStatus, Stops, KeepsWish, TakesWish}
+use Rattle.sq_serving.specs.Becoming.{ServeDeskValue, asked_by, asked_at, Handles, Hears, Speaks, WritesBytes, WritesStatus, WritesJson, WritesOwner, Stops, KeepsWish, WantsMove, DropsLast, TakesWish}
 
 pub false-not-true : {P : Type 0} → true ≡ false → P
 false-not-true e = cc
@@ -83,29 +87,35 @@ refusal_keeps strict old now is heard knows =
     refused true (Some outcome.Broken) knows = knows
     refused true (Some outcome.Refused) knows = refl
 
+-- wishes change after they changed
+pub changes_then : (a b c : List Wish) (first more : List WishChange) → Changes a first b → Changes b more c → Changes a (first ++ more) c
+changes_then a b c [] more one two = subst (λ (w : List Wish). Changes w more c) one two
+changes_then a b c (Keeps wish ∷ first) more one two = changes_then (a ++ wish ∷ []) b c first more one two
+changes_then a b c (Drops asked ∷ first) more one two = (one.0, one.1, changes_then one.0 b c first more one.2 two)
+
 -- what is settled after something else
-pub settles_then : (parts : ℕ) (moving : Option MoveProgress) (standing : Standing) (first more : List Fed) (lines lines' : List OtherLine) (kept kept' : List Wish)
-    → SettlesEach parts moving standing first lines kept → SettlesEach parts moving standing more lines' kept'
-    → SettlesEach parts moving standing (first ++ more) (lines ++ lines') (kept ++ kept')
-settles_then parts moving standing [] more lines lines' kept kept' one two =
-    subst (λ (l : List OtherLine). SettlesEach parts moving standing more (l ++ lines') (kept ++ kept')) (sym one.0)
-    (subst (λ (k : List Wish). SettlesEach parts moving standing more lines' (k ++ kept')) (sym one.1) two)
-settles_then parts moving standing (fed ∷ first) more lines lines' kept kept' one two = (
+pub settles_then : (parts : ℕ) (moving : Option MoveProgress) (standing : Standing) (first more : List Fed) (lines lines' : List OtherLine) (changes changes' : List WishChange)
+    → SettlesEach parts moving standing first lines changes → SettlesEach parts moving standing more lines' changes'
+    → SettlesEach parts moving standing (first ++ more) (lines ++ lines') (changes ++ changes')
+settles_then parts moving standing [] more lines lines' changes changes' one two =
+    subst (λ (l : List OtherLine). SettlesEach parts moving standing more (l ++ lines') (changes ++ changes')) (sym one.0)
+    (subst (λ (k : List WishChange). SettlesEach parts moving standing more lines' (k ++ changes')) (sym one.1) two)
+settles_then parts moving standing (fed ∷ first) more lines lines' changes changes' one two = (
   one.0,
   one.1,
   one.2 ++ lines',
-  one.3 ++ kept',
+  one.3 ++ changes',
   one.4,
-  settles_then parts moving standing first more one.2 lines' one.3 kept' one.5 two,
+  settles_then parts moving standing first more one.2 lines' one.3 changes' one.5 two,
   ap (λ (l : List OtherLine). l ++ lines') one.6 ∙ append_assoc one.0 one.2 lines',
-  ap (λ (k : List Wish). k ++ kept') one.7 ∙ append_assoc one.1 one.3 kept',
+  ap (λ (k : List WishChange). k ++ changes') one.7 ∙ append_assoc one.1 one.3 changes',
 )
 
 -- one alone
-pub settles_one : (parts : ℕ) (moving : Option MoveProgress) (standing : Standing) (fed : Fed) (lines : List OtherLine) (kept : List Wish)
-    → SettlesFed parts moving standing fed lines kept → SettlesEach parts moving standing (fed ∷ []) lines kept
-settles_one parts moving standing fed lines kept is =
-    (lines, kept, [], [], is, (refl, refl), sym (append-nil lines), sym (append-nil kept))
+pub settles_one : (parts : ℕ) (moving : Option MoveProgress) (standing : Standing) (fed : Fed) (lines : List OtherLine) (changes : List WishChange)
+    → SettlesFed parts moving standing fed lines changes → SettlesEach parts moving standing (fed ∷ []) lines changes
+settles_one parts moving standing fed lines changes is =
+    (lines, changes, [], [], is, (refl, refl), sym (append-nil lines), sym (append-nil changes))
 
 -- what is handled after something else, with the jobs back that this offered
 handles_through : (more more' : List Fed) (back mid offered : List Job) (a b c : ServeDeskValue)
@@ -119,17 +129,16 @@ handles_through more more' back mid offered a b c one two =
           both a.written b.written c.written (flat_map other_line one.others) (flat_map other_line two.others)
           (flat_map other_line (one.others ++ two.others)) (one.written (two.writes_on still)) (two.written still)
           (sym (flat_map-append other_line one.others two.others));
-      kept = one.kept ++ two.kept;
+      changes = one.changes ++ two.changes;
       wishes = λ still.
-          two.wishes still ∙ ap (λ (l : List Wish). l ++ two.kept) (one.wishes (two.goes_on still))
-          ∙ append_assoc a.wishes one.kept two.kept;
+          changes_then a.wishes b.wishes c.wishes one.changes two.changes (one.wishes (two.goes_on still)) (two.wishes still);
       settled = λ still.
-          settles_then (length a.waiting) a.moving a.standing more more' one.others two.others one.kept two.kept
+          settles_then (length a.waiting) a.moving a.standing more more' one.others two.others one.changes two.changes
           (one.settled (two.goes_on still))
-          (subst (λ (moving : Option MoveProgress). SettlesEach (length a.waiting) moving a.standing more' two.others two.kept) one.moving
-          (subst (λ (standing : Standing). SettlesEach (length a.waiting) b.moving standing more' two.others two.kept)
+          (subst (λ (moving : Option MoveProgress). SettlesEach (length a.waiting) moving a.standing more' two.others two.changes) one.moving
+          (subst (λ (standing : Standing). SettlesEach (length a.waiting) b.moving standing more' two.others two.changes)
           (one.standing (two.goes_on still))
-          (subst (λ (parts : ℕ). SettlesEach parts b.moving b.standing more' two.others two.kept) one.count (two.settled still))));
+          (subst (λ (parts : ℕ). SettlesEach parts b.moving b.standing more' two.others two.changes) one.count (two.settled still))));
       count = two.count ∙ one.count;
       moving = two.moving ∙ one.moving;
       standing = λ still. two.standing still ∙ one.standing (two.goes_on still);
@@ -163,21 +172,22 @@ hears_through back mid offered a b c first second =
 pub hears_then : (back offered : List Job) (a b c : ServeDeskValue) → Hears back a [] b → Hears [] b offered c → Hears back a offered c
 hears_then back offered = hears_through back [] offered
 
--- the same of a line at which the input may end
-pub answers_ended : (fed : Fed) (line : OtherLine) (now : Option InputOutcome) (a b : ServeDeskValue)
-    → WritesBytes (other_line line) (record a { ended = now }) b
-    → SettlesFed (length a.waiting) a.moving a.standing fed (line ∷ []) [] → ((part : ℕ) → part < length a.waiting → asked_by part fed ≡ [])
+-- a line is written of what was handed on, which asks for no job, the input may end there, and
+-- wishes change
+answers_changed : (fed : Fed) (line : OtherLine) (changes : List WishChange) (wishes : List Wish) (now : Option InputOutcome) (a b : ServeDeskValue)
+    → WritesBytes (other_line line) (record a { ended = now; wishes = wishes }) b → Changes a.wishes changes wishes
+    → SettlesFed (length a.waiting) a.moving a.standing fed (line ∷ []) changes → ((part : ℕ) → part < length a.waiting → asked_by part fed ≡ [])
     → LearnsEnd a.is_strict (fed ∷ []) a.ended now → Handles (fed ∷ []) [] a [] b
-answers_ended fed line now a b says is none learns =
+answers_changed fed line changes wishes now a b says change is none learns =
     record {
       goes_on = says.goes_on;
       writes_on = says.writes_on;
       others = line ∷ [];
       written = λ still.
           subst (λ (bytes : List ℕ). Appends a.written b.written bytes) (sym (append-nil (other_line line))) (says.written still);
-      kept = [];
-      wishes = λ still. says.wishes ∙ sym (append-nil a.wishes);
-      settled = λ still. settles_one (length a.waiting) a.moving a.standing fed (line ∷ []) [] is;
+      changes = changes;
+      wishes = λ still. subst (λ (w : List Wish). Changes a.wishes changes w) (sym says.wishes) change;
+      settled = λ still. settles_one (length a.waiting) a.moving a.standing fed (line ∷ []) changes is;
       count = ap (λ (w : List (List AskedTxn)). length w) says.waiting;
       moving = says.moving;
       standing = λ still. says.standing;
@@ -189,6 +199,13 @@ answers_ended fed line now a b says is none learns =
           ∙ ap (λ (w : List (List AskedTxn)). waiting_at w part) (sym says.waiting);
     }
 
+-- the same of a line at which the input may end, and no wish changes
+pub answers_ended : (fed : Fed) (line : OtherLine) (now : Option InputOutcome) (a b : ServeDeskValue)
+    → WritesBytes (other_line line) (record a { ended = now }) b
+    → SettlesFed (length a.waiting) a.moving a.standing fed (line ∷ []) [] → ((part : ℕ) → part < length a.waiting → asked_by part fed ≡ [])
+    → LearnsEnd a.is_strict (fed ∷ []) a.ended now → Handles (fed ∷ []) [] a [] b
+answers_ended fed line now a b says is none learns = answers_changed fed line [] a.wishes now a b says refl is none learns
+
 -- a line is answered at once that asks for no job
 pub answers_one : (fed : Fed) (line : OtherLine) (a b : ServeDeskValue) → WritesBytes (other_line line) a b
     → SettlesFed (length a.waiting) a.moving a.standing fed (line ∷ []) [] → ((part : ℕ) → part < length a.waiting → asked_by part fed ≡ [])
@@ -196,19 +213,19 @@ pub answers_one : (fed : Fed) (line : OtherLine) (a b : ServeDeskValue) → Writ
 answers_one fed line a b says is none =
     answers_ended fed line a.ended a b says is none (λ heard knows. knows_more a.is_strict heard (fed ∷ []) a.ended knows)
 
--- nothing is written of what was handed on, which asks for no job, and these wishes are kept
-keeps_all : (fed : Fed) (wished : List Wish) (a : ServeDeskValue) → SettlesFed (length a.waiting) a.moving a.standing fed [] wished
+-- nothing is written of what was handed on, which asks for no job, and this wish is kept
+keeps_all : (fed : Fed) (wish : Wish) (a : ServeDeskValue) → SettlesFed (length a.waiting) a.moving a.standing fed [] (Keeps wish ∷ [])
     → ((part : ℕ) → part < length a.waiting → asked_by part fed ≡ [])
-    → Handles (fed ∷ []) [] a [] (record a { wishes = a.wishes ++ wished })
-keeps_all fed wished a is none =
+    → Handles (fed ∷ []) [] a [] (record a { wishes = a.wishes ++ wish ∷ [] })
+keeps_all fed wish a is none =
     record {
       goes_on = λ still. still;
       writes_on = λ still. still;
       others = [];
       written = λ still. appends_none a.written;
-      kept = wished;
+      changes = Keeps wish ∷ [];
       wishes = λ still. refl;
-      settled = λ still. settles_one (length a.waiting) a.moving a.standing fed [] wished is;
+      settled = λ still. settles_one (length a.waiting) a.moving a.standing fed [] (Keeps wish ∷ []) is;
       count = refl;
       moving = refl;
       standing = λ still. refl;
@@ -220,14 +237,14 @@ keeps_all fed wished a is none =
     }
 
 pub keeps_one : (fed : Fed) (wish : Wish) (a b : ServeDeskValue) → KeepsWish wish a b
-    → SettlesFed (length a.waiting) a.moving a.standing fed [] (wish ∷ []) → ((part : ℕ) → part < length a.waiting → asked_by part fed ≡ [])
+    → SettlesFed (length a.waiting) a.moving a.standing fed [] (Keeps wish ∷ []) → ((part : ℕ) → part < length a.waiting → asked_by part fed ≡ [])
     → Handles (fed ∷ []) [] a [] b
 keeps_one fed wish a b keeps is none =
-    subst (λ (d : ServeDeskValue). Handles (fed ∷ []) [] a [] d) (sym keeps) (keeps_all fed (wish ∷ []) a is none)
+    subst (λ (d : ServeDeskValue). Handles (fed ∷ []) [] a [] d) (sym keeps) (keeps_all fed wish a is none)
 
 -- a wish of a line is kept or refused
 pub wishes_one : (fed : Fed) (wish : Wish) (a b : ServeDeskValue)
-    → SettlesFed (length a.waiting) a.moving a.standing fed [] (wish ∷ []) → SettlesFed (length a.waiting) a.moving a.standing fed (Refused 217 ∷ []) []
+    → SettlesFed (length a.waiting) a.moving a.standing fed [] (Keeps wish ∷ []) → SettlesFed (length a.waiting) a.moving a.standing fed (Refused 217 ∷ []) []
     → ((part : ℕ) → part < length a.waiting → asked_by part fed ≡ [])
     → KeepsWish wish a b ⊎ WritesBytes (other_line (Refused 217)) a b → Handles (fed ∷ []) [] a [] b
 wishes_one fed wish a b kept refused none did =
@@ -242,8 +259,8 @@ same_handles a b same =
       writes_on = λ still. still;
       others = [];
       written = λ still. appends_none a.written;
-      kept = [];
-      wishes = λ still. sym (append-nil a.wishes);
+      changes = [];
+      wishes = λ still. refl;
       settled = λ still. (refl, refl);
       count = refl;
       moving = refl;
@@ -262,8 +279,8 @@ ends_whole a b same =
       writes_on = λ still. still;
       others = [];
       written = λ still. appends_none a.written;
-      kept = [];
-      wishes = λ still. sym (append-nil a.wishes);
+      changes = [];
+      wishes = λ still. refl;
       settled = λ still. settles_one (length a.waiting) a.moving a.standing (fed.End end.Whole) [] [] (refl, refl);
       count = refl;
       moving = refl;
@@ -296,8 +313,8 @@ nothing_hears a b writes =
       writes_on = writes.writes_on;
       others = [];
       written = writes.written;
-      kept = [];
-      wishes = λ still. writes.wishes ∙ sym (append-nil a.wishes);
+      changes = [];
+      wishes = λ still. writes.wishes;
       settled = λ still. (refl, refl);
       count = ap (λ (w : List (List AskedTxn)). length w) writes.waiting;
       moving = writes.moving;
@@ -371,8 +388,8 @@ quiet more back offered a b failed standing strict ended moving written stopped 
       others = [];
       written = λ still.
           subst (λ (known : Option (List ℕ)). Appends a.written known []) (sym written) (appends_none a.written);
-      kept = [];
-      wishes = λ still. wishes ∙ sym (append-nil a.wishes);
+      changes = [];
+      wishes = λ still. wishes;
       settled = λ still. settled;
       count = count;
       moving = moving;
@@ -393,7 +410,7 @@ stops more back offered a b failed written moving stopped count =
       others = [];
       written = λ still.
           subst (λ (known : Option (List ℕ)). Appends a.written known []) (sym written) (appends_none a.written);
-      kept = [];
+      changes = [];
       wishes = λ still. false-not-true (sym stopped ∙ still);
       settled = λ still. false-not-true (sym stopped ∙ still);
       count = count;
@@ -587,35 +604,104 @@ fault_answered place faulty number a b is no_memory no_plan says =
 
 -- a line whose plan has a fault is refused
 pub plan_refused : (place : LinePlace) (faulty : FaultyLine) (plan : PlanFault) (number : ℕ) (a b : ServeDeskValue)
-    → faulty.fault ≡ Plan plan → number ≡ serve_fault_number faulty.fault
-    → WritesBytes (other_line (Refused 217)) a b ⊎ WritesBytes (other_line (Refused number)) a b
+    → faulty.fault ≡ Plan plan → number ≡ serve_fault_number faulty.fault → WritesBytes (other_line (Refused number)) a b
     → Handles (fed.Line place (Err faulty) ∷ []) [] a [] b
-plan_refused place faulty plan number a b why is did =
-    let Answers : List OtherLine → ServeFault → Type 0 = λ lines fault. AnswersFault place faulty.id fault lines in
+plan_refused place faulty plan number a b why is says =
+    let Answers : ServeFault → Type 0 = λ fault. AnswersFault place faulty.id fault (Refused number ∷ []) in
     let own : number ≡ plan_fault_number plan = is ∙ ap serve_fault_number why in
-    ⊎_elim
-    (λ says.
-    answers_one (fed.Line place (Err faulty)) (Refused 217) a b says
-    (subst (Answers (Refused 217 ∷ [])) (sym why) (inl refl), refl) (λ part within. refl))
-    (λ says.
     answers_one (fed.Line place (Err faulty)) (Refused number) a b says
-    (subst (Answers (Refused number ∷ [])) (sym why) (inr (ap (λ (n : ℕ). Refused n ∷ []) own)), refl) (λ part within. refl))
-    did
+    (subst Answers (sym why) (ap (λ (n : ℕ). Refused n ∷ []) own), refl) (λ part within. refl)
 
 -- a wish that is kept or refused isn't heard
 pub wish_unheard : (wish : Wish) (bytes : List ℕ) (a b : ServeDeskValue) → KeepsWish wish a b ⊎ WritesBytes bytes a b → b.heard ≡ a.heard
 wish_unheard wish bytes a b did =
     ⊎_elim (λ keeps. ap (λ (d : ServeDeskValue). d.heard) keeps) (λ says. says.heard) did
 
-pub either_unheard : (one other : List ℕ) (a b : ServeDeskValue) → WritesBytes one a b ⊎ WritesBytes other a b → b.heard ≡ a.heard
-either_unheard one other a b did = ⊎_elim (λ says. says.heard) (λ says. says.heard) did
+-- a move of a line is kept at once, or after the others that wait, or refused
+pub move_wanted : (asked : AskedMove) (waiting : ℕ) (a b : ServeDeskValue) → WantsMove asked waiting a b
+    → Handles (fed.Line asked.place (Ok (asks.Move asked.plan)) ∷ []) [] a [] b
+move_wanted asked waiting a b did =
+    let given : Fed = fed.Line asked.place (Ok (asks.Move asked.plan)) in
+    ⊎_elim
+    (λ keeps. keeps_one given (wish.Move asked) a b keeps (asked.limit, inl (inl (refl, refl))) (λ part within. refl))
+    (λ other.
+    ⊎_elim
+    (λ waits.
+    ⊎_elim
+    (λ queues.
+    answers_changed given (Answered (Queued waiting)) (Keeps (wish.Move asked) ∷ []) (a.wishes ++ wish.Move asked ∷ []) a.ended a b queues refl
+    (asked.limit, inr (waiting, refl, refl)) (λ part within. refl) (λ heard knows. knows_more a.is_strict heard (given ∷ []) a.ended knows))
+    (λ stops. stopped_handles (given ∷ []) [] [] a b stops)
+    waits)
+    (λ says. answers_one given (Refused 217) a b says (asked.limit, inl (inr (refl, refl))) (λ part within. refl))
+    other)
+    did
+
+pub move_unheard : (asked : AskedMove) (waiting : ℕ) (a b : ServeDeskValue) → WantsMove asked waiting a b → b.heard ≡ a.heard
+move_unheard asked waiting a b did =
+    ⊎_elim (λ keeps. ap (λ (d : ServeDeskValue). d.heard) keeps)
+    (λ other. ⊎_elim (λ waits. ⊎_elim (λ queues. queues.heard) (λ stops. stops.heard) waits) (λ says. says.heard) other)
+    did
+
+-- the move that waits last is dropped, if one waits
+pub drop_answered : (place : LinePlace) (queue : List AskedMove) (a b : ServeDeskValue) → DropsLast queue a b
+    → Handles (fed.Line place (Ok asks.Drop) ∷ []) [] a [] b
+drop_answered place queue a b did =
+    ⊎_elim
+    (λ some.
+    let drops = some.3 in
+    answers_changed (fed.Line place (Ok asks.Drop)) (Answered (Dropped (length some.1))) (Drops some.0 ∷ []) drops.rest a.ended a b
+    drops.writes (drops.rest, drops.dropped, refl) (inl (some.0, length some.1, refl, refl)) (λ part within. refl)
+    (λ heard knows. knows_more a.is_strict heard (fed.Line place (Ok asks.Drop) ∷ []) a.ended knows))
+    (λ none. answers_one (fed.Line place (Ok asks.Drop)) (Answered NothingQueued) a b none.1 (inr (refl, refl)) (λ part within. refl))
+    did
+
+pub drop_unheard : (queue : List AskedMove) (a b : ServeDeskValue) → DropsLast queue a b → b.heard ≡ a.heard
+drop_unheard queue a b did = ⊎_elim (λ some. some.3.writes.heard) (λ none. none.1.heard) did
 
 -- the status
 pub status_answered : (place : LinePlace) (unanswered : ℕ) (a b : ServeDeskValue) → WritesStatus unanswered a b
     → Handles (fed.Line place (Ok asks.Status) ∷ []) [] a [] b
 status_answered place unanswered a b did =
-    answers_one (fed.Line place (Ok asks.Status)) (Answered did.0) a b did.2
-    (did.1.0, ap (λ (answer : ServeAnswer). Answered answer ∷ []) did.1.2, refl) (λ part within. refl)
+    answers_one (fed.Line place (Ok asks.Status)) (StatusTold did.0 did.1) a b did.4
+    (did.2.0, did.2.2, did.1, did.3, ap (λ (answer : ServeAnswer). StatusTold answer did.1 ∷ []) did.2.3, refl)
+    (λ part within. refl)
+
+-- the status as JSON
+pub json_answered : (place : LinePlace) (a b : ServeDeskValue) → WritesJson a b
+    → Handles (fed.Line place (Ok asks.StatusJson) ∷ []) [] a [] b
+json_answered place a b did =
+    answers_one (fed.Line place (Ok asks.StatusJson)) (JsonTold did.0) a b did.2 (did.0, did.1, refl, refl) (λ part within. refl)
+
+-- how many pumps claim, or the fault of a line that names too many
+pub pumps_answered : (place : LinePlace) (count most : ℕ) (a b : ServeDeskValue) → (count ≤ most → WritesBytes (serve_answer_line (Pumps count)) a b)
+    → (most < count → WritesBytes (serve_answer_line (Fault 126 place.line None)) a b)
+    → Handles (fed.Line place (Ok (asks.Pumps count)) ∷ []) [] a [] b
+pumps_answered place count most a b some fault =
+    ⊎_elim
+    (λ more.
+    answers_one (fed.Line place (Ok (asks.Pumps count))) (Answered (Fault 126 place.line None)) a b (fault more) (inr refl, refl)
+    (λ part within. refl))
+    (λ within.
+    answers_one (fed.Line place (Ok (asks.Pumps count))) (Answered (Pumps count)) a b (some within) (inl refl, refl) (λ part inside. refl))
+    (cases_lt most count)
+
+pub pumps_unheard : (place : LinePlace) (count most : ℕ) (a b : ServeDeskValue) → (count ≤ most → WritesBytes (serve_answer_line (Pumps count)) a b)
+    → (most < count → WritesBytes (serve_answer_line (Fault 126 place.line None)) a b) → b.heard ≡ a.heard
+pumps_unheard place count most a b some fault = ⊎_elim (λ more. (fault more).heard) (λ within. (some within).heard) (cases_lt most count)
+
+-- the most bytes of a chunk, or the fault of a limit that chunks can't have
+pub chunk_answered : (place : LinePlace) (bytes : ℕ) (a b : ServeDeskValue) → WritesBytes (serve_answer_line (chunk_answer place bytes)) a b
+    → Handles (fed.Line place (Ok (asks.Chunk bytes)) ∷ []) [] a [] b
+chunk_answered place bytes a b did =
+    answers_one (fed.Line place (Ok (asks.Chunk bytes))) (Answered (chunk_answer place bytes)) a b did (refl, refl) (λ part within. refl)
+
+-- the owner of a root key by the plan in force
+pub owner_answered : (place : LinePlace) (root : ℕ) (a b : ServeDeskValue) → WritesOwner root a b
+    → Handles (fed.Line place (Ok (asks.Owner root)) ∷ []) [] a [] b
+owner_answered place root a b did =
+    answers_one (fed.Line place (Ok (asks.Owner root))) (Answered (Owner root (owner a.standing.plan root))) a b did (refl, refl)
+    (λ part within. refl)
 
 -- a wish was taken
 pub wish_speaks : (taken : Option Wish) (a b : ServeDeskValue) → TakesWish taken a b → Speaks a b

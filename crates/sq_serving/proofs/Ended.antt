@@ -21,7 +21,7 @@ use Rattle.sq_serving.specs.Becoming.{ServeDeskValue, Speaks}
 use Rattle.sq_serving.specs.Written.{WritesEach}
 use Rattle.std.specs.Prelude.{Some, sum_by}
 use Rattle.sq_serving.proofs.Desks.{wish_speaks}
-use Rattle.sq_serving.proofs.ServerEpochs.{writes_then}
+use Rattle.sq_serving.proofs.DeskEpochs.{writes_then}
 use Rattle.sq_serving.specs.Events.{all_added}
 use Rattle.sq_serving.specs.Ends.{IsEnding, HasTotals, EndsClosed, EndsBy, HasEndedServing}
 use Rattle.sq_serving.specs.Planned.{IsServedFrom, EndsServingSoundly}

@@ -2,8 +2,9 @@ mod Follows
 mod Portioned
 mod Names
 pub mod Changes
+mod Queues
 pub mod Desks
-pub mod ServerEpochs
+pub mod DeskEpochs
 mod Sayings
 mod Interleaved
 pub mod Served

@@ -78,22 +78,22 @@ not_ended_keeps unended.Moving old new is = stays old new is.0
 not_ended_keeps unended.Memory old new is = opening_kept old new is.0
 
 -- a move begins, and its lines are written, unless memory runs out for them
-pub begun_gives : {A : Type 0} (plan : PlanValue) (old : EngineValue) (before : ServeDeskValue) (result : Result A ServeEnding)
-    (new : EngineValue) (after : ServeDeskValue) → HasBegunMove plan old new → Speaks before after → IfErr result (λ ending. ending ≡ Memory)
-    → MovesOrLacksMemory plan old before result new after
-begun_gives plan old before (Ok step) new after begun speaks memory = (inl begun, speaks)
-begun_gives plan old before (Err ending) new after begun speaks memory = (memory, inl begun, speaks)
+pub begun_gives : {A : Type 0} (asked : AskedMove) (old : EngineValue) (before : ServeDeskValue) (result : Result A ServeEnding)
+    (new : EngineValue) (after : ServeDeskValue) → HasBegunMove asked.plan asked.limit old new → Speaks before after
+    → IfErr result (λ ending. ending ≡ Memory) → MovesOrLacksMemory asked old before result new after
+begun_gives asked old before (Ok step) new after begun speaks memory = (inl begun, speaks)
+begun_gives asked old before (Err ending) new after begun speaks memory = (memory, inl begun, speaks)
 
 -- a move is refused, or memory ran out
-pub refused_gives : {A : Type 0} (plan : PlanValue) (reason : NotMoved) (old : EngineValue) (before : ServeDeskValue) (result : Result A ServeEnding)
-    (new : EngineValue) (after : ServeDeskValue) → IsNotMoved plan reason old new → Speaks before after
+pub refused_gives : {A : Type 0} (asked : AskedMove) (reason : NotMoved) (old : EngineValue) (before : ServeDeskValue) (result : Result A ServeEnding)
+    (new : EngineValue) (after : ServeDeskValue) → IsNotMoved asked.plan reason old new → Speaks before after
     → OnOk result (RefusesMove reason before after) → IfErr result (λ ending. ending ≡ Memory)
-    → MovesOrLacksMemory plan old before result new after
-refused_gives plan (why.Plans fault) old before (Ok step) new after is speaks refuses memory = (inr is.0, speaks)
-refused_gives plan why.Moving old before (Ok step) new after is speaks refuses memory = absurd refuses
-refused_gives plan why.Memory old before (Ok step) new after is speaks refuses memory = absurd refuses
-refused_gives plan reason old before (Err ending) new after is speaks refuses memory =
-    (memory, inr (not_moved_keeps plan reason old new is), speaks)
+    → MovesOrLacksMemory asked old before result new after
+refused_gives asked (why.Plans fault) old before (Ok step) new after is speaks refuses memory = (inr is.0, speaks)
+refused_gives asked why.Moving old before (Ok step) new after is speaks refuses memory = absurd refuses
+refused_gives asked why.Memory old before (Ok step) new after is speaks refuses memory = absurd refuses
+refused_gives asked reason old before (Err ending) new after is speaks refuses memory =
+    (memory, inr (not_moved_keeps asked.plan reason old new is), speaks)
 
 -- what an epoch gives, by how it ended
 pub epoch_gives : {X A E : Type 0} (desk : X → ServeDeskValue) (served : Result Served E) (result : Result A ServeEnding)
@@ -129,7 +129,7 @@ closes_with ending old last desk input cleared is by =
 
 -- a wish to move rows, and one to close
 pub move_grants : {A : Type 0} (asked : AskedMove) (old : EngineValue) (before : ServeDeskValue) (result : Result A ServeEnding)
-    (new : EngineValue) (after : ServeDeskValue) → MovesOrLacksMemory asked.plan old before result new after
+    (new : EngineValue) (after : ServeDeskValue) → MovesOrLacksMemory asked old before result new after
     → GrantsTaken (wish.Move asked) old before result new after
 move_grants asked old before (Ok step) new after gives =
     ⊎_elim (λ begun. (MovesTo asked.plan ∷ [], inl (begun, refl), gives.1)) (λ same. ([], inr (same, refl), gives.1)) gives.0

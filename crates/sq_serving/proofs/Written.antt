@@ -17,7 +17,7 @@ use Rattle.sq_serving.specs.Saying.{Answered, RowLines, lines_in, rows_told}
 use Rattle.sq_serving.specs.Becoming.{ServeDeskValue, Speaks}
 use Rattle.sq_serving.specs.Written.{Other, jobs_waiting, WritesEach}
 use Rattle.sq_serving.proofs.Desks.{keeps_learn, writes_nothing, wish_speaks}
-use Rattle.sq_serving.proofs.ServerEpochs.{none_written, writes_then, others_said, others_tell_none, others_answer_none}
+use Rattle.sq_serving.proofs.DeskEpochs.{none_written, writes_then, others_said, others_tell_none, others_answer_none}
 use Rattle.sq_serving.specs.Rows.{TellsRows}
 use Rattle.sq_serving.specs.Events.{ServeEvent, Flushed, EpochServed, MoveEnded, Granted, ChangesEngine, WritesOf, Happens, HappenEach, added, all_added}
 

@@ -1,5 +1,5 @@
 -- What a call makes of a desk.
-use Rattle.std.specs.Prelude.{◌≡◌, ℕ, ◌<◌, ◌≤◌, ◌==◌, ◌||◌, Bool, true, false, if◌then◌else◌, List, [], ◌∷◌, ◌++◌, length, map, filter, Option, Some, None, option_map, is_some, Ok, Err}
+use Rattle.std.specs.Prelude.{◌≡◌, ◌⊎◌, ℕ, ◌<◌, ◌≤◌, ◌==◌, ◌||◌, Bool, true, false, if◌then◌else◌, List, [], ◌∷◌, ◌++◌, length, map, filter, Option, Some, None, option_map, is_some, Ok, Err}
 use Rattle.std.specs.List.{flat_map}
 use Rattle.std.specs.Io.KnownBytes.{Appends}
 use Rattle.rtrb.specs.Ring.{received}
@@ -11,16 +11,19 @@ use Rattle.sq_engine.specs.declared.client.Command.{Command}
 use Rattle.sq_engine.specs.declared.client.Command.TheVariants.{Post, Rest, End}
 use Rattle.sq_engine.specs.declared.stage_progress.StageProgress.{StageProgress}
 use Rattle.sq_engine.specs.Clients.{ClientCall, Asked, Told, Returned}
-use Rattle.sq_plan.specs.PlanValue.{PlanValue}
+use Rattle.sq_plan.specs.PlanValue.{PlanValue, owner}
+use Rattle.sq_text.specs.Texts.{refused_line}
 use Rattle.sq_serving.specs.declared.line_place.LinePlace.{LinePlace}
 use Rattle.sq_serving.specs.declared.line_place.LineSource.TheVariants.{Input}
 use Rattle.sq_serving.specs.declared.serve_line.ServeLine.{ServeLine}
 use Rattle.sq_serving.specs.declared.serve_line.ServeLine.TheVariants as asks
 use Rattle.sq_serving.specs.declared.serve_answer.ServeAnswer.{ServeAnswer}
-use Rattle.sq_serving.specs.ServeAnswers.{serve_answer_line}
+use Rattle.sq_serving.specs.declared.serve_answer.ServeAnswer.TheVariants.{Queued, Dropped, NothingQueued, Owner}
+use Rattle.sq_serving.specs.ServeAnswers.{serve_answer_line, status_line, json_line, HasNoLineEnd, IsJsonLine}
 use Rattle.sq_serving.specs.Receipts.{receipt_line}
 use Rattle.sq_serving.specs.declared.feed.Fed.{Fed}
 use Rattle.sq_serving.specs.declared.feed.Fed.TheVariants as fed
+use Rattle.sq_serving.specs.declared.desk.AskedMove.{AskedMove}
 use Rattle.sq_serving.specs.declared.desk.AskedTxn.{AskedTxn}
 use Rattle.sq_serving.specs.declared.desk.ServeDesk.{ServeDesk}
 use Rattle.sq_serving.specs.declared.desk.MoveProgress.{MoveProgress}
@@ -30,13 +33,13 @@ use Rattle.sq_serving.specs.declared.ending.InputOutcome.{InputOutcome}
 use Rattle.sq_serving.specs.InputEnds.{KeepsEnd, LearnsEnd}
 use Rattle.sq_serving.specs.declared.outlet.Outlet.{Outlet}
 use Rattle.sq_serving.specs.Saying.{OtherLine, other_line}
-use Rattle.sq_serving.specs.Settling.{Standing, CountsAnswer, line_wish, refusal_of, IsStatus, SettlesEach}
+use Rattle.sq_serving.specs.Settling.{Standing, CountsAnswer, WishChange, Changes, line_wish, refusal_of, IsStatus, SettlesEach}
 use Rattle.sq_serving.specs.Sides.{waiting_at}
 
 -- a desk: what its writer holds, if that is known; whether a write failed; whether nothing more can
 -- be done, for that or for want of memory; what was handed on to it; for each partition the jobs that wait, with the places of their lines; the place
 -- of the line of the job that was offered last; the wishes of lines that are to be fulfilled
--- between epochs; the progress of a move; what it tells of; whether its input is strict; and how
+-- between epochs, in their order, moves that wait among them; the progress of a move; what it tells of; whether its input is strict; and how
 -- that ended, once no more lines are taken
 pub record ServeDeskValue : Type 0 where
   pub written : Option (List ℕ)
@@ -60,7 +63,7 @@ desk_value contents desk =
       heard = received desk.feed;
       waiting = desk.sides;
       offered_at = desk.offered_at;
-      wishes = line_wish desk.wish ++ line_wish desk.next_wish;
+      wishes = line_wish desk.wish ++ (line_wish desk.next_wish ++ map wish.Move desk.queue);
       moving = desk.moving;
       standing = record { plan = desk.plan; answered = desk.counts.answered };
       is_strict = desk.config.is_strict;
@@ -94,6 +97,13 @@ job_asked part place asks.Status = []
 job_asked part place asks.Rows = []
 job_asked part place (asks.RowsTo name) = []
 job_asked part place asks.Plan = []
+job_asked part place asks.StatusJson = []
+job_asked part place asks.Pause = []
+job_asked part place asks.Resume = []
+job_asked part place (asks.Pumps count) = []
+job_asked part place (asks.Chunk bytes) = []
+job_asked part place asks.Drop = []
+job_asked part place (asks.Owner root) = []
 
 abbrev pub asked_by : ℕ → Fed → List AskedTxn
 asked_by part (fed.Line place (Ok asks)) = job_asked part place asks
@@ -110,16 +120,16 @@ asked_at place part jobs = map (λ (job : Job). record { place = place; txn = jo
 
 -- `more` was handed on, and the jobs `back` were returned: other lines were written, unless a write
 -- failed; unless nothing more can be done, each line that was handed on is settled, by one of them
--- or a wish that is kept, and no other line was written; and for each partition the jobs that were returned, those that waited,
+-- or a wish that is kept or dropped, and no other line was written; and for each partition the jobs that were returned, those that waited,
 -- and those that were asked for are, in this order, those that were offered and those that wait
 pub record Handles (more : List Fed) (back : List Job) (old : ServeDeskValue) (offered : List Job) (new : ServeDeskValue) : Type 0 where
   pub goes_on : new.has_stopped ≡ false → old.has_stopped ≡ false
   pub writes_on : new.has_failed ≡ false → old.has_failed ≡ false
   pub others : List OtherLine
   pub written : new.has_failed ≡ false → Appends old.written new.written (flat_map other_line others)
-  pub kept : List Wish
-  pub wishes : new.has_stopped ≡ false → new.wishes ≡ old.wishes ++ kept
-  pub settled : new.has_stopped ≡ false → SettlesEach (length old.waiting) old.moving old.standing more others kept
+  pub changes : List WishChange
+  pub wishes : new.has_stopped ≡ false → Changes old.wishes changes new.wishes
+  pub settled : new.has_stopped ≡ false → SettlesEach (length old.waiting) old.moving old.standing more others changes
   pub count : length new.waiting ≡ length old.waiting
   pub moving : new.moving ≡ old.moving
   pub standing : new.has_stopped ≡ false → new.standing ≡ old.standing
@@ -175,9 +185,39 @@ pub record Stops (old new : ServeDeskValue) : Type 0 where
   pub waiting : new.waiting ≡ old.waiting
   pub moving : new.moving ≡ old.moving
 
+-- a move to a plan, with chunks of at most `limit` bytes, that a line at a place asks for
+abbrev pub asked_move : LinePlace → PlanValue → ℕ → AskedMove
+asked_move place plan limit = record { place = place; plan = plan; limit = limit }
+
 -- the wish of a line was kept, and nothing else changed
 abbrev pub KeepsWish : Wish → ServeDeskValue → ServeDeskValue → Type 0
 KeepsWish wish old new = new ≡ record old { wishes = old.wishes ++ wish ∷ [] }
+
+-- a move is kept until rows rest, as the last of so many, and one line reports that
+abbrev pub QueuesMove : AskedMove → ℕ → ServeDeskValue → ServeDeskValue → Type 0
+QueuesMove asked waiting old new =
+    WritesBytes (serve_answer_line (Queued waiting)) (record old { wishes = old.wishes ++ wish.Move asked ∷ [] }) new
+
+-- the same, or nothing more can be done
+abbrev pub QueuesMoveOrStops : AskedMove → ℕ → ServeDeskValue → ServeDeskValue → Type 0
+QueuesMoveOrStops asked waiting old new = QueuesMove asked waiting old new ⊎ Stops old new
+
+-- a move of a line is kept, or waits as the last of so many, or is refused
+abbrev pub WantsMove : AskedMove → ℕ → ServeDeskValue → ServeDeskValue → Type 0
+WantsMove asked waiting old new =
+    KeepsWish (wish.Move asked) old new ⊎ (QueuesMoveOrStops asked waiting old new ⊎ WritesBytes (refused_line 217) old new)
+
+-- a move that was kept last was dropped, so that so many wait, and one line reports that
+pub record DropsMove (asked : AskedMove) (waiting : ℕ) (old new : ServeDeskValue) : Type 0 where
+  pub rest : List Wish
+  pub dropped : old.wishes ≡ rest ++ wish.Move asked ∷ []
+  pub writes : WritesBytes (serve_answer_line (Dropped waiting)) (record old { wishes = rest }) new
+
+-- the last of the moves that wait was dropped, or one line reports that none waits
+abbrev pub DropsLast : List AskedMove → ServeDeskValue → ServeDeskValue → Type 0
+DropsLast queue old new =
+    ((asked : AskedMove) × (rest : List AskedMove) × (queue ≡ rest ++ asked ∷ []) × DropsMove asked (length rest) old new)
+    ⊎ ((queue ≡ []) × WritesBytes (serve_answer_line NothingQueued) old new)
 
 -- to close is wished only after the end of the input, if no line wishes anything
 abbrev pub MayClose : Option Wish → ServeDeskValue → Type 0
@@ -192,10 +232,21 @@ pub record TakesWish (taken : Option Wish) (old new : ServeDeskValue) : Type 0 w
   pub closes : MayClose taken old
   pub rest : new ≡ record old { wishes = new.wishes }
 
--- the status was written, with `unanswered` as the number of jobs without an answer
+-- the status was written, with `unanswered` as the number of jobs without an answer, and after its
+-- words figures that have no line end
 abbrev pub WritesStatus : ℕ → ServeDeskValue → ServeDeskValue → Type 0
 WritesStatus unanswered old new =
-    (answer : ServeAnswer) × IsStatus old.moving unanswered answer × WritesBytes (serve_answer_line answer) old new
+    (answer : ServeAnswer) × (figures : List ℕ) × IsStatus old.moving unanswered answer × HasNoLineEnd figures
+    × WritesBytes (status_line answer figures) old new
+
+-- an object of JSON was written, or `null`, on one line
+abbrev pub WritesJson : ServeDeskValue → ServeDeskValue → Type 0
+WritesJson old new = (text : List ℕ) × IsJsonLine text × WritesBytes (json_line text) old new
+
+-- the owner of a root key by the plan in force was written
+abbrev pub WritesOwner : ℕ → ServeDeskValue → ServeDeskValue → Type 0
+WritesOwner root old new =
+    WritesBytes (serve_answer_line (Owner root (owner old.standing.plan root))) old new
 
 abbrev pub job_list : Option Job → List Job
 job_list (Some job) = job ∷ []

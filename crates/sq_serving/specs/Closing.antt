@@ -1,5 +1,5 @@
 -- When all is done at a desk, and why an epoch is to end.
-use Rattle.std.specs.Prelude.{◌≡◌, Bool, true, false, ◌==◌, ◌&&◌, ◌||◌, nat_le, length, sum_by, Option, Some, None, is_some, is_none}
+use Rattle.std.specs.Prelude.{◌≡◌, Bool, true, false, not, ◌==◌, ◌&&◌, ◌||◌, nat_le, length, sum_by, Option, Some, None, is_some, is_none}
 use Rattle.std.specs.Bool.{then_some}
 use Rattle.std.specs.Option.{option_or}
 use Rattle.sq_serving.specs.declared.desk.ServeDesk.{ServeDesk}
@@ -31,9 +31,9 @@ module _ {W : Type 0} where
       (unanswered_jobs desk.counts (sum_by length desk.sides) == 0)
       || ((sum_by length desk.sides == 0) && nat_le LOST_CALLS desk.idle_calls)
 
-  -- the input has ended, no rows move, and no answer is expected
+  -- the input has ended, no rows move, no move waits, and no answer is expected
   abbrev pub is_done : ServeDesk W → Bool
-  is_done desk = is_some desk.end && is_none desk.moving && expects_nothing desk
+  is_done desk = is_some desk.end && is_none desk.moving && (length desk.queue == 0) && expects_nothing desk
 
   -- why the epoch should end: for what a line wishes, or else to close once all is done
   abbrev pub wish_of : ServeDesk W → Option Wish
@@ -48,7 +48,7 @@ is_move None = false
 module _ {W : Type 0} where
   -- rows move, or will move
   abbrev pub moves : ServeDesk W → Bool
-  moves desk = is_some desk.moving || is_move desk.wish
+  moves desk = (is_some desk.moving || is_move desk.wish) || not (length desk.queue == 0)
 
 -- if all of the input was read, `told` says so
 abbrev pub KnowsWhole : InputEnd → Option InputOutcome → Type 0

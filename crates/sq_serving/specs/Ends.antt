@@ -77,7 +77,7 @@ abbrev pub EndsForMemory : ServeEnding → EngineValue → ServeDeskValue → En
 EndsForMemory ending old before last after =
     (ending ≡ Memory) × Speaks before after
     × (Keeps old last ⊎ ((asked : AskedMove) × (between : ServeDeskValue)
-    × TakesWish (Some (wish.Move asked)) before between × HasBegunMove asked.plan old last))
+    × TakesWish (Some (wish.Move asked)) before between × HasBegunMove asked.plan asked.limit old last))
 
 -- nothing more could be written, or memory ran out at the desk
 abbrev pub EndsAtDesk : ServeEnding → EngineValue → ServeDeskValue → EngineValue → ServeDeskValue → Type 0

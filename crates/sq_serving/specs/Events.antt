@@ -24,7 +24,7 @@ pub data ServeEvent : Type 0 where
 -- how a wish changes an engine, and which events it adds: a move that isn't refused has its event
 abbrev pub ChangesEngine : Wish → List Event → EngineValue → EngineValue → Type 0
 ChangesEngine (wish.Move asked) more old new =
-    (HasBegunMove asked.plan old new × (more ≡ MovesTo asked.plan ∷ [])) ⊎ ((new ≡ old) × (more ≡ []))
+    (HasBegunMove asked.plan asked.limit old new × (more ≡ MovesTo asked.plan ∷ [])) ⊎ ((new ≡ old) × (more ≡ []))
 ChangesEngine (wish.Rows asked) more old new = Keeps old new × (more ≡ [])
 ChangesEngine wish.Close more old new = (new ≡ old) × (more ≡ [])
 

@@ -10,6 +10,7 @@ pub mod Receipts
 pub mod Sides
 pub mod Ending
 pub mod Saying
+pub mod Claiming
 pub mod InputEnds
 pub mod Settling
 pub mod Closing

@@ -1,5 +1,5 @@
 -- The rows of an engine that is served.
-use Rattle.std.specs.Prelude.{◌≡◌, ◌⊎◌, ℕ, Bool, true, false, List, [], Option, None, Some}
+use Rattle.std.specs.Prelude.{◌≡◌, ◌⊎◌, ℕ, Bool, true, false, List, [], Option, None, Some, IfSome}
 use Rattle.std.specs.List.{flat_map}
 use Rattle.sq_store.specs.StoreValue.{StoreValue}
 use Rattle.sq_store.specs.InOrder.{families_in}
@@ -25,6 +25,16 @@ IsRowsText stores text = WritesRows (flat_map families_in stores) (Some []) (Som
 abbrev pub saved_line : Bool → List ℕ → List ℕ
 saved_line true lines = serve_answer_line (Rows (lines_in lines))
 saved_line false lines = refused_line 124
+
+-- the rows in stores were left, a line for each; or no lines were, since memory ran out
+abbrev pub LeavesStores : (Option (List ℕ) → Type 0) → List StoreValue → Type 0
+LeavesStores leaves stores =
+    (lines : Option (List ℕ)) × IfSome lines (IsRowsText stores) × leaves lines
+
+-- the same of stores, if there are any
+abbrev pub LeavesRows : (Option (List ℕ) → Type 0) → Option (List StoreValue) → Type 0
+LeavesRows leaves (Some stores) = LeavesStores leaves stores
+LeavesRows leaves None = Unit {0}
 
 -- the lines of rows were written; or they were to be saved under a name, and one line reports the
 -- outcome

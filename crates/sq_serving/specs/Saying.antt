@@ -9,7 +9,7 @@ use Rattle.sq_text.specs.Texts.{refused_line}
 use Rattle.sq_results.specs.RowLines.{root_lines}
 use Rattle.sq_serving.specs.declared.serve_answer.ServeAnswer.{ServeAnswer}
 use Rattle.sq_serving.specs.declared.serve_answer.ServeAnswer.TheVariants.{Rows}
-use Rattle.sq_serving.specs.ServeAnswers.{serve_answer_line, plan_line}
+use Rattle.sq_serving.specs.ServeAnswers.{serve_answer_line, status_line, json_line, plan_line}
 use Rattle.sq_serving.specs.declared.outlet.Outlet.{Outlet}
 
 -- these bytes were written: no write failed before, and what the writer holds grew by them; or else
@@ -34,6 +34,8 @@ CountsOneMore old new = old + 1 < 2 ^ 64 → new ≡ old + 1
 pub data OtherLine : Type 0 where
   Answered : (answer : ServeAnswer) → OtherLine
   Refused : (number : ℕ) → OtherLine
+  StatusTold : (status : ServeAnswer) → (figures : List ℕ) → OtherLine
+  JsonTold : (text : List ℕ) → OtherLine
   PlanTold : (plan : PlanValue) → OtherLine
   RowLines : (families : List FamilyValue) → OtherLine
 
@@ -41,5 +43,7 @@ pub data OtherLine : Type 0 where
 abbrev pub other_line : OtherLine → List ℕ
 other_line (Answered answer) = serve_answer_line answer
 other_line (Refused number) = refused_line number
+other_line (StatusTold status figures) = status_line status figures
+other_line (JsonTold text) = json_line text
 other_line (PlanTold plan) = plan_line (plan_text plan)
 other_line (RowLines families) = flat_map root_lines families

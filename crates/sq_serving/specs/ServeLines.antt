@@ -2,6 +2,7 @@
 use Rattle.std.specs.Prelude.{◌≡◌, ◌⊎◌, ℕ, true, nat_eq, nat_lt, if◌then◌else◌, List, [], ◌∷◌, find, drop, length, Option, Some, None, Result, Ok, Err, bytes_eq, codes}
 use Rattle.std.specs.List.{starts_with}
 use Rattle.std.specs.Str.{is_utf8}
+use Rattle.sq_schema.specs.declared.root.TheConstants.{ROOT_END}
 use Rattle.sq_plan.specs.declared.fault.PlanFault.{PlanFault}
 use Rattle.sq_plan.specs.PlanValue.{PlanValue}
 use Rattle.sq_plan.specs.Reading.{plan_in}
@@ -10,6 +11,7 @@ use Rattle.sq_model.specs.declared.step.Step.TheVariants.{Submit}
 use Rattle.sq_text.specs.declared.fault.LineFault.{LineFault}
 use Rattle.sq_text.specs.declared.fault.LineFault.TheVariants as line
 use Rattle.sq_text.specs.declared.step.TheConstants.{MAX_LINE}
+use Rattle.sq_text.specs.Numbers.{unsigned_in}
 use Rattle.sq_text.specs.Words.{words_of}
 use Rattle.sq_text.specs.Steps.{step_of, begins_txn}
 use Rattle.sq_serving.specs.declared.serve_line.ServeLine.{ServeLine}
@@ -17,19 +19,51 @@ use Rattle.sq_serving.specs.declared.serve_line.ServeLine.TheVariants as asks
 use Rattle.sq_serving.specs.declared.serve_fault.ServeFault.{ServeFault}
 use Rattle.sq_serving.specs.declared.serve_fault.ServeFault.TheVariants.{NotAServeLine, TooLong, Txn, Plan, Memory}
 
--- the first word of a line with this request
-abbrev pub first_word : ServeLine → List ℕ
-first_word (asks.Job part txn) = codes "txn"
-first_word (asks.Move plan) = codes "move"
-first_word asks.Fold = codes "fold"
-first_word asks.Status = codes "status"
-first_word asks.Rows = codes "rows"
-first_word (asks.RowsTo name) = codes "rows"
-first_word asks.Plan = codes "plan"
+-- how a line with this request begins
+abbrev pub beginning : ServeLine → List ℕ
+beginning (asks.Job part txn) = codes "txn"
+beginning (asks.Move plan) = codes "move"
+beginning asks.Fold = codes "fold"
+beginning asks.Status = codes "status"
+beginning asks.StatusJson = codes "status json"
+beginning asks.Rows = codes "rows"
+beginning (asks.RowsTo name) = codes "rows"
+beginning asks.Plan = codes "plan"
+beginning asks.Pause = codes "pause"
+beginning asks.Resume = codes "resume"
+beginning (asks.Pumps count) = codes "pumps"
+beginning (asks.Chunk bytes) = codes "chunk"
+beginning asks.Drop = codes "drop"
+beginning (asks.Owner root) = codes "owner"
 
--- what a line asks that is a single word
+-- what a line asks that is its beginning alone
 unfoldable pub word_alone : List ℕ → Option ServeLine
-word_alone line = find (λ asks. bytes_eq line (first_word asks)) (asks.Fold ∷ asks.Status ∷ asks.Rows ∷ asks.Plan ∷ [])
+word_alone line =
+    find (λ asks. bytes_eq line (beginning asks))
+    (asks.Fold ∷ asks.Status ∷ asks.StatusJson ∷ asks.Rows ∷ asks.Plan ∷ asks.Pause ∷ asks.Resume ∷ asks.Drop ∷ [])
+
+-- what is asked with a number, if there is one
+abbrev pub with_number : (ℕ → Result ServeLine ServeFault) → Option ℕ → Result ServeLine ServeFault
+with_number asks (Some number) = asks number
+with_number asks None = Err NotAServeLine
+
+abbrev pub pumps_to : ℕ → Result ServeLine ServeFault
+pumps_to count = Ok (asks.Pumps count)
+
+abbrev pub chunk_to : ℕ → Result ServeLine ServeFault
+chunk_to bytes = Ok (asks.Chunk bytes)
+
+-- the owner of a root key
+abbrev pub owner_of : ℕ → Result ServeLine ServeFault
+owner_of root = if nat_lt root ROOT_END then Ok (asks.Owner root) else Err NotAServeLine
+
+-- what a line asks that is a word and a number
+unfoldable pub numbered : List ℕ → Option (Result ServeLine ServeFault)
+numbered line =
+    if starts_with nat_eq line (codes "pumps ") then Some (with_number pumps_to (unsigned_in (drop 6 line)))
+    else (if starts_with nat_eq line (codes "chunk ") then Some (with_number chunk_to (unsigned_in (drop 6 line)))
+    else (if starts_with nat_eq line (codes "owner ") then Some (with_number owner_of (unsigned_in (drop 6 line)))
+    else None))
 
 -- the move to the plan that a text spells
 abbrev pub move_to : Result PlanValue PlanFault → Result ServeLine ServeFault
@@ -49,10 +83,11 @@ job_of_step (Err line.TooLong) = Err TooLong
 job_of_step (Err (line.Txn fault)) = Err (Txn fault)
 job_of_step (Err line.Memory) = Err Memory
 
--- what the word asks if it asks anything, else the job
-abbrev pub word_or_job : Option ServeLine → Result Step LineFault → Result ServeLine ServeFault
-word_or_job (Some asks) step = Ok asks
-word_or_job None step = job_of_step step
+-- what the word asks, or the word with a number, or else the job
+abbrev pub word_or_job : Option ServeLine → Option (Result ServeLine ServeFault) → Result Step LineFault → Result ServeLine ServeFault
+word_or_job (Some asks) numbered step = Ok asks
+word_or_job None (Some asks) step = asks
+word_or_job None None step = job_of_step step
 
 -- what a line asks, for a schema with this many tables
 abbrev pub serve_line_of : ℕ → List ℕ → Result ServeLine ServeFault
@@ -60,7 +95,7 @@ serve_line_of tables line =
     if nat_lt MAX_LINE (length line) then Err TooLong
     else (if starts_with nat_eq line (codes "move ") then move_to (plan_in (drop (length (codes "move ")) line))
     else (if starts_with nat_eq line (codes "rows ") then rows_to (drop (length (codes "rows ")) line)
-    else word_or_job (word_alone line) (step_of tables line)))
+    else word_or_job (word_alone line) (numbered line) (step_of tables line)))
 
 -- what is wanted was read, unless memory ran out
 abbrev pub IsServeLine : Result ServeLine ServeFault → Result ServeLine ServeFault → Type 0

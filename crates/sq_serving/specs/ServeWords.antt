@@ -7,6 +7,8 @@ unfoldable pub is_serve_word : Word → Bool
 is_serve_word word =
     bytes_eq word (codes "txn") || bytes_eq word (codes "move") || bytes_eq word (codes "fold")
     || bytes_eq word (codes "status") || bytes_eq word (codes "rows") || bytes_eq word (codes "plan")
+    || bytes_eq word (codes "pause") || bytes_eq word (codes "resume") || bytes_eq word (codes "pumps")
+    || bytes_eq word (codes "chunk") || bytes_eq word (codes "drop") || bytes_eq word (codes "owner")
 
 -- whether the first of these words is one of them
 abbrev pub begins_with_one : List Word → Bool

@@ -5,13 +5,14 @@ use Rattle.std.specs.Io.KnownBytes.{Appends}
 use Rattle.sq_plan.specs.PlanValue.{PlanValue}
 use Rattle.sq_moves.specs.OpeningValue.{OpeningValue, unlimited}
 use Rattle.sq_engine.specs.Values.{EngineValue}
-use Rattle.sq_engine.specs.Engine.{HasOpened}
+use Rattle.sq_engine.specs.Engine.{HasOpened, rows_in}
 use Rattle.sq_engine.specs.Ending.{commits_in}
 use Rattle.sq_serving.specs.declared.ending.ServeEnding.{ServeEnding}
 use Rattle.sq_serving.specs.declared.ending.ServeEnding.TheVariants.{Sound, Unsound, NoHeader, Memory, Threads, Unwritten}
 use Rattle.sq_serving.specs.declared.feed.Fed.{Fed}
 use Rattle.sq_serving.specs.declared.outlet.Outlet.{Outlet}
 use Rattle.sq_serving.specs.Becoming.{ServeDeskValue, new_desk}
+use Rattle.sq_serving.specs.Rows.{LeavesRows}
 use Rattle.sq_serving.specs.InputEnds.{KnowsEnd}
 use Rattle.sq_serving.specs.Written.{SaidLine, receipts_said, said_line}
 use Rattle.sq_serving.specs.Ends.{HasEndedServing}
@@ -41,6 +42,15 @@ SoundAsPlanned o (NoHeader fault) last = Unit {0}
 SoundAsPlanned o Memory last = Unit {0}
 SoundAsPlanned o Threads last = Unit {0}
 SoundAsPlanned o Unwritten last = Unit {0}
+
+-- the rows of all partitions were left of an engine that was closed
+abbrev pub LeavesAtEnd : (Option (List ℕ) → Type 0) → ServeEnding → EngineValue → Type 0
+LeavesAtEnd leaves (Sound families committed input) last = LeavesRows leaves (rows_in last)
+LeavesAtEnd leaves (Unsound defect) last = LeavesRows leaves (rows_in last)
+LeavesAtEnd leaves (NoHeader fault) last = Unit {0}
+LeavesAtEnd leaves Memory last = Unit {0}
+LeavesAtEnd leaves Threads last = Unit {0}
+LeavesAtEnd leaves Unwritten last = Unit {0}
 
 -- an engine with this opening, whose logs have no limit, was served, by a desk that began as
 -- `before`, until it ended with `ending`; whatever the ending, its events are all that happened, and

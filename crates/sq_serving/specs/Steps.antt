@@ -1,12 +1,12 @@
 -- The outcome of a step of an engine that is served.
 use Rattle.std.specs.Prelude.{◌≡◌, ◌⊎◌, ℕ, Bool, List, Result, Ok, Err}
-use Rattle.sq_plan.specs.PlanValue.{PlanValue}
 use Rattle.sq_engine.specs.declared.engine.Served.{Served}
 use Rattle.sq_engine.specs.declared.serving.EpochEnd.{EpochEnd}
 use Rattle.sq_engine.specs.declared.serving.EpochEnd.TheVariants.{Whole}
 use Rattle.sq_engine.specs.Values.{EngineValue}
 use Rattle.sq_engine.specs.Engine.{Keeps, HasBegunMove}
 use Rattle.sq_engine.specs.declared.event.Event.{Event}
+use Rattle.sq_serving.specs.declared.desk.AskedMove.{AskedMove}
 use Rattle.sq_serving.specs.declared.desk.Wish.{Wish}
 use Rattle.sq_serving.specs.declared.desk.Wish.TheVariants as wish
 use Rattle.sq_serving.specs.declared.ending.ServeEnding.{ServeEnding}
@@ -43,18 +43,19 @@ EpochGives old before (Ok step) new after = EpochIsWritten old before Whole new 
 EpochGives old before (Err ending) new after =
     EndsInEpoch ending old before new after ⊎ ((ending ≡ Memory) × Keeps old new × (after ≡ before))
 
--- a move to this plan began, or the engine is as it was, and other lines were written; or memory ran
--- out
-abbrev pub MovesOrLacksMemory : {A : Type 0} → PlanValue → EngineValue → ServeDeskValue → Result A ServeEnding → EngineValue → ServeDeskValue → Type 0
-MovesOrLacksMemory plan old before (Ok step) new after = (HasBegunMove plan old new ⊎ (new ≡ old)) × Speaks before after
-MovesOrLacksMemory plan old before (Err ending) new after =
-    (ending ≡ Memory) × (HasBegunMove plan old new ⊎ Keeps old new) × Speaks before after
+-- the move that a line asks for began, or the engine is as it was, and other lines were written; or
+-- memory ran out
+abbrev pub MovesOrLacksMemory : {A : Type 0} → AskedMove → EngineValue → ServeDeskValue → Result A ServeEnding → EngineValue → ServeDeskValue → Type 0
+MovesOrLacksMemory asked old before (Ok step) new after =
+    (HasBegunMove asked.plan asked.limit old new ⊎ (new ≡ old)) × Speaks before after
+MovesOrLacksMemory asked old before (Err ending) new after =
+    (ending ≡ Memory) × (HasBegunMove asked.plan asked.limit old new ⊎ Keeps old new) × Speaks before after
 
 -- how an engine ends in place of granting a wish that was taken: memory ran out for a move, which
 -- may have begun; or to close is what was wished, and the engine was closed or had to end
 abbrev pub EndsGranting : Wish → ServeEnding → EngineValue → ServeDeskValue → EngineValue → ServeDeskValue → Type 0
 EndsGranting (wish.Move asked) ending old before new after =
-    (ending ≡ Memory) × (HasBegunMove asked.plan old new ⊎ Keeps old new) × Speaks before after
+    (ending ≡ Memory) × (HasBegunMove asked.plan asked.limit old new ⊎ Keeps old new) × Speaks before after
 EndsGranting (wish.Rows asked) ending old before new after = ⊥
 EndsGranting wish.Close ending old before new after = ClosesWith ending old new after × (after ≡ before)
 

@@ -1,9 +1,8 @@
 -- The answers to lines that wish something of an engine.
 use Rattle.std.specs.Prelude.{◌≡◌, ◌⊎◌, ℕ, Bool, true, false, List, ◌++◌, length, Option, None, Some, Result, OnOk, IfSome}
 use Rattle.std.specs.Io.KnownBytes.{Appends}
-use Rattle.sq_plan.specs.PlanValue.{PlanValue}
-use Rattle.sq_moves.specs.declared.ranges_fault.ReconFault.{ReconFault}
-use Rattle.sq_moves.specs.RangesFault.{recon_fault_number}
+use Rattle.sq_moves.specs.declared.opening_fault.ReconFault.{ReconFault}
+use Rattle.sq_moves.specs.OpeningFaults.{recon_fault_number}
 use Rattle.sq_moves.specs.Between.{recon_fault}
 use Rattle.sq_text.specs.Texts.{refused_line}
 use Rattle.sq_engine.specs.Values.{EngineValue}
@@ -14,6 +13,7 @@ use Rattle.sq_engine.specs.Engine.{rests}
 use Rattle.sq_serving.specs.declared.serve_answer.ServeAnswer.TheVariants.{Moving, Moved}
 use Rattle.sq_serving.specs.ServeAnswers.{serve_answer_line}
 use Rattle.sq_serving.specs.declared.desk.MoveProgress.{MoveProgress}
+use Rattle.sq_serving.specs.declared.desk.AskedMove.{AskedMove}
 use Rattle.sq_serving.specs.declared.desk.Wish.{Wish}
 use Rattle.sq_serving.specs.declared.desk.Wish.TheVariants as wish
 use Rattle.sq_serving.specs.declared.ending.ServeEnding.{ServeEnding}
@@ -63,17 +63,17 @@ RefusesMove (moved.Plans fault) before after = WritesBytes (refused_line (recon_
 RefusesMove moved.Moving before after = ⊥
 RefusesMove moved.Memory before after = ⊥
 
--- a move to this plan began, and its lines were written; or the plan has a fault, and one line
--- reports that
-abbrev pub AnswersMove : PlanValue → EngineValue → ServeDeskValue → EngineValue → ServeDeskValue → Type 0
-AnswersMove plan old before new after =
-    ((new.opening ≡ onward_opening old.opening plan) × TellsMove new before after)
-    ⊎ ((fault : ReconFault) × (recon_fault old.opening.new plan old.opening.config.width ≡ Some fault)
+-- the move that a line asks for began, and its lines were written; or its plan has a fault, and one
+-- line reports that
+abbrev pub AnswersMove : AskedMove → EngineValue → ServeDeskValue → EngineValue → ServeDeskValue → Type 0
+AnswersMove asked old before new after =
+    ((new.opening ≡ onward_opening old.opening asked.plan asked.limit) × TellsMove new before after)
+    ⊎ ((fault : ReconFault) × (recon_fault old.opening.new asked.plan old.opening.config.width ≡ Some fault)
     × WritesBytes (refused_line (recon_fault_number fault)) before after)
 
 -- a wish is answered: by one line, or by rows
 abbrev pub AnswersWish : (List ℕ → List ℕ → Bool → Type 0) → Wish → EngineValue → ServeDeskValue → EngineValue → ServeDeskValue → Type 0
-AnswersWish saves (wish.Move asked) old before new after = AnswersMove asked.plan old before new after
+AnswersWish saves (wish.Move asked) old before new after = AnswersMove asked old before new after
 AnswersWish saves (wish.Rows asked) old before new after = AnswersRows saves asked old before new after
 AnswersWish saves wish.Close old before new after = after ≡ before
 

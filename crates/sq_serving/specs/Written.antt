@@ -19,11 +19,10 @@ use Rattle.sq_serving.specs.Receipts.{receipt_line, Interleaves}
 use Rattle.sq_serving.specs.declared.feed.Fed.{Fed}
 use Rattle.sq_serving.specs.declared.desk.AskedTxn.{AskedTxn}
 use Rattle.sq_serving.specs.declared.desk.MoveProgress.{MoveProgress}
-use Rattle.sq_serving.specs.declared.desk.Wish.{Wish}
 use Rattle.sq_serving.specs.Saying.{OtherLine, Answered, other_line}
 use Rattle.sq_serving.specs.Sides.{waiting_at}
 use Rattle.sq_serving.specs.InputEnds.{LearnsEnd}
-use Rattle.sq_serving.specs.Settling.{Standing, CountsAnswer, refusal_of, SettlesEach}
+use Rattle.sq_serving.specs.Settling.{Standing, CountsAnswer, WishChange, Changes, refusal_of, SettlesEach}
 use Rattle.sq_serving.specs.Becoming.{ServeDeskValue, asked_by, jobs_for}
 
 -- a line that was written: of a receipt of a partition, or another line
@@ -107,19 +106,19 @@ other_said (Other line) = line ∷ []
 abbrev pub others_in : List SaidLine → List OtherLine
 others_in said = flat_map other_said said
 
--- what was heard, the lines that were written of it, and the wishes that were kept
+-- what was heard, the lines that were written of it, and how the wishes changed
 pub record Settlement : Type 0 where
   pub heard : List Fed
   pub lines : List OtherLine
-  pub kept : List Wish
+  pub changes : List WishChange
 
 abbrev pub settles_nothing : Settlement
-settles_nothing = record { heard = []; lines = []; kept = [] }
+settles_nothing = record { heard = []; lines = []; changes = [] }
 
 -- two settlements, one after the other
 abbrev pub settled_both : Settlement → Settlement → Settlement
 settled_both first more =
-    record { heard = first.heard ++ more.heard; lines = first.lines ++ more.lines; kept = first.kept ++ more.kept }
+    record { heard = first.heard ++ more.heard; lines = first.lines ++ more.lines; changes = first.changes ++ more.changes }
 
 -- the line that is written of a job that isn't posted: its refusal, unless its queue is full
 abbrev pub AnswersReturned : ℕ → Job → PostFault → List OtherLine → Type 0
@@ -131,7 +130,7 @@ AnswersReturned parts job fault.Memory lines = ⊥
 
 -- what was heard is settled, for some progress of a move
 abbrev pub SettlesHeard : ℕ → Standing → Settlement → Type 0
-SettlesHeard parts standing all = (moving : Option MoveProgress) × SettlesEach parts moving standing all.heard all.lines all.kept
+SettlesHeard parts standing all = (moving : Option MoveProgress) × SettlesEach parts moving standing all.heard all.lines all.changes
 
 -- what was heard is settled, and then the job that isn't posted
 pub record SettlesReturned (parts : ℕ) (standing : Standing) (job : Job) (why : PostFault) (all : Settlement) : Type 0 where
@@ -160,14 +159,14 @@ SettlesAll parts first (event ∷ events) all last =
     × SettlesEvent parts first event now next × SettlesAll parts next events later last × (all ≡ settled_both now later)
 
 -- in these events a desk wrote what it was given, and each line that it heard is settled: by
--- exactly one line that was written, by a job, or by a wish that is kept; each job that was refused
+-- exactly one line that was written, by a job, or by a wish that is kept or dropped; each job that was refused
 -- is settled by exactly one line; and no other line was written
 pub record AnswersEach (events : List Event) (old new : ServeDeskValue) : Type 0 where
   pub writes : WritesEach events old new
-  pub kept : List Wish
-  pub wishes : new.has_stopped ≡ false → new.wishes ≡ old.wishes ++ kept
+  pub changes : List WishChange
+  pub wishes : new.has_stopped ≡ false → Changes old.wishes changes new.wishes
   pub settled : new.has_stopped ≡ false
-      → SettlesAll (length old.waiting) old.standing events (record { heard = writes.more; lines = others_in writes.said; kept = kept }) new.standing
+      → SettlesAll (length old.waiting) old.standing events (record { heard = writes.more; lines = others_in writes.said; changes = changes }) new.standing
 
 -- in an epoch that began with these nodes a desk wrote the answers that arrived of them
 pub record ServesEpoch (events : List Event) (nodes : List NodeState) (before after : ServeDeskValue) : Type 0 where

@@ -42,6 +42,9 @@ impl<W: Write + Drop, V: ServeWatch> Client for Control<'_, W, V> {
         self.marks.note_progress(progress);
         self.desk.note_stage(progress);
         self.desk.begin_call();
+        let is_idle = self.desk.idle_calls != 0;
+        let figures = self.desk.figures();
+        self.marks.tick(&figures, is_idle);
         if self.ends(progress) {
             self.desk.flush();
             self.marks.end();
@@ -50,6 +53,10 @@ impl<W: Write + Drop, V: ServeWatch> Client for Control<'_, W, V> {
         let command = self.desk.next_command(self.marks.watch());
         self.marks.offer(&command);
         command
+    }
+
+    fn claiming_pumps(&self) -> u64 {
+        self.desk.claiming_pumps()
     }
 
     // Waits for a line, at rest with no open job.
@@ -61,12 +68,17 @@ impl<W: Write + Drop, V: ServeWatch> Client for Control<'_, W, V> {
         }
     }
 
+    fn note_answered(&self, part: PartId) {
+        self.marks.close(part);
+    }
+
     fn take(&mut self, part: PartId, receipt: Receipt) {
         self.marks.answer(part, &receipt);
         self.desk.take(receipt);
     }
 
     fn take_back(&mut self, job: Job, fault: PostFault) {
+        self.marks.close(job.part);
         self.desk.take_back(job, fault, self.marks.watch());
     }
 }

@@ -1,30 +1,38 @@
 // The desk of an engine: it connects input lines with epochs.
-ghost use Rattle.std.specs.Prelude.{◌≡◌, ◌⊎◌, ◌||◌, ℕ, true, false, [], ◌∷◌, ◌++◌, ◌<◌, ◌≤◌, ◌^◌};
+ghost use Rattle.std.specs.Prelude.{◌≡◌, ◌⊎◌, ◌||◌, ℕ, true, false, [], ◌∷◌, ◌++◌, ◌<◌, ◌≤◌, ◌^◌, ◌+◌};
 ghost use Rattle.std.specs.Prelude.{length, IsTrue, Ok, Err, Some, None, IfSome, IfNone, MatchOption};
-ghost use Rattle.std.specs.Prelude.{sum_by, is_some, if◌then◌else◌, ◌==◌};
+ghost use Rattle.std.specs.Prelude.{sum_by, string_bytes, is_some, nat_le, if◌then◌else◌, ◌==◌};
 ghost use Rattle.sq_plan.specs.PlanText.{plan_text};
 ghost use Rattle.rtrb.specs.Ring.{received};
 ghost use Rattle.sq_text.specs.Texts.{refused_line};
 ghost use Rattle.sq_serving.specs.declared.serve_line.ServeLine.TheVariants as asks;
-ghost use Rattle.sq_serving.specs.declared.serve_answer.ServeAnswer.TheVariants.{Fault, Folded};
-ghost use Rattle.sq_serving.specs.ServeAnswers.{serve_answer_line, plan_line};
+ghost use Rattle.sq_serving.specs.declared.serve_answer.ServeAnswer.TheVariants.{Fault, Folded, Paused, Resumed, Pumps};
+ghost use Rattle.sq_serving.specs.ServeAnswers.{serve_answer_line, status_line, plan_line, HasNoLineEnd};
 ghost use Rattle.sq_serving.specs.declared.feed.Fed.TheVariants as fed;
 ghost use Rattle.sq_serving.specs.Ending.{EndsStopped, outcome_refused};
 ghost use Rattle.sq_serving.specs.Becoming.{desk_value, new_desk, Handles, Hears, Speaks, WritesBytes};
 ghost use Rattle.sq_serving.specs.Becoming.{WritesReceipt, WritesStatus, KeepsWish, TakesWish};
+ghost use Rattle.sq_serving.specs.Becoming.{QueuesMoveOrStops, WantsMove, DropsLast, asked_move};
 ghost use Rattle.sq_serving.specs.Becoming.{AnswersRefusal, WaitsOrHasNoPartition, TakesJobBack};
 ghost use Rattle.sq_serving.specs.Becoming.{Stops, with_stage, job_list, offered_by};
 ghost use Rattle.sq_serving.specs.Settling.{line_wish, refusal_of, IsStatus, unanswered_jobs};
+ghost use Rattle.sq_serving.specs.Settling.{is_chunk_limit, chunk_answer};
 ghost use Rattle.sq_serving.specs.Saying.{rows_told, CountsOneMore};
+ghost use Rattle.sq_serving.specs.Claiming.{resumed, claiming_pumps};
 ghost use Rattle.sq_serving.specs.InputEnds.{KeepsEnd};
 ghost use Rattle.sq_serving.specs.Closing.{expects_nothing, is_done, asked_wish, asked_first};
 ghost use Rattle.sq_serving.specs.Closing.{wish_of, moves, KnowsWhole};
+ghost use Rattle.sq_serving.specs.declared.desk.Wish.TheVariants as wish;
+ghost use Rattle.sq_serving.specs.declared.move_queue.TheConstants.{QUEUE_ROOM};
 
 use crate::bell::Bell;
+use crate::claiming::Claiming;
+use crate::desk_figures::DeskFigures;
 use crate::ending::{InputOutcome, ServeEnding};
 use crate::faulty_line::{FaultyLine, LineRefusal};
 use crate::feed::{Fed, InputEnd};
 use crate::line_place::{LinePlace, LineSource};
+use crate::move_queue::MoveQueue;
 use crate::outlet::Outlet;
 use crate::plan_text::PlanText;
 use crate::rows_file::RowsFile;
@@ -36,7 +44,7 @@ use crate::txn_words::txn_words;
 use crate::watch::ServeWatch;
 use rtrb::Consumer;
 use sq_audit::Job;
-use sq_engine::{Command, PostFault, StageProgress};
+use sq_engine::{ChunkLimit, Command, PostFault, StageProgress};
 use sq_node::Receipt;
 use sq_plan::{PartId, Plan};
 use sq_schema::Txn;
@@ -50,11 +58,17 @@ const LINES_A_CALL: usize = 256;
 // While lines come, full queues are tried again once in this many calls.
 const CALLS_A_TRY: u64 = 64;
 
+// The number of the fault that chunks can't have a limit.
+const NO_CHUNK_LIMIT: u16 = 114;
+
 // The number of the refusal while rows move.
 const MOVING: u16 = 217;
 
 // The number of the fault that no such partition exists.
 const NO_PARTITION: u16 = 219;
+
+// The number of the fault that a line asks for nothing.
+const NOT_A_SERVE_LINE: u16 = 126;
 
 // The number of the fault that a job has the id of another job.
 const REPEATED_ID: u16 = 127;
@@ -80,6 +94,8 @@ pub enum Wish {
 pub struct AskedMove {
     pub place: LinePlace,
     pub plan: Plan,
+    /// The most bytes of its chunks.
+    pub limit: ChunkLimit,
 }
 
 /// Where the rows go that a line asks for, and the place of that line.
@@ -116,6 +132,10 @@ impl JobCounts {
 pub struct DeskConfig {
     /// Whether the input ends after its first line that is refused or has a fault.
     pub is_strict: bool,
+    /// How many pumps the engine has.
+    pub pumps: u32,
+    /// The most bytes of a chunk, until a line sets another limit.
+    pub limit: ChunkLimit,
 }
 
 /// The progress of a move.
@@ -142,6 +162,10 @@ pub struct ServeDesk<W: Write + Drop> {
     /// How many lines were answered with a fault or a refusal.
     pub refused_lines: u64,
     pub config: DeskConfig,
+    /// Which pumps claim.
+    pub claiming: Claiming,
+    /// The most bytes of a chunk of the moves that later lines ask for.
+    pub limit: ChunkLimit,
     /// The progress of the move; `None` at rest.
     pub moving: Option<MoveProgress>,
     /// The plan in force.
@@ -150,6 +174,8 @@ pub struct ServeDesk<W: Write + Drop> {
     /// should. Closing isn't stored here: [`ServeDesk::take_wish`] returns it once all is done.
     pub wish: Option<Wish>,
     pub next_wish: Option<Wish>,
+    /// The moves that wait until no rows move, in the order of their lines.
+    pub queue: MoveQueue,
     /// How the input ended, once no more lines are taken.
     pub end: Option<InputOutcome>,
     /// How many calls there were, and how many of the last ones in a row had no work.
@@ -169,6 +195,7 @@ impl<W: Write + Drop> ServeDesk<W> {
     /// A desk that takes its lines from `feed`, writes to `outlet`, and keeps waiting jobs in
     /// `sides`; `plan` is the plan in force.
     pub fn new(
+        alloc: Global,
         feed: Consumer<Fed>,
         bell: Arc<Bell, Global>,
         outlet: Outlet<W>,
@@ -179,6 +206,10 @@ impl<W: Write + Drop> ServeDesk<W> {
         ensures outlet { result.outlet ≡ outlet }
         ensures value { desk_value W.contents result
             ≡ new_desk W.contents outlet (received feed) sides plan config.is_strict }
+        ensures config { result.config ≡ config }
+        ensures claiming { result.claiming
+            ≡ record { all = config.pumps; first = config.pumps; is_paused = false } }
+        ensures limit { result.limit ≡ config.limit }
     {
         ServeDesk {
             feed,
@@ -189,10 +220,13 @@ impl<W: Write + Drop> ServeDesk<W> {
             counts: JobCounts::NONE,
             refused_lines: 0,
             config,
+            claiming: Claiming::all(config.pumps),
+            limit: config.limit,
             moving: None,
             plan,
             wish: None,
             next_wish: None,
+            queue: MoveQueue::new(alloc),
             end: None,
             calls: 0,
             idle_calls: 0,
@@ -248,11 +282,12 @@ impl<W: Write + Drop> ServeDesk<W> {
         self.take_asked_wish().or(close)
     }
 
-    // Takes the first wish of a line, if there is one.
+    // Takes the first wish of a line, if there is one that isn't a move that waits.
     fn take_asked_wish(&mut self) -> Option<Wish>
         ensures takes { TakesWish result (desk_value W.contents self.old)
             (desk_value W.contents self.new) }
-        ensures none { IfNone result ((desk_value W.contents self.old).wishes ≡ []) }
+        ensures none { IfNone result (self.old.queue ≡ []
+            → (desk_value W.contents self.old).wishes ≡ []) }
         ensures wish { result ≡ asked_first self.old.wish self.old.next_wish }
     {
         match asked(self.wish.take()) {
@@ -271,11 +306,51 @@ impl<W: Write + Drop> ServeDesk<W> {
         self.outlet.flush();
     }
 
-    /// Begins a call.
+    /// Begins a call. If no rows move and nothing else is asked for, the move that waits first is to
+    /// begin.
     pub fn begin_call(&mut self)
         ensures { desk_value W.contents self.new ≡ desk_value W.contents self.old }
     {
         self.calls = self.calls.saturating_add(1);
+        if self.has_no_wish() {
+            self.ask_queued();
+        }
+    }
+
+    // Returns whether no rows move and nothing is asked for but moves that wait.
+    fn has_no_wish(&self) -> bool
+        ensures wish { IsTrue result → self.now.wish ≡ None }
+        ensures next { IsTrue result → self.now.next_wish ≡ None }
+        ensures rests { IsTrue result → self.now.moving ≡ None }
+    {
+        match &self.wish {
+            None => self.has_no_next_wish(),
+            Some(_) => false,
+        }
+    }
+
+    // The same of the next wish.
+    fn has_no_next_wish(&self) -> bool
+        ensures next { IsTrue result → self.now.next_wish ≡ None }
+        ensures rests { IsTrue result → self.now.moving ≡ None }
+    {
+        match (&self.next_wish, self.moving) {
+            (None, None) => true,
+            _ => false,
+        }
+    }
+
+    // Asks that the epoch ends for the move that waits first.
+    fn ask_queued(&mut self)
+        requires wish { self.old.wish ≡ None }
+        requires next { self.old.next_wish ≡ None }
+        requires rests { self.old.moving ≡ None }
+        ensures { desk_value W.contents self.new ≡ desk_value W.contents self.old }
+    {
+        match self.queue.take_first() {
+            Some(asked) => self.wish = Some(Wish::Move(asked)),
+            None => {}
+        }
     }
 
     /// Records the progress of the running stage, if rows move.
@@ -459,7 +534,7 @@ impl<W: Write + Drop> ServeDesk<W> {
         match asks {
             ServeLine::Job { part, txn } => self.take_job(place, part, txn, watch),
             ServeLine::Move(plan) => {
-                self.want_at_rest(Wish::Move(AskedMove { place, plan }), place, watch);
+                self.want_move(place, plan, watch);
                 None
             }
             ServeLine::Fold => {
@@ -467,11 +542,39 @@ impl<W: Write + Drop> ServeDesk<W> {
                 None
             }
             ServeLine::Status => {
-                self.say_status();
+                self.say_status(watch);
+                None
+            }
+            ServeLine::StatusJson => {
+                self.say_status_json(watch);
                 None
             }
             ServeLine::Plan => {
                 self.say_plan();
+                None
+            }
+            ServeLine::Pause => {
+                self.pause();
+                None
+            }
+            ServeLine::Resume => {
+                self.resume();
+                None
+            }
+            ServeLine::Pumps(count) => {
+                self.set_pumps(count, place, watch);
+                None
+            }
+            ServeLine::Chunk(bytes) => {
+                self.set_limit(bytes, place, watch);
+                None
+            }
+            ServeLine::Drop => {
+                self.drop_last();
+                None
+            }
+            ServeLine::Owner(root) => {
+                self.say_owner(root);
                 None
             }
             ServeLine::Rows => {
@@ -483,6 +586,61 @@ impl<W: Write + Drop> ServeDesk<W> {
                 self.want_at_rest(Wish::Rows(AskedRows { place, file }), place, watch);
                 None
             }
+        }
+    }
+
+    // Lets all pumps rest.
+    fn pause(&mut self)
+        ensures line { WritesBytes (serve_answer_line Paused) (desk_value W.contents self.old)
+            (desk_value W.contents self.new) }
+        ensures rests { self.new.claiming ≡ record self.old.claiming { is_paused = true } }
+    {
+        self.claiming.is_paused = true;
+        self.say(ServeAnswer::Paused);
+    }
+
+    // Lets the pumps go on.
+    fn resume(&mut self)
+        ensures line { WritesBytes (serve_answer_line Resumed) (desk_value W.contents self.old)
+            (desk_value W.contents self.new) }
+        ensures goes_on { self.new.claiming ≡ resumed self.old.claiming }
+    {
+        self.claiming.resume();
+        self.say(ServeAnswer::Resumed);
+    }
+
+    // Lets only the first `count` pumps claim. If the engine has fewer, the line has fault 126.
+    fn set_pumps<V: ServeWatch>(&mut self, count: u64, place: LinePlace, watch: &V)
+        ensures some { count ≤ self.old.config.pumps
+            → WritesBytes (serve_answer_line (Pumps count)) (desk_value W.contents self.old)
+            (desk_value W.contents self.new) }
+        ensures fault { self.old.config.pumps < count
+            → WritesBytes (serve_answer_line (Fault 126 place.line None))
+            (desk_value W.contents self.old) (desk_value W.contents self.new) }
+        ensures set { self.new.claiming ≡ (if nat_le count self.old.config.pumps
+            then record self.old.claiming { first = count } else self.old.claiming) }
+    {
+        if count <= u64::from(self.config.pumps) {
+            self.claiming.first = count;
+            self.say(ServeAnswer::Pumps { count });
+        } else {
+            self.say_fault(watch, without_text(NOT_A_SERVE_LINE, place));
+        }
+    }
+
+    // Sets the most bytes of a chunk of the moves that later lines ask for. If chunks can't have that
+    // limit, the line has fault 114.
+    fn set_limit<V: ServeWatch>(&mut self, bytes: u64, place: LinePlace, watch: &V)
+        ensures line { WritesBytes (serve_answer_line (chunk_answer place bytes))
+            (desk_value W.contents self.old) (desk_value W.contents self.new) }
+        ensures set { self.new.limit ≡ (if is_chunk_limit bytes then bytes else self.old.limit) }
+    {
+        match ChunkLimit::new(bytes) {
+            Some(limit) => {
+                self.limit = limit;
+                self.say(ServeAnswer::Chunk { bytes });
+            }
+            None => self.say_fault(watch, without_text(NO_CHUNK_LIMIT, place)),
         }
     }
 
@@ -552,7 +710,7 @@ impl<W: Write + Drop> ServeDesk<W> {
             text: &faulty.text,
         };
         match faulty.fault {
-            ServeFault::Plan(_) => self.refuse_plan(watch, refusal),
+            ServeFault::Plan(_) => self.say_refused(watch, refusal),
             ServeFault::Memory => self.stop_for_memory(),
             _ => self.say_fault(watch, refusal),
         }
@@ -582,6 +740,84 @@ impl<W: Write + Drop> ServeDesk<W> {
         self.lacks_memory = true;
     }
 
+    // Asks that the epoch ends for a move to `plan`, with chunks of at most the desk's limit; if rows
+    // move or will move, it waits after the others that do. The line is refused with 217 if as many
+    // wait as may.
+    fn want_move<V: ServeWatch>(&mut self, place: LinePlace, plan: Plan, watch: &V)
+        requires next { self.old.next_wish ≡ None }
+        ensures either { let asked = asked_move place plan self.old.limit in
+            WantsMove asked (length self.old.queue + 1)
+            (desk_value W.contents self.old) (desk_value W.contents self.new) }
+        ensures kept { let asked = asked_move place plan self.old.limit in
+            moves self.old ≡ false → KeepsWish (wish.Move asked)
+            (desk_value W.contents self.old) (desk_value W.contents self.new) }
+        ensures queued { let asked = asked_move place plan self.old.limit in
+            moves self.old ≡ true → nat_le QUEUE_ROOM (length self.old.queue) ≡ false
+            → QueuesMoveOrStops asked (length self.old.queue + 1)
+            (desk_value W.contents self.old) (desk_value W.contents self.new) }
+        ensures refused { moves self.old ≡ true → nat_le QUEUE_ROOM (length self.old.queue) ≡ true
+            → WritesBytes (refused_line 217) (desk_value W.contents self.old)
+            (desk_value W.contents self.new) }
+    {
+        let limit = self.limit;
+        let asked = AskedMove { place, plan, limit };
+        if self.moves() {
+            self.queue_move(asked, watch);
+        } else {
+            self.put_wish(Wish::Move(asked));
+        }
+    }
+
+    // Lets a move wait after the others that do. The line is refused with 217 if as many wait as
+    // may.
+    fn queue_move<V: ServeWatch>(&mut self, asked: AskedMove, watch: &V)
+        ensures either { QueuesMoveOrStops asked (length self.old.queue + 1)
+            (desk_value W.contents self.old) (desk_value W.contents self.new)
+            ⊎ WritesBytes (refused_line 217) (desk_value W.contents self.old)
+            (desk_value W.contents self.new) }
+        ensures queued { nat_le QUEUE_ROOM (length self.old.queue) ≡ false
+            → QueuesMoveOrStops asked (length self.old.queue + 1)
+            (desk_value W.contents self.old) (desk_value W.contents self.new) }
+        ensures refused { nat_le QUEUE_ROOM (length self.old.queue) ≡ true
+            → WritesBytes (refused_line 217) (desk_value W.contents self.old)
+            (desk_value W.contents self.new) }
+    {
+        if self.queue.is_full() {
+            self.say_refused(watch, without_text(MOVING, asked.place));
+        } else {
+            self.put_last(asked);
+        }
+    }
+
+    // Lets a move wait after the others that do.
+    fn put_last(&mut self, asked: AskedMove)
+        ensures { QueuesMoveOrStops asked (length self.old.queue + 1)
+            (desk_value W.contents self.old) (desk_value W.contents self.new) }
+    {
+        match self.queue.put(asked) {
+            Ok(()) => {
+                let waiting = self.queue.len() as u64;
+                self.say(ServeAnswer::Queued { waiting });
+            }
+            Err(_) => self.stop_for_memory(),
+        }
+    }
+
+    // Drops the move that waits last, if one waits.
+    fn drop_last(&mut self)
+        ensures { DropsLast self.old.queue (desk_value W.contents self.old)
+            (desk_value W.contents self.new) }
+    {
+        match self.queue.take_last() {
+            Some(asked) => {
+                drop(asked);
+                let waiting = self.queue.len() as u64;
+                self.say(ServeAnswer::Dropped { waiting });
+            }
+            None => self.say(ServeAnswer::NothingQueued),
+        }
+    }
+
     // Asks that the epoch ends for `wish`. The line is refused with 217 if rows move or will move.
     fn want_at_rest<V: ServeWatch>(&mut self, wish: Wish, place: LinePlace, watch: &V)
         requires next { self.old.next_wish ≡ None }
@@ -608,6 +844,7 @@ impl<W: Write + Drop> ServeDesk<W> {
     // already.
     fn put_wish(&mut self, wish: Wish)
         requires next { self.old.next_wish ≡ None }
+        requires rests { moves self.old ≡ false }
         requires of_line { line_wish (Some wish) ≡ wish ∷ [] }
         ensures { KeepsWish wish (desk_value W.contents self.old)
             (desk_value W.contents self.new) }
@@ -618,36 +855,11 @@ impl<W: Write + Drop> ServeDesk<W> {
         }
     }
 
-    // Refuses the line of a faulty plan with the number of its fault, or with 217 if rows move or
-    // will move.
-    fn refuse_plan<V: ServeWatch>(&mut self, watch: &V, refusal: LineRefusal<'_>)
-        ensures either { WritesBytes (refused_line 217) (desk_value W.contents self.old)
-            (desk_value W.contents self.new)
-            ⊎ WritesBytes (refused_line refusal.entry.number) (desk_value W.contents self.old)
-            (desk_value W.contents self.new) }
-        ensures moving { moves self.old ≡ true
-            → WritesBytes (refused_line 217) (desk_value W.contents self.old)
-            (desk_value W.contents self.new) }
-        ensures at_rest { moves self.old ≡ false
-            → WritesBytes (refused_line refusal.entry.number) (desk_value W.contents self.old)
-            (desk_value W.contents self.new) }
-    {
-        if self.moves() {
-            let refusal = LineRefusal {
-                number: MOVING,
-                ..refusal
-            };
-            self.say_refused(watch, refusal);
-        } else {
-            self.say_refused(watch, refusal);
-        }
-    }
-
     // Returns whether rows move or will move.
     fn moves(&self) -> bool
         ensures { result ≡ moves self.now }
     {
-        self.moving.is_some() || matches!(&self.wish, Some(Wish::Move(_)))
+        self.moving.is_some() || matches!(&self.wish, Some(Wish::Move(_))) || !self.queue.is_empty()
     }
 
     // Answers the line of a job with fault `number`. `part` is the partition that the line names.
@@ -680,6 +892,8 @@ impl<W: Write + Drop> ServeDesk<W> {
             (desk_value W.contents self.old) (desk_value W.contents self.new) }
         ensures speaks { Speaks (desk_value W.contents self.old) (desk_value W.contents self.new) }
         ensures counted { CountsOneMore self.old.refused_lines self.new.refused_lines }
+        ensures claiming { self.new.claiming ≡ self.old.claiming }
+        ensures limit { self.new.limit ≡ self.old.limit }
     {
         self.note_refusal(watch, refusal);
         self.say(ServeAnswer::Fault {
@@ -707,6 +921,8 @@ impl<W: Write + Drop> ServeDesk<W> {
             ≡ record (desk_value W.contents self.old) { ended = self.new.end } }
         ensures keeps { KeepsEnd self.old.config.is_strict self.old.end self.new.end }
         ensures outlet { self.new.outlet ≡ self.old.outlet }
+        ensures claiming { self.new.claiming ≡ self.old.claiming }
+        ensures limit { self.new.limit ≡ self.old.limit }
         ensures ends { self.new.end ≡ (if self.old.config.is_strict
             then Some (outcome_refused self.old.end) else self.old.end) }
         ensures counted { CountsOneMore self.old.refused_lines self.new.refused_lines }
@@ -724,6 +940,8 @@ impl<W: Write + Drop> ServeDesk<W> {
             (desk_value W.contents self.new) }
         ensures speaks { Speaks (desk_value W.contents self.old) (desk_value W.contents self.new) }
         ensures counts_none { self.new.refused_lines ≡ self.old.refused_lines }
+        ensures claiming { self.new.claiming ≡ self.old.claiming }
+        ensures limit { self.new.limit ≡ self.old.limit }
     {
         self.outlet.say(answer);
     }
@@ -754,14 +972,31 @@ impl<W: Write + Drop> ServeDesk<W> {
         self.say(ServeAnswer::Folded { answers });
     }
 
-    // Writes the progress of a move, and how many jobs have no answer.
-    fn say_status(&mut self)
+    // Writes the progress of a move, how many jobs have no answer, and the figures of `watch`.
+    fn say_status<V: ServeWatch>(&mut self, watch: &V)
         ensures { WritesStatus
             (unanswered_jobs self.old.counts (sum_by length self.old.sides))
             (desk_value W.contents self.old) (desk_value W.contents self.new) }
     {
+        let figures = watch.status_text(&self.figures());
         let status = self.status();
-        self.say(status);
+        match without_line_end(figures) {
+            Some(figures) => self.say_figures(status, figures.as_str()),
+            None => self.say_figures(status, ""),
+        }
+    }
+
+    // Writes the status, with `figures` after its words.
+    fn say_figures(&mut self, status: ServeAnswer, figures: &str)
+        ensures { WritesBytes (status_line status figures.now)
+            (desk_value W.contents self.old) (desk_value W.contents self.new) }
+    {
+        self.outlet.say_status(status, figures);
+    }
+
+    /// What the desk shows of itself to the watch of its engine.
+    pub fn figures(&self) -> DeskFigures<'_> {
+        DeskFigures::new(self.moving, self.claiming_pumps(), &self.sides)
     }
 
     /// The progress of the running stage, and how many jobs have no answer. A stage without
@@ -771,13 +1006,18 @@ impl<W: Write + Drop> ServeDesk<W> {
             (unanswered_jobs self.now.counts (sum_by length self.now.sides)) result }
     {
         let unanswered = self.unanswered();
+        let is_paused = self.claiming.is_paused();
         match self.moving {
             Some(MoveProgress { stage, .. }) if stage.segments != 0 => ServeAnswer::Progress {
                 complete: stage.complete,
                 segments: stage.segments,
                 unanswered,
+                is_paused,
             },
-            Some(_) | None => ServeAnswer::AtRest { unanswered },
+            Some(_) | None => ServeAnswer::AtRest {
+                unanswered,
+                is_paused,
+            },
         }
     }
 
@@ -793,6 +1033,18 @@ impl<W: Write + Drop> ServeDesk<W> {
         running.saturating_add(waiting)
     }
 
+    /// Returns how many pumps claim: all once the input has ended, so that no move stands still then.
+    pub fn claiming_pumps(&self) -> u64
+        ensures { result ≡ (if is_some self.now.end then self.now.config.pumps
+            else claiming_pumps self.now.claiming) }
+    {
+        if self.end.is_some() {
+            u64::from(self.config.pumps)
+        } else {
+            self.claiming.pumps()
+        }
+    }
+
     // Without a job to post, flushes the output, and lets full queues be tried again.
     fn idle(&mut self)
         ensures { WritesBytes [] (desk_value W.contents self.old) (desk_value W.contents self.new) }
@@ -802,11 +1054,16 @@ impl<W: Write + Drop> ServeDesk<W> {
         self.sides.try_again();
     }
 
-    /// Returns whether all is done: the input has ended, no rows move, and no answer is expected.
+    /// Returns whether all is done: the input has ended, no rows move, no move waits, and no
+    /// answer is expected.
     pub fn is_done(&self) -> bool
-        ensures { result ≡ is_done self.now }
+        ensures done { result ≡ is_done self.now }
+        ensures none_waits { IsTrue result → self.now.queue ≡ [] }
     {
-        self.end.is_some() && self.moving.is_none() && self.expects_nothing()
+        self.end.is_some()
+            && self.moving.is_none()
+            && self.queue.is_empty()
+            && self.expects_nothing()
     }
 
     // Returns whether no answer is expected: each job has its answer; or no job waits, and the last
@@ -887,6 +1144,19 @@ impl<W: Write + Drop> ServeDesk<W> {
             Ok(()) => {}
             Err(_) => self.lacks_memory = true,
         }
+    }
+}
+
+// The byte that ends a line.
+const LINE_END: u8 = 10;
+
+/// The text, if it has no line end; else `None`.
+pub(crate) fn without_line_end(text: Option<String>) -> Option<String>
+    ensures { IfSome result (λ text. HasNoLineEnd (string_bytes text)) }
+{
+    match text {
+        Some(text) if !text.as_bytes().contains(&LINE_END) => Some(text),
+        _ => None,
     }
 }
 

@@ -1,9 +1,13 @@
 // Marks for the watch about what is done in an epoch.
+use crate::desk_figures::DeskFigures;
 use crate::watch::{ServeMark, ServeWatch};
 use sq_engine::{Command, StageProgress};
 use sq_node::Receipt;
 use sq_plan::PartId;
 use sq_schema::Reply;
+
+// A busy client calls the watch once in this many calls.
+const CALLS_A_TICK: u64 = 64;
 
 /// Marks for a watch about what is done in an epoch.
 #[derive(Drop)]
@@ -11,6 +15,8 @@ pub struct EpochMarks<'a, V: ServeWatch> {
     watch: &'a V,
     has_begun: bool,
     has_ended: bool,
+    // How many calls of the client there were.
+    calls: u64,
     // How many segments were complete, and how many families and bytes were moved, at the last mark
     // of them.
     complete: u64,
@@ -25,6 +31,7 @@ impl<'a, V: ServeWatch> EpochMarks<'a, V> {
             watch,
             has_begun: false,
             has_ended: false,
+            calls: 0,
             complete: 0,
             moved: 0,
             moved_bytes: 0,
@@ -40,6 +47,15 @@ impl<'a, V: ServeWatch> EpochMarks<'a, V> {
         if !self.has_begun {
             self.has_begun = true;
             self.watch.mark(ServeMark::EpochBegins);
+        }
+    }
+
+    // Calls the watch with what the desk shows: in each call of an idle client, and in one of
+    // `CALLS_A_TICK` of a busy one.
+    pub(crate) fn tick(&mut self, desk: &DeskFigures<'_>, is_idle: bool) {
+        self.calls = self.calls.wrapping_add(1);
+        if is_idle || self.calls % CALLS_A_TICK == 0 {
+            self.watch.tick(desk);
         }
     }
 
@@ -63,8 +79,16 @@ impl<'a, V: ServeWatch> EpochMarks<'a, V> {
     // Marks the job that a command offers, if it offers one.
     pub(crate) fn offer(&self, command: &Command) {
         if let Command::Post(job) = command {
-            self.watch.mark(ServeMark::JobOffered { id: job.txn.id() });
+            self.watch.mark(ServeMark::JobOffered {
+                part: job.part,
+                id: job.txn.id(),
+            });
         }
+    }
+
+    // Marks that a job that was offered to partition `part` isn't posted, or is answered.
+    pub(crate) fn close(&self, part: PartId) {
+        self.watch.mark(ServeMark::JobClosed { part });
     }
 
     // Marks the answer of a partition to a job.

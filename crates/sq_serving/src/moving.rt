@@ -30,14 +30,14 @@ pub(crate) fn begin_move<T: Threads + Wait + Sync, W: Write + Drop, V: ServeWatc
     desk: &mut ServeDesk<W>,
     watch: &V,
 ) -> Result<(), ServeEnding>
-    ensures gives { MovesOrLacksMemory asked.plan engine.old (desk_value W.contents desk.old)
+    ensures gives { MovesOrLacksMemory asked engine.old (desk_value W.contents desk.old)
         result engine.new (desk_value W.contents desk.new) }
-    ensures answers { OnOk result (AnswersMove asked.plan engine.old
+    ensures answers { OnOk result (AnswersMove asked engine.old
         (desk_value W.contents desk.old) engine.new (desk_value W.contents desk.new)) }
 {
-    let AskedMove { place, plan } = asked;
+    let AskedMove { place, plan, limit } = asked;
     let text = plan.write().ok();
-    match engine.move_to(rt, alloc, plan) {
+    match engine.move_to(rt, alloc, plan, limit) {
         Ok(()) => tell_begun(engine, desk, watch),
         Err(why) => refuse_move(engine, why, desk, watch, place, text),
     }

@@ -2,11 +2,12 @@
 ghost use Rattle.std.specs.Prelude.{◌≡◌, true, false, []};
 ghost use Rattle.sq_text.specs.Texts.{refused_line, fault_line};
 ghost use Rattle.sq_serving.specs.Receipts.{receipt_line};
-ghost use Rattle.sq_serving.specs.ServeAnswers.{serve_answer_line, plan_line};
+ghost use Rattle.sq_serving.specs.ServeAnswers.{serve_answer_line, status_line, json_line};
+ghost use Rattle.sq_serving.specs.ServeAnswers.{plan_line};
 ghost use Rattle.sq_live.specs.Outcome.{outcome_line};
 ghost use Rattle.sq_serving.specs.Saying.{Says, lines_in, rows_told};
 
-use crate::serve_answer::{ServeAnswer, write_plan, write_serve_answer};
+use crate::serve_answer::{ServeAnswer, write_json, write_plan, write_serve_answer, write_status};
 use sq_live::{LiveOutcome, write_outcome};
 use sq_model::Answer;
 use sq_node::Receipt;
@@ -58,6 +59,28 @@ impl<W: Write + Drop> Outlet<W> {
             return;
         }
         let failed = write_serve_answer(&mut self.writer, answer).is_err();
+        self.note(failed);
+    }
+
+    /// Writes the line of the status, with `figures` after its words.
+    pub fn say_status(&mut self, status: ServeAnswer, figures: &str)
+        ensures { Says W.contents self.old (status_line status figures.now) self.new }
+    {
+        if self.has_failed {
+            return;
+        }
+        let failed = write_status(&mut self.writer, status, figures).is_err();
+        self.note(failed);
+    }
+
+    /// Writes a line of JSON.
+    pub fn say_json(&mut self, text: &str)
+        ensures { Says W.contents self.old (json_line text.now) self.new }
+    {
+        if self.has_failed {
+            return;
+        }
+        let failed = write_json(&mut self.writer, text).is_err();
         self.note(failed);
     }
 

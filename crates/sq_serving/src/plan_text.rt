@@ -1,17 +1,18 @@
-// The text of a plan.
+// A plan with its text.
 ghost use Rattle.std.specs.Prelude.{◌≡◌, IfOk};
 ghost use Rattle.sq_plan.specs.PlanText.{plan_text};
+ghost use Rattle.sq_plan.specs.PlanValue.{owner};
 
-use sq_history::Kept;
-use sq_plan::Plan;
+use sq_plan::{PartId, Plan};
+use sq_schema::Root;
 use std::alloc::AllocError;
 use std::marker::Model;
 
-/// The text of a plan. Contracts see the plan.
+/// A plan with its text. Contracts see the plan.
 #[derive(Drop)]
 pub struct PlanText {
     text: String,
-    plan: Kept<Plan>,
+    plan: Plan,
 }
 
 impl Model for PlanText {
@@ -21,18 +22,18 @@ impl Model for PlanText {
 
     ghost Value = { PlanValue };
 
-    ghost view = { λ p. p.plan.value };
+    ghost view = { λ p. p.plan };
 
-    ghost invariant = { λ p. string_bytes p.text ≡ plan_text p.plan.value };
+    ghost invariant = { λ p. string_bytes p.text ≡ plan_text p.plan };
 }
 
 impl PlanText {
-    /// The text of `plan`. Fails if memory runs out.
+    /// A copy of `plan` with its text. Fails if memory runs out.
     pub fn of(plan: &Plan) -> Result<PlanText, AllocError>
         ensures { IfOk result (λ text. text ≡ plan.now) }
     {
         let text = plan.write()?;
-        let plan = Kept::of(plan);
+        let plan = plan.clone()?;
         Ok(PlanText { text, plan })
     }
 
@@ -40,5 +41,12 @@ impl PlanText {
         ensures { result.now ≡ plan_text self.now }
     {
         self.text.as_str()
+    }
+
+    /// The partition that owns `root` by the plan.
+    pub fn owner(&self, root: Root) -> PartId
+        ensures { result ≡ owner self.now root }
+    {
+        self.plan.owner(root)
     }
 }

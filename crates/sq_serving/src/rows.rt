@@ -1,11 +1,14 @@
 // The rows of an engine that is served.
-ghost use Rattle.std.specs.Prelude.{◌⊎◌, IfOk, IsSome, Some};
+ghost use Rattle.std.specs.Prelude.{◌≡◌, ◌⊎◌, false, ℕ, List, Option, IfOk, IsSome, Some, None};
 ghost use Rattle.sq_engine.specs.declared.engine.NotEnded.TheVariants as unended;
 ghost use Rattle.sq_engine.specs.Engine.{rows_in};
 ghost use Rattle.sq_serving.specs.Becoming.{desk_value, WritesBytes};
 ghost use Rattle.sq_serving.specs.Rows.{IsRowsText, GivesRows, RowsAreGiven, TellsRowsOrSpeaks, not_ended_line, AnswersRows};
+ghost use Rattle.sq_serving.specs.Rows.{LeavesStores, LeavesRows};
+ghost use Rattle.sq_serving.specs.Service.{LeavesAtEnd};
 
 use crate::desk::{AskedRows, ServeDesk};
+use crate::ending::ServeEnding;
 use crate::line_place::LinePlace;
 use crate::portions::line_ends;
 use crate::rows_file::RowsFile;
@@ -26,6 +29,73 @@ const MOVING: u16 = 217;
 
 // The number of the refusal if a file can't be written.
 const UNWRITTEN: u16 = 124;
+
+/// Who gets the rows that an engine leaves at its end.
+pub trait RowsLeft {
+    // It was handed these lines of rows, or none since memory ran out for them; or it wants no rows.
+    ghost Leaves: { Self → Option (List ℕ) → Type 0 };
+
+    /// Returns whether the rows are wanted.
+    fn wants_rows(&self) -> bool
+        ensures { result ≡ false → Leaves self.now None };
+
+    /// Takes the lines of the rows, by rising root key and then by key.
+    fn leaves_rows(&self, lines: Vec<u8>)
+        ensures { Leaves self.now (Some lines.items) };
+
+    /// Records that memory ran out for the lines of the rows.
+    fn lacks_rows(&self)
+        ensures { Leaves self.now None };
+}
+
+/// Hands the rows of an engine to `watch`, if it wants them and the engine was closed.
+pub(crate) fn leave_rows<V: RowsLeft>(
+    alloc: Global,
+    engine: &Engine,
+    ending: ServeEnding,
+    watch: &V,
+)
+    ensures { LeavesAtEnd (V.Leaves watch.now) ending engine.now }
+{
+    match ending {
+        ServeEnding::Sound { .. } | ServeEnding::Unsound(_) => {
+            leave_engine_rows(alloc, engine, watch);
+        }
+        ServeEnding::NoHeader(_)
+        | ServeEnding::Memory
+        | ServeEnding::Threads
+        | ServeEnding::Unwritten => {}
+    }
+}
+
+// Hands the rows of an engine to `watch`, if it wants them and no epoch runs.
+fn leave_engine_rows<V: RowsLeft>(alloc: Global, engine: &Engine, watch: &V)
+    ensures { LeavesRows (V.Leaves watch.now) (rows_in engine.now) }
+{
+    match engine.rows() {
+        Some(stores) => leave_stored_rows(alloc, stores, watch),
+        None => {}
+    }
+}
+
+// Hands the rows of `stores` to `watch`, if it wants them.
+fn leave_stored_rows<V: RowsLeft>(alloc: Global, stores: &[SlabStore], watch: &V)
+    ensures { LeavesStores (V.Leaves watch.now) stores.now }
+{
+    if watch.wants_rows() {
+        leave_wanted_rows(alloc, stores, watch)
+    }
+}
+
+// Hands the rows of `stores` to `watch`.
+fn leave_wanted_rows<V: RowsLeft>(alloc: Global, stores: &[SlabStore], watch: &V)
+    ensures { LeavesStores (V.Leaves watch.now) stores.now }
+{
+    match rows_text(alloc, stores) {
+        Ok(text) => watch.leaves_rows(text),
+        Err(_) => watch.lacks_rows(),
+    }
+}
 
 /// Writes the rows of an engine at rest, or has them saved in the file that a line names. If rows
 /// move, the line is refused with 217; if memory runs out, it is answered with a fault.

@@ -4,8 +4,9 @@ ghost use Rattle.sq_serving.specs.ServeWords.{is_serve_word, begins_serve_line};
 
 use sq_text::Words;
 
-/// Returns whether a line begins with one of the words `txn`, `move`, `fold`, `status`, `rows` and
-/// `plan`, with which the lines after the header begin.
+/// Returns whether a line begins with one of the words `txn`, `move`, `fold`, `status`, `rows`,
+/// `plan`, `pause`, `resume`, `pumps`, `chunk`, `drop` and `owner`, with which the lines after the
+/// header begin.
 pub fn begins_serve_line(line: &[u8]) -> bool
     ensures { result ≡ begins_serve_line line.now }
 {
@@ -26,4 +27,10 @@ fn is_serve_word(word: &[u8]) -> bool
         || word == b"status".as_slice()
         || word == b"rows".as_slice()
         || word == b"plan".as_slice()
+        || word == b"pause".as_slice()
+        || word == b"resume".as_slice()
+        || word == b"pumps".as_slice()
+        || word == b"chunk".as_slice()
+        || word == b"drop".as_slice()
+        || word == b"owner".as_slice()
 }

@@ -15,14 +15,14 @@ use crate::line_place::LinePlaces;
 use crate::outlet::Outlet;
 use crate::plan_text::PlanText;
 use crate::reading::read_all;
+use crate::rows::{RowsLeft, leave_rows};
 use crate::service::run_epochs;
 use crate::sides::SideQueues;
 use crate::telling::tell_ending;
 use crate::watch::ServeWatch;
 use rtrb::{Consumer, RingBuffer};
-use sq_engine::Engine;
+use sq_engine::{ChunkLimit, Engine};
 use sq_moves::Opening;
-use sq_plan::Plan;
 use std::alloc::{AllocError, Global};
 use std::io::{Read, Write};
 use std::sync::{Arc, Wait};
@@ -52,8 +52,8 @@ struct Handed {
 
 /// Serves an engine until its input ends: reads a header and then lines from `input`, and writes
 /// the answers to `writer`. Returns the writer, and how the engine ended. `places` maps the number
-/// of a line to its place; `watch` saves the rows that a line `rows FILE` asks for, and learns why
-/// a line is refused.
+/// of a line to its place; `watch` saves the rows that a line `rows FILE` asks for, learns why a
+/// line is refused, and gets the rows at the end if it wants them.
 pub fn serve<T, I, P, W, V>(
     rt: &T,
     alloc: Global,
@@ -68,7 +68,7 @@ where
     I: Read + Send + Drop + 'static,
     P: LinePlaces + Send + Drop + 'static,
     W: Write + Drop,
-    V: ServeWatch,
+    V: ServeWatch + RowsLeft,
     requires { config.pumps ≤ MAX_PUMPS }
     ensures { ServesWriter config.is_strict (V.Saves watch.now) W.contents
         writer result.0 result.1 }
@@ -94,7 +94,7 @@ where
     I: Read + Send + Drop + 'static,
     P: LinePlaces + Send + Drop + 'static,
     W: Write + Drop,
-    V: ServeWatch,
+    V: ServeWatch + RowsLeft,
     requires { config.pumps ≤ MAX_PUMPS }
     ensures { ServesSome config.is_strict (V.Saves watch.now) W.contents
         outlet result.1 result.0 }
@@ -149,7 +149,7 @@ fn open_rings<P: LinePlaces + Drop>(
 }
 
 // Serves an engine from what the reader hands on.
-fn await_header<T: Threads + Wait + Sync, W: Write + Drop, V: ServeWatch>(
+fn await_header<T: Threads + Wait + Sync, W: Write + Drop, V: ServeWatch + RowsLeft>(
     rt: &T,
     alloc: Global,
     handed: Handed,
@@ -175,7 +175,7 @@ fn await_header<T: Threads + Wait + Sync, W: Write + Drop, V: ServeWatch>(
 }
 
 // Serves the engine of a header. If the header has a fault, `watch` is told.
-fn open_or_refuse<T: Threads + Wait + Sync, W: Write + Drop, V: ServeWatch>(
+fn open_or_refuse<T: Threads + Wait + Sync, W: Write + Drop, V: ServeWatch + RowsLeft>(
     rt: &T,
     alloc: Global,
     header: Header,
@@ -201,7 +201,7 @@ fn open_or_refuse<T: Threads + Wait + Sync, W: Write + Drop, V: ServeWatch>(
 }
 
 // Serves the engine of an opening.
-fn open_desk<T: Threads + Wait + Sync, W: Write + Drop, V: ServeWatch>(
+fn open_desk<T: Threads + Wait + Sync, W: Write + Drop, V: ServeWatch + RowsLeft>(
     rt: &T,
     alloc: Global,
     opening: Opening,
@@ -216,42 +216,46 @@ fn open_desk<T: Threads + Wait + Sync, W: Write + Drop, V: ServeWatch>(
         (first_desk config.is_strict W.contents outlet opening.new)
         outlet result.1 result.0 }
 {
-    match desk_for(alloc, opening.new_plan(), lines, outlet, config) {
+    match desk_for(alloc, &opening, lines, outlet, config) {
         Ok(desk) => open_engine(rt, alloc, opening, desk, config.pumps, watch),
         Err(outlet) => (outlet, ServeEnding::Memory),
     }
 }
 
-// The desk of an engine that begins with `plan`. If memory runs out, the error returns the outlet.
+// The desk of an engine with this opening. If memory runs out, the error returns the outlet.
 fn desk_for<W: Write + Drop>(
     alloc: Global,
-    plan: &Plan,
+    opening: &Opening,
     lines: HandedLines,
     outlet: Outlet<W>,
     config: ServeConfig,
 ) -> Result<ServeDesk<W>, Outlet<W>>
     requires { received lines.feed ≡ [] }
     ensures desk { IfOk result (λ desk. desk_value W.contents desk
-        ≡ first_desk config.is_strict W.contents outlet plan.now) }
+        ≡ first_desk config.is_strict W.contents outlet opening.now.new) }
+    ensures limit { IfOk result (λ desk. desk.limit ≡ opening.now.config.limit) }
     ensures outlet { IfOk result (λ desk. desk.outlet ≡ outlet) }
     ensures returned { IfErr result (λ back. back ≡ outlet) }
 {
+    let plan = opening.new_plan();
     let Ok(text) = PlanText::of(plan) else {
         return Err(outlet);
     };
     let config = DeskConfig {
         is_strict: config.is_strict,
+        pumps: config.pumps,
+        limit: ChunkLimit::of(opening),
     };
     let HandedLines { feed, bell } = lines;
     let parts = plan.parts();
     match SideQueues::new(alloc, parts) {
-        Ok(sides) => Ok(ServeDesk::new(feed, bell, outlet, sides, text, config)),
+        Ok(sides) => Ok(ServeDesk::new(alloc, feed, bell, outlet, sides, text, config)),
         Err(_) => Err(outlet),
     }
 }
 
 // Opens an engine, and serves it with a desk.
-fn open_engine<T: Threads + Wait + Sync, W: Write + Drop, V: ServeWatch>(
+fn open_engine<T: Threads + Wait + Sync, W: Write + Drop, V: ServeWatch + RowsLeft>(
     rt: &T,
     alloc: Global,
     opening: Opening,
@@ -268,6 +272,7 @@ fn open_engine<T: Threads + Wait + Sync, W: Write + Drop, V: ServeWatch>(
     match Engine::open(rt, alloc, opening, pumps) {
         Ok(mut engine) => {
             let ended = run_epochs(rt, alloc, &mut engine, desk, watch);
+            leave_rows(alloc, &engine, ended.1, watch);
             // For the proof alone: what holds of every engine.
             let _opening = engine.opening();
             ended

@@ -90,6 +90,14 @@ impl<J: Drop> SideQueues<J> {
         !self.sides[part].jobs.is_empty()
     }
 
+    /// How many jobs of partition `part` wait.
+    pub fn waiting_at(&self, part: usize) -> usize
+        requires { part < length self.now }
+        ensures { result ≡ length (waiting_at self.now part) }
+    {
+        self.sides[part].jobs.len()
+    }
+
     /// Adds a job after the others of partition `part`. Fails, and changes nothing, if memory runs
     /// out.
     pub fn put_behind(&mut self, part: usize, job: J) -> Result<(), AllocError>

@@ -1,6 +1,7 @@
 // The watch of an engine that is served.
 ghost use Rattle.std.specs.Prelude.{ℕ, Bool, List, is_ok};
 
+use crate::desk_figures::DeskFigures;
 use crate::faulty_header::FaultyHeader;
 use crate::faulty_line::LineRefusal;
 use crate::refused_move::RefusedMove;
@@ -27,9 +28,14 @@ pub enum ServeMark {
         bytes: u64,
     },
     EpochEnds,
-    /// The job `id` is offered to the engine, for the first time or again.
+    /// The job `id` is offered to partition `part`, for the first time or again.
     JobOffered {
+        part: PartId,
         id: u64,
+    },
+    /// A job that was offered to partition `part` isn't posted, or is answered.
+    JobClosed {
+        part: PartId,
     },
     /// The job `id` is answered by partition `part`, which committed or aborted it.
     JobAnswered {
@@ -47,6 +53,20 @@ pub trait ServeWatch {
 
     /// Records what the engine does.
     fn mark(&self, mark: ServeMark);
+
+    /// Is called again and again while the engine is served; `desk` has what its desk shows.
+    fn tick(&self, _desk: &DeskFigures<'_>) {}
+
+    /// Returns the figures that follow the words of the answer to `status`, as text without line
+    /// ends; `None` if there are none.
+    fn status_text(&self, _desk: &DeskFigures<'_>) -> Option<String> {
+        None
+    }
+
+    /// Returns the figures of the engine as JSON without line ends; `None` if there are none.
+    fn status_json(&self, _desk: &DeskFigures<'_>) -> Option<String> {
+        None
+    }
 
     /// Records a line that is answered with a fault or a refusal.
     fn refuses(&self, refusal: LineRefusal<'_>);

@@ -10,7 +10,7 @@ pub mod Applies
 pub mod Cuts
 pub mod Joins
 pub mod Given
-pub mod StoreRuns
+pub mod RunStore
 pub mod Taken
 pub mod Fullest
 pub mod Keys

@@ -8,9 +8,9 @@ ghost use Rattle.sq_store.specs.StoreValue.{log_length, store_reply, store_after
 ghost use Rattle.sq_store.specs.Listed.{folded_families};
 ghost use Rattle.sq_store.specs.Runs.{families_in_runs, store_of_runs, AreRuns, IsRunOf, IsFamilyAt, KeepsFamilies, nth_run, refilled};
 
+use crate::family_run::insert;
 use crate::runs::Runs;
 use crate::search::run_of;
-use crate::slab_run::insert;
 use crate::vec_store::fold_all;
 use sq_schema::{ApplyFault, Family, Reply, Root, Txn};
 use std::alloc::AllocError;

@@ -10,7 +10,7 @@ ghost use Rattle.sq_store.specs.Run.{has_families};
 ghost use Rattle.sq_store.specs.Indexed.{run_under, runs_of, IsIndex};
 ghost use Rattle.sq_store.specs.Runs.{AreRuns, IsBoundPlace, IsSplit, IsApplied, nth_run, refilled, with_lo};
 
-use crate::slab_run::{apply, cut_off};
+use crate::family_run::{apply, cut_off};
 use slab::Slab;
 use sq_schema::{ApplyFault, Family, Reply, Root, Txn};
 use std::alloc::{AllocError, Global};

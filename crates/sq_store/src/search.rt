@@ -5,8 +5,8 @@ ghost use Rattle.sq_schema.specs.declared.root.TheConstants.{ROOT_END};
 ghost use Rattle.sq_store.specs.InOrder.{family_from};
 ghost use Rattle.sq_store.specs.Runs.{families_in_runs, store_of_runs, first_bound, AreRuns, IsRunOf, IsFamilyAt, IsSpan, between as families_between};
 
+use crate::family_run::between;
 use crate::runs::Runs;
-use crate::slab_run::between;
 use crate::sorted::{place, start};
 use sq_schema::{Family, Root};
 

@@ -8,9 +8,9 @@ ghost use Rattle.sq_store.specs.Listed.{roots_rise};
 ghost use Rattle.sq_store.specs.Counting.{chunk_count, fitting, root_after};
 ghost use Rattle.sq_store.specs.Runs.{families_in_runs, store_of_runs, between as between_in, outside, AreRuns, IsTakenTo, nth_run, refilled};
 
+use crate::family_run::{between, detach, take_between as take_of_run};
 use crate::runs::Runs;
 use crate::search::{first_from, runs_between};
-use crate::slab_run::{between, detach, take_between as take_of_run};
 use sq_schema::Family;
 use std::alloc::AllocError;
 

@@ -15,11 +15,11 @@ use Rattle.sq_schema.specs.declared.fault.RowFault.TheVariants.{RowRepeated, NoR
 use Rattle.sq_plan.specs.PlanValue.{PlanValue}
 use Rattle.sq_moves.specs.declared.opening.Config.{Config}
 use Rattle.sq_moves.specs.declared.opening.GivenRow.{GivenRow}
-use Rattle.sq_moves.specs.declared.ranges_fault.OpeningFault.{OpeningFault}
-use Rattle.sq_moves.specs.declared.ranges_fault.OpeningFault.TheVariants as opening
+use Rattle.sq_moves.specs.declared.opening_fault.OpeningFault.{OpeningFault}
+use Rattle.sq_moves.specs.declared.opening_fault.OpeningFault.TheVariants as opening
 use Rattle.sq_moves.specs.OpeningValue.{OpeningValue}
 use Rattle.sq_moves.specs.Between.{recon_of}
-use Rattle.sq_moves.specs.RangesFault.{of_row}
+use Rattle.sq_moves.specs.OpeningFaults.{of_row}
 use Rattle.sq_moves.specs.Given.{GivenValue, value_of, with_one, IsOpeningOf}
 use Rattle.sq_moves.specs.Refused.{shape_fault, given_fault, MayRefuse}
 use Rattle.sq_text.specs.declared.reader.Next.{Next as NextPiece}

@@ -8,7 +8,7 @@ use Rattle.sq_plan.specs.declared.fault.PlanFault.{PlanFault}
 use Rattle.sq_plan.specs.PlanValue.{PlanValue}
 use Rattle.sq_plan.specs.Reading.{plan_in}
 use Rattle.sq_moves.specs.declared.opening.Config.{Config}
-use Rattle.sq_moves.specs.declared.ranges_fault.OpeningFault.{OpeningFault}
+use Rattle.sq_moves.specs.declared.opening_fault.OpeningFault.{OpeningFault}
 use Rattle.sq_moves.specs.OpeningValue.{OpeningValue}
 use Rattle.sq_moves.specs.Between.{recon_of}
 use Rattle.sq_moves.specs.Given.{GivenValue, no_rows, with_one}

@@ -1,7 +1,7 @@
 -- Why an input can't be run, and what a reader of its header answers.
 use Rattle.std.specs.Prelude.{◌≡◌, ◌≢◌, ℕ, Result, Ok, Err}
 use Rattle.sq_plan.specs.Fault.{plan_fault_number}
-use Rattle.sq_moves.specs.RangesFault.{opening_fault_number}
+use Rattle.sq_moves.specs.OpeningFaults.{opening_fault_number}
 use Rattle.sq_schema.specs.Fault.{memory_number}
 use Rattle.sq_text.specs.Faults.{line_fault_number}
 use Rattle.sq_text.specs.declared.fault.LineFault.TheVariants as lines

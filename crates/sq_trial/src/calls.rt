@@ -5,7 +5,7 @@ use crate::plans::{opening_at, plan_of};
 use crate::random_client::RandomClient;
 use crate::trial::Rest;
 use sq_audit::Verdict;
-use sq_engine::{Engine, EpochEnd, NotMoved, Served};
+use sq_engine::{ChunkLimit, Engine, EpochEnd, NotMoved, Served};
 use std::alloc::{AllocError, Global};
 use std::sync::Wait;
 use std::thread::Threads;
@@ -54,7 +54,8 @@ fn go_to<R: Wait>(
 ) -> Result<Engine, Failure> {
     match plan_of(alloc, choice) {
         Ok(plan) => {
-            let outcome = check_moved(engine.move_to(rt, alloc, plan));
+            let limit = ChunkLimit::of(engine.opening());
+            let outcome = check_moved(engine.move_to(rt, alloc, plan, limit));
             value_if(engine, outcome)
         }
         Err(failure) => value_if(engine, Err(failure)),

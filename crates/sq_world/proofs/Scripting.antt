@@ -18,7 +18,7 @@ use Rattle.sq_world.specs.declared.ending.Ending.{Ending}
 use Rattle.sq_world.specs.Run.{IsFault, EndsAtFault}
 use Rattle.sq_world.specs.Script.{RefusesHeader}
 use Rattle.sq_world.specs.declared.draft.Draft.{Draft}
-use Rattle.sq_world.specs.declared.steps_ending.NoScript.{NoScript}
+use Rattle.sq_world.specs.declared.no_script.NoScript.{NoScript}
 use Rattle.sq_world.specs.Drafts.{DraftGoesOn}
 use Rattle.sq_world.specs.Scripts.{fault_of, IsScriptOf, WritesScriptFrom, WritesScriptOf}
 use Rattle.sq_world.proofs.Drafting.{begins}

@@ -19,8 +19,8 @@ use Rattle.sq_world.specs.declared.ending.Ending.TheVariants.{Done}
 use Rattle.sq_world.specs.Inputs.{Writing, OfLines, OfReader}
 use Rattle.sq_world.specs.Run.{IsFault, IsRefused}
 use Rattle.sq_world.specs.declared.move_step.MoveStep.{MoveStep}
-use Rattle.sq_world.specs.declared.steps_ending.NoScript.{NoScript}
-use Rattle.sq_world.specs.declared.steps_ending.NoScript.TheVariants as no_script
+use Rattle.sq_world.specs.declared.no_script.NoScript.{NoScript}
+use Rattle.sq_world.specs.declared.no_script.NoScript.TheVariants as no_script
 use Rattle.sq_world.specs.Lines.{step_of_move, move_line, IsReadBack}
 
 -- the answer is a refusal

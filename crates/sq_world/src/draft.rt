@@ -4,7 +4,7 @@ ghost use Rattle.sq_world.specs.Scripts.{is_refusal};
 ghost use Rattle.sq_world.specs.Drafts.{DraftGoesOn};
 
 use crate::move_step::{MoveStep, write_step};
-use crate::steps_ending::NoScript;
+use crate::no_script::NoScript;
 use crate::world::World;
 use sq_model::Answer;
 use std::alloc::Global;

@@ -5,7 +5,7 @@ ghost use Rattle.sq_world.specs.Drafts.{DraftGoesOn};
 use crate::draft::Draft;
 use crate::move_step::MoveStep;
 use crate::moves::{Moves, MovingSegment};
-use crate::steps_ending::NoScript;
+use crate::no_script::NoScript;
 use sq_model::Answer;
 
 /// Executes all steps of a move: each partition prepares, the leader starts the move, stage by

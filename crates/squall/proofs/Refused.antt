@@ -9,7 +9,7 @@ use Rattle.sq_command.specs.declared.line.Task.TheVariants.{Run, Ranges, Live, S
 use Rattle.squall.specs.Session.{EndsTask, EndsMain}
 
 refused_task : (task : Task) (known before now : Option (List ℕ)) → EndsTask task known before now 2
-refused_task (Run echoes strict rows_out) known before now = record { ran = Err (record {}); holds = tt; status_is = refl }
+refused_task (Run echoes strict json rows_out) known before now = record { ran = Err (record {}); holds = tt; status_is = refl }
 refused_task (Ranges form sizes) known before now = record { ran = Err (record {}); holds = tt; status_is = refl }
 refused_task (Live live) known before now = record { ran = Err (record {}); holds = tt; status_is = refl }
 refused_task Steps known before now = record { ran = Err (record {}); holds = tt; status_is = refl }

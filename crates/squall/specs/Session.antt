@@ -11,10 +11,12 @@ use Rattle.sq_schema.specs.declared.schema.TheConstants.{MAX_TABLES}
 use Rattle.sq_input.specs.Inputs.{plan_lines, inserted_text}
 use Rattle.sq_text.specs.declared.output_fault.WriteFault.{WriteFault}
 use Rattle.sq_world.specs.declared.ending.Ending.{Ending}
+use Rattle.sq_world.specs.declared.ending.ScriptManner.{ScriptManner}
 use Rattle.sq_world.specs.Run.{Runs, in_manner, exit_status_of}
 use Rattle.sq_world.specs.Listing.{Lists, Tells}
 use Rattle.sq_world.specs.Scripts.{WritesScript}
 use Rattle.sq_moves.specs.declared.recon.TheConstants.{MAX_WIDTH}
+use Rattle.sq_moves.specs.OpeningValue.{OpeningValue}
 use Rattle.sq_picture.specs.Asked.{TellsOpening, IsAnyText}
 use Rattle.sq_picture.specs.Owners.{IsOwnersText}
 use Rattle.sq_picture.specs.Json.{TellsAsJson}
@@ -55,6 +57,17 @@ abbrev pub explain_status : Result Bool WriteFault → ℕ
 explain_status (Ok told) = if told then 0 else 2
 explain_status (Err fault) = 2
 
+-- what is read is run, and its answers are written; if they are written as JSON, only some writer
+-- got them, and nothing is known of the JSON text
+abbrev pub RunsAs : Bool → ScriptManner → Option (List ℕ) → Option (List ℕ) → Option (List ℕ) → Ending → Type 0
+RunsAs false manner known before now = Runs manner MAX_TABLES known before now
+RunsAs true manner known before now = Runs manner MAX_TABLES known None None
+
+-- the same of the outcome of jobs in threads
+abbrev pub RunsLiveAs : Bool → Bool → Option (List ℕ) → Option (List ℕ) → Option (List ℕ) → LiveEnding → Type 0
+RunsLiveAs false folds known before now = RunsLive folds MAX_TABLES known before now
+RunsLiveAs true folds known before now = RunsLive folds MAX_TABLES known None None
+
 -- what is read is answered by what moves, in this format
 abbrev pub MovesAs : Form → Option (List ℕ) → Option (List ℕ) → Option (List ℕ) → Ending → Type 0
 MovesAs Lines = Lists MAX_TABLES
@@ -72,9 +85,9 @@ ListsAs form true = AnswersSizes
 
 -- a task was performed with the text that was read, and ended with this status
 abbrev pub EndsTask : Task → Option (List ℕ) → Option (List ℕ) → Option (List ℕ) → ℕ → Type 0
-EndsTask (Run echoes strict rows_out) known before now = EndsAs (Runs (in_manner echoes strict) MAX_TABLES known before now) exit_status
+EndsTask (Run echoes strict json rows_out) known before now = EndsAs (RunsAs json (in_manner echoes strict) known before now) exit_status
 EndsTask (Ranges form sizes) known before now = EndsAs (ListsAs form sizes known before now) exit_status
-EndsTask (Live live) known before now = EndsAs (RunsLive live.folds MAX_TABLES known before now) live_status
+EndsTask (Live live) known before now = EndsAs (RunsLiveAs live.json live.folds known before now) live_status
 EndsTask Steps known before now = EndsAs (WritesScript MAX_TABLES known before now) exit_status
 
 -- what comes after the plans: the main part of an input, and, if the rows have a file, these
@@ -116,12 +129,17 @@ EndsMain task plans (Some file) known before now status =
 abbrev pub widest_config : Option ℕ → List ℕ
 widest_config width = codes "config " ++ decimal (unwrap_or width MAX_WIDTH) ++ codes " 64 1\n"
 
--- the owners of these root keys by two plans were written, in leaves of this width, or else a file
--- can't be read, or memory ran out
-abbrev pub EndsOwners : List ℕ → Option ℕ → Option (List ℕ) → Option (List ℕ) → ℕ → Type 0
-EndsOwners keys width before now status =
+-- the lines of the owners of root keys, or as JSON any text
+abbrev pub OwnersAs : Bool → Bool → List ℕ → OpeningValue → List ℕ → Type 0
+OwnersAs false tells_leaves keys = IsOwnersText tells_leaves keys
+OwnersAs true tells_leaves keys = IsAnyText
+
+-- the owners of these root keys by two plans were written, in leaves of this width, as JSON or not,
+-- or else a file can't be read, or memory ran out
+abbrev pub EndsOwners : List ℕ → Option ℕ → Bool → Option (List ℕ) → Option (List ℕ) → ℕ → Type 0
+EndsOwners keys width json before now status =
     ((old : List ℕ) × (new : List ℕ)
-    × EndsAs (TellsOpening (IsOwnersText (is_some width) keys) MAX_TABLES
+    × EndsAs (TellsOpening (OwnersAs json (is_some width) keys) MAX_TABLES
     (option_append (Some (plan_lines old new)) (Some (widest_config width))) before now) exit_status status)
     ⊎ (status ≡ 2)
 
@@ -140,7 +158,7 @@ EndsEngine strict before now status =
 -- can't be read, and ended with this status
 abbrev pub EndsLine : Line → Option (List ℕ) → Option (List ℕ) → Option (List ℕ) → ℕ → Type 0
 EndsLine (Work task input) known before now status = EndsMain task input.plans input.file known before now status
-EndsLine (Owner keys plans width) known before now status = EndsOwners keys.items width before now status
+EndsLine (Owner keys plans width json) known before now status = EndsOwners keys.items width json before now status
 EndsLine (Demo demo folder) known before now status = (status ≡ 0) ⊎ (status ≡ 2)
 EndsLine (Serve pumps strict files file reports) known before now status = EndsEngine strict before now status
 EndsLine (Explain number) known before now status = EndsAs (Explains number before now) explain_status status

@@ -1,14 +1,13 @@
 // Live runs, their messages and their exit status.
-ghost use Rattle.std.specs.Prelude.{◌≡◌, ◌≤◌};
+ghost use Rattle.std.specs.Prelude.{◌≡◌, ◌≤◌, IfOk};
 ghost use Rattle.sq_input.specs.Recalling.{recalling_remaining};
 ghost use Rattle.sq_shared.specs.declared.numbers.TheConstants.{MAX_PUMPS};
-ghost use Rattle.sq_schema.specs.declared.schema.TheConstants.{MAX_TABLES};
-ghost use Rattle.sq_live.specs.Live.{RunsLive};
-ghost use Rattle.squall.specs.Session.{live_status, EndsAs};
+ghost use Rattle.squall.specs.Session.{live_status, EndsAs, RunsLiveAs};
 
 use crate::flaws::{tell_misfit_of_job, tell_unread_stages};
+use crate::live_json::write_outcome;
 use crate::outputs::{FileText, add_text, explain_unwritten, save_texts};
-use crate::session::{REFUSED, explain, explain_write};
+use crate::session::{REFUSED, as_named, explain, explain_write};
 use crate::source::Source;
 use sq_command::LiveOptions;
 use sq_input::Recalling;
@@ -45,7 +44,7 @@ pub fn live_run<
     source: &Source<'_>,
 ) -> u8
     requires { options.pumps ≤ MAX_PUMPS }
-    ensures { EndsAs (RunsLive options.entry.folds MAX_TABLES
+    ensures { EndsAs (RunsLiveAs options.entry.json options.entry.folds
         (recalling_remaining R.remaining reader.old) (W.contents writer.old)
         (W.contents writer.new)) live_status result }
 {
@@ -56,8 +55,8 @@ pub fn live_run<
     };
     let told = recording(rt, options, watch);
     let ran = match &told {
-        Some(told) => live(rt, rt.alloc(), reader, writer, manner, told),
-        None => live(rt, rt.alloc(), reader, writer, manner, watch),
+        Some(told) => run_as(rt, reader, writer, manner, options.json, told),
+        None => run_as(rt, reader, writer, manner, options.json, watch),
     };
     explain_live(rt, source, reader, ran);
     let status = live_status(ran);
@@ -65,6 +64,27 @@ pub fn live_run<
         return REFUSED;
     }
     status
+}
+
+// Runs the jobs in `reader`, and writes the outcome to `writer`, as JSON if `json` is set.
+fn run_as<T: Threads + Wait + Sync + AllocGlobal, R: Read, W: Write, G: Watch>(
+    rt: &T,
+    reader: &mut R,
+    writer: &mut W,
+    manner: RunManner,
+    json: bool,
+    watch: &G,
+) -> Result<LiveEnding, WriteFault>
+    requires { manner.pumps ≤ MAX_PUMPS }
+    ensures { IfOk result (RunsLiveAs json manner.folds (R.remaining reader.old)
+        (W.contents writer.old) (W.contents writer.new)) }
+{
+    if !json {
+        return live(rt, rt.alloc(), reader, writer, manner, watch);
+    }
+    let ending = live(rt, rt.alloc(), reader, &mut io::sink(), manner, watch)?;
+    write_outcome(rt.alloc(), writer, ending)?;
+    Ok(ending)
 }
 
 // A watch in front of `watch` that records what the summary and the files need. Returns `None` if
@@ -231,7 +251,8 @@ fn add_rows<T: Wait + Clock + Sync + Eprint + Files + AllocGlobal, G: Watch>(
     };
     let mut text = Vec::new(rt.alloc());
     let written = told.write_rows(&mut text);
-    add_text(rt, texts, name, written.map(|()| text))
+    let text = written.and_then(|()| as_named(rt.alloc(), name, text));
+    add_text(rt, texts, name, text)
 }
 
 // Writes the summary to standard error.

@@ -9,13 +9,17 @@ ghost use Rattle.squall.specs.Session.{EndsTask, EndsWithRows, EndsParts, EndsMa
 mod beginning;
 mod earlier;
 mod engine_front;
+mod engine_progress;
 mod engine_watch;
 mod explaining;
 mod flaws;
+mod live_json;
 mod live_runs;
+mod metrics_file;
 mod outputs;
 mod owning;
 mod plans;
+mod process_memory;
 mod progress;
 mod reasons;
 mod saved_rows;
@@ -34,11 +38,13 @@ use either::{Left, Right};
 use explaining::explanation;
 use live_runs::live_run;
 use outputs::refuse_outputs;
-use owning::owners;
+use owning::{OwnersTelling, owners};
 use plans::lines_of_plans;
 use progress::Progress;
 use serving::{EngineInput, serve_engine};
-use session::{listing, open_input, refuse_file, refuse_for_memory, refuse_words, script};
+use session::{
+    ScriptOutputs, listing, open_input, refuse_file, refuse_for_memory, refuse_words, script,
+};
 use source::{Source, is_table};
 use sq_command::{Input, Line, Task, line_of};
 use sq_input::{BareLines, CsvRows, Inserting, Recalling, RecordLines, RowLines};
@@ -181,10 +187,12 @@ where
             Task::Run {
                 echoes,
                 strict,
+                json,
                 rows_out,
             } => {
                 let manner = ScriptManner { echoes, strict };
-                script(rt, &mut reader, writer, manner, rows_out, source)
+                let outputs = ScriptOutputs { json, rows_out };
+                script(rt, &mut reader, writer, manner, outputs, source)
             }
             Task::Ranges { form, sizes } => {
                 listing(rt, &mut reader, writer, form, sizes, source)
@@ -251,8 +259,16 @@ where
             let status = assignment.carry_out(reader, &mut writer);
             (writer, status)
         }
-        Ok(Line::Owner { keys, plans, width }) => {
-            let status = owners(rt, &mut writer, plans, width, &keys, streams.is_closed);
+        Ok(
+            Line::Owner {
+                keys,
+                plans,
+                width,
+                json,
+            },
+        ) => {
+            let telling = OwnersTelling { plans, width, json };
+            let status = owners(rt, &mut writer, telling, &keys, streams.is_closed);
             (writer, status)
         }
         Ok(Line::Demo { demo, folder }) => {
@@ -297,8 +313,11 @@ fn main(rt: HostRuntime) -> ExitCode {
     let Ok(writer) = BufWriter::with_capacity(rt.alloc(), WRITE_SIZE, output) else {
         return ExitCode::from(refuse_for_memory(&rt));
     };
+    let is_typed = rt.stdin().is_terminal();
+    let is_watched = rt.stderr().is_terminal() && !is_typed && !rt.stdout().is_terminal();
     let streams = Streams {
-        is_typed: rt.stdin().is_terminal(),
+        is_typed,
+        is_watched,
         is_closed: &is_closed,
     };
     let mut reader = rt.reader();

@@ -1,6 +1,8 @@
 // The owners of root keys before and after a move.
 ghost use Rattle.std.specs.Prelude.{◌≡◌, IfOk, string_bytes};
-ghost use Rattle.squall.specs.Session.{widest_config, EndsOwners};
+ghost use Rattle.sq_schema.specs.declared.schema.TheConstants.{MAX_TABLES};
+ghost use Rattle.sq_picture.specs.Asked.{TellsOpening};
+ghost use Rattle.squall.specs.Session.{widest_config, OwnersAs, EndsOwners};
 
 use crate::flaws::{tell_segments, tell_unread_stages};
 use crate::plans::lines_of_plans;
@@ -9,7 +11,7 @@ use crate::source::Source;
 use sq_command::{Input, Plans};
 use sq_input::{Recalling, RecordLines};
 use sq_moves::MAX_WIDTH;
-use sq_picture::{OwnersAsLines, tell_opening};
+use sq_picture::{OwnersAsJson, OwnersAsLines, tell_opening};
 use sq_schema::Root;
 use sq_text::{InputLine, LocatedFault, WriteFault};
 use sq_world::Ending;
@@ -18,18 +20,29 @@ use std::cell::Cell;
 use std::io::{Read, Write};
 use std::rt::Files;
 
+/// Which plans own root keys, and how that is written.
+#[derive(Clone, Copy)]
+pub struct OwnersTelling<'a> {
+    pub plans: Plans<'a>,
+    /// How many root keys a leaf has; `None` if segments and leaves aren't written.
+    pub width: Option<u32>,
+    /// Whether each root key is written as a JSON value.
+    pub json: bool,
+}
+
 /// Writes which partition owns each of `keys` by the plan of either file, and where it moves.
 /// Standard error explains the fault of a plan. Returns the exit status.
 pub fn owners<T: Print + Eprint + Files + AllocGlobal, W: Write>(
     rt: &T,
     writer: &mut W,
-    plans: Plans<'_>,
-    width: Option<u32>,
+    telling: OwnersTelling<'_>,
     keys: &[u32],
     is_closed: &Cell<bool>,
 ) -> u8
-    ensures { EndsOwners keys.now width (W.contents writer.old) (W.contents writer.new) result }
+    ensures { EndsOwners keys.now telling.entry.width telling.entry.json (W.contents writer.old)
+        (W.contents writer.new) result }
 {
+    let OwnersTelling { plans, width, json } = telling;
     let lines = match lines_of_plans(rt, plans) {
         Ok(lines) => lines,
         Err(status) => return status,
@@ -41,13 +54,31 @@ pub fn owners<T: Print + Eprint + Files + AllocGlobal, W: Write>(
         return refuse_for_memory(rt);
     };
     let mut reader = Recalling::new(rt.alloc(), lines.as_slice().chain(config.as_bytes()));
-    let telling = OwnersAsLines {
-        keys: &roots,
-        tells_leaves: width.is_some(),
-    };
-    let told = tell_opening(rt.alloc(), &mut reader, writer, &telling);
+    let tells_leaves = width.is_some();
+    let told = tell_owners(rt.alloc(), &mut reader, writer, &roots, tells_leaves, json);
     explain_owners(rt, plans, &reader, told, is_closed);
     exit_status(told)
+}
+
+// Writes the owners of root keys by the plans in `reader`, as JSON if `json` is set.
+fn tell_owners<R: Read, W: Write>(
+    alloc: Global,
+    reader: &mut R,
+    writer: &mut W,
+    keys: &[Root],
+    tells_leaves: bool,
+    json: bool,
+) -> Result<Ending, WriteFault>
+    ensures { IfOk result (TellsOpening (OwnersAs json tells_leaves keys.now) MAX_TABLES
+        (R.remaining reader.old) (W.contents writer.old) (W.contents writer.new)) }
+{
+    if json {
+        let telling = OwnersAsJson { keys, tells_leaves };
+        tell_opening(alloc, reader, writer, &telling)
+    } else {
+        let telling = OwnersAsLines { keys, tells_leaves };
+        tell_opening(alloc, reader, writer, &telling)
+    }
 }
 
 // The root keys with these numbers.

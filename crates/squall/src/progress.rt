@@ -7,8 +7,9 @@ use std::mem::forget;
 use std::sync::atomic::{AtomicBool, AtomicU64, Ordering};
 use std::time::Clock;
 
-// Overwrites the longest line of progress.
-const BLANK: &str = "\r                                                                        \r";
+/// Overwrites the longest line of progress.
+pub const BLANK: &str =
+    "\r                                                                        \r";
 
 // The shortest time between two updates of the line, in microseconds.
 const PAUSE: u64 = 100_000;

@@ -121,13 +121,14 @@ impl Display for Reason<'_> {
 // Returns whether the answer with this number is a refusal; so are those to faulty plans, and to
 // plans that can't be moved to.
 fn is_refusal(number: u16) -> bool {
-    matches!(number, 101..=119 | UNWRITTEN | MOVING)
+    matches!(number, 101..=113 | UNWRITTEN | MOVING)
 }
 
 // What the number of a refusal means to somebody who serves an engine.
 fn meaning_of_refusal(number: u16) -> &'static str {
     match number {
-        NOT_A_LINE => "the line is no job, and none of move, fold, status, plan and rows",
+        NOT_A_LINE =>
+            "the line is no job, and none of move, drop, pause, resume, pumps, chunk, fold, status, plan, owner and rows",
         MOVING => "rows move, and it is to be asked again once they don't",
         _ => meaning(number),
     }

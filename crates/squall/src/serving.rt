@@ -101,7 +101,7 @@ where
     requires { config.pumps ≤ MAX_PUMPS }
     ensures { EndsEngine config.is_strict (W.contents writer) (W.contents result.0) result.1 }
 {
-    let watch = match EngineWatch::new(rt, input) {
+    let watch = match EngineWatch::new(rt, input, streams.is_watched) {
         Ok(watch) => watch,
         Err(status) => return (writer, status),
     };
@@ -112,6 +112,7 @@ where
         flaw: None,
     };
     let (writer, status) = serve_watched(rt, writer, serving, &watch);
+    watch.end();
     watch.reasons.tell_count();
     if watch.report(input) {
         (writer, status)

@@ -1,17 +1,16 @@
 // Runs, the messages about their faults, and the exit status.
 ghost use Rattle.std.specs.Prelude.{◌≡◌, [], Some, IfOk};
 ghost use Rattle.sq_input.specs.Recalling.{recalling_remaining};
-ghost use Rattle.sq_schema.specs.declared.schema.TheConstants.{MAX_TABLES};
 ghost use Rattle.sq_results.specs.Standing.{WritesRows, world_families};
-ghost use Rattle.sq_world.specs.Run.{Runs};
-ghost use Rattle.squall.specs.Session.{exit_status, EndsAs, MovesAs, AnswersSizes, ListsAs};
+ghost use Rattle.squall.specs.Session.{exit_status, EndsAs, RunsAs, MovesAs, AnswersSizes, ListsAs};
 
 use crate::flaws::{tell_form, tell_misfit, tell_unread_stages};
 use crate::outputs::save_text;
-use crate::source::Source;
+use crate::source::{Source, is_table};
 use sq_command::Form;
 use sq_explain::entry;
-use sq_input::{Recalled, Recalling, ToldLine};
+use sq_input::{Recalled, Recalling, ToldLine, table_of};
+use sq_outputs::EchoAsJson;
 use sq_picture::{AsJson, AsSvg, SizesAs, tell_opening};
 use sq_results::write_world_rows;
 use sq_text::{InputFault, InputLine, LocatedFault, Meaning, WriteFault};
@@ -26,33 +25,62 @@ use std::{fs, io};
 /// The exit status after a fault, and after a command line that was refused.
 pub const REFUSED: u8 = 2;
 
+/// What a script writes.
+#[derive(Clone, Copy)]
+pub struct ScriptOutputs<'a> {
+    /// Whether each line of the output is a JSON value.
+    pub json: bool,
+    /// The name of the file for the rows at the end, if one is asked for.
+    pub rows_out: Option<&'a str>,
+}
+
 /// Runs the script in `reader`, and writes its answers to `writer`. Standard error explains its
-/// fault, or the refusal after which it stopped. The rows at the end go into the file `rows_out`,
-/// if there is one, unless the run ended in a fault. Returns the exit status, which is 2 if the
-/// rows can't be written.
+/// fault, or the refusal after which it stopped. The rows at the end go into the file that
+/// `outputs` names, if there is one, unless the run ended in a fault. Returns the exit status,
+/// which is 2 if the rows can't be written.
 pub fn script<T: Eprint + Files + AllocGlobal, R: Read, W: Write>(
     rt: &T,
     reader: &mut Recalling<R>,
     writer: &mut W,
     manner: ScriptManner,
-    rows_out: Option<&str>,
+    outputs: ScriptOutputs<'_>,
     source: &Source<'_>,
 ) -> u8
     ensures { EndsAs
-        (Runs manner MAX_TABLES (recalling_remaining R.remaining reader.old) (W.contents writer.old)
-        (W.contents writer.new))
+        (RunsAs outputs.entry.json manner (recalling_remaining R.remaining reader.old)
+        (W.contents writer.old) (W.contents writer.new))
         exit_status result }
 {
     let mut world = None;
-    let ran = run(rt.alloc(), reader, writer, manner, &mut world);
+    let ran = run_as(rt.alloc(), reader, writer, manner, outputs.json, &mut world);
     explain_end(rt, source, reader, ran);
-    let is_saved = save_rows(rt, rows_out, ran, &world);
+    let is_saved = save_rows(rt, outputs.rows_out, ran, &world);
     // The program ends, and the system reclaims its memory faster than it could be freed.
     forget(world);
     if !is_saved {
         return REFUSED;
     }
     exit_status(ran)
+}
+
+// Runs the script in `reader`, and writes its answers to `writer`, as JSON if `json` is set.
+fn run_as<R: Read, W: Write>(
+    alloc: Global,
+    reader: &mut R,
+    writer: &mut W,
+    manner: ScriptManner,
+    json: bool,
+    kept: &mut Option<World>,
+) -> Result<Ending, WriteFault>
+    ensures { IfOk result (RunsAs json manner (R.remaining reader.old) (W.contents writer.old)
+        (W.contents writer.new)) }
+{
+    if json {
+        let mut values = EchoAsJson::new(alloc, writer);
+        run(alloc, reader, &mut values, manner, kept)
+    } else {
+        run(alloc, reader, writer, manner, kept)
+    }
 }
 
 // Writes the rows at the end of a run into the file `rows_out`, if there is one. Returns false if
@@ -67,9 +95,19 @@ fn save_rows<T: Eprint + Files + AllocGlobal>(
         (Some(name), Ok(Ending::Done | Ending::Stopped(_)), Some(world)) => save_text(
             rt,
             name,
-            rows_text(rt.alloc(), world),
+            rows_text(rt.alloc(), world).and_then(|text| as_named(rt.alloc(), name, text)),
         ),
         _ => true,
+    }
+}
+
+/// The rows in `lines`, lines of a header, as the file `name` has them: a table of values if its
+/// name ends in '.csv', else these lines. Fails only if memory runs out.
+pub(crate) fn as_named(alloc: Global, name: &str, lines: Vec<u8>) -> io::Result<Vec<u8>> {
+    if is_table(name) {
+        table_of(alloc, &lines)
+    } else {
+        Ok(lines)
     }
 }
 

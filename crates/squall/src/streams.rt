@@ -7,6 +7,8 @@ use std::cell::Cell;
 pub struct Streams<'a> {
     /// Whether standard input is a terminal.
     pub is_typed: bool,
+    /// Whether standard error is a terminal, and neither standard input nor output is.
+    pub is_watched: bool,
     /// Whether a write found that the reader of standard output has closed it.
     pub is_closed: &'a Cell<bool>,
 }

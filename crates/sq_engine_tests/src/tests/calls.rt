@@ -1,7 +1,8 @@
 // The calls of an engine, one by one, and what each returns.
 use sq_audit::{Job, Verdict};
 use sq_engine::{
-    Client, Command, Engine, EpochEnd, NotEnded, NotMoved, NotPosted, PostFault, StageProgress,
+    ChunkLimit, Client, Command, Engine, EpochEnd, NotEnded, NotMoved, NotPosted, PostFault,
+    StageProgress,
 };
 use sq_node::Receipt;
 use sq_plan::{PartId, Plan};
@@ -110,11 +111,15 @@ fn the_calls_of_an_engine(rt: HostRuntime) {
     let fewer = Plan::read(alloc, FEWER).expect(&rt, "it is a plan");
     let there = Plan::read(alloc, GATHERED).expect(&rt, "it is a plan");
     let again = Plan::read(alloc, GATHERED).expect(&rt, "it is a plan");
-    let faulty = engine.move_to(&rt, alloc, fewer);
+    let limit = ChunkLimit::of(engine.opening());
+    let faulty = engine.move_to(&rt, alloc, fewer, limit);
     assert!(rt; matches!(&faulty, Err(NotMoved::Plans(_))), "{faulty:?}");
-    assert_eq!(rt; engine.move_to(&rt, alloc, there), Ok(()));
+    assert_eq!(rt; engine.move_to(&rt, alloc, there, limit), Ok(()));
     assert!(rt; !engine.is_at_rest(), "nothing moves");
-    assert_eq!(rt; engine.move_to(&rt, alloc, again), Err(NotMoved::Moving));
+    assert_eq!(rt;
+        engine.move_to(&rt, alloc, again, limit),
+        Err(NotMoved::Moving)
+    );
     assert_eq!(rt; engine.end_epoch(&rt, alloc), Err(NotEnded::Moving));
     assert_eq!(rt; engine.close(&rt, alloc), Err(NotEnded::Moving));
     // The last job is answered in the move.

@@ -1,7 +1,7 @@
 // The desk of an engine that is served, driven by hand: jobs that are refused or lost, lines with a fault, and status lines.
 use rtrb::{Producer, RingBuffer};
 use sq_audit::Job;
-use sq_engine::{Command, PostFault, StageProgress};
+use sq_engine::{ChunkLimit, Command, PostFault, StageProgress};
 use sq_plan::Plan;
 use sq_schema::{MAX_TABLES, Schema};
 use sq_serving::{
@@ -83,9 +83,13 @@ fn desk_at(alloc: Global, is_strict: bool) -> Result<Served, Fail> {
     let plan = PlanText::of(&plan)?;
     let sides = SideQueues::new(alloc, 2)?;
     let (feed, lines) = RingBuffer::new(alloc, 8)?;
-    let config = DeskConfig { is_strict };
+    let config = DeskConfig {
+        is_strict,
+        pumps: 1,
+        limit: ChunkLimit::new(64).ok_or("it is a limit")?,
+    };
     let outlet = Outlet::new(Vec::new(alloc));
-    let desk = ServeDesk::new(lines, bell, outlet, sides, plan, config);
+    let desk = ServeDesk::new(alloc, lines, bell, outlet, sides, plan, config);
     Ok(Served { feed, desk })
 }
 

@@ -3,8 +3,9 @@
 use sha2::{Digest, Sha256};
 use sq_plan::PartId;
 use sq_report::{
-    LinkFigures, Moment, PartFigures, RunFigures, ServeRecord, Spread, StageStart, TimedAnswer,
-    Times, figures_json, write_csv, write_figures, write_svg,
+    LinkFigures, Moment, PartFigures, RunFigures, RunningRecord, ServeRecord, Spread, StageStart,
+    TimedAnswer, Times, figures_json, status_json, status_text, write_csv, write_figures,
+    write_metrics, write_svg,
 };
 use sq_serving::ServeMark;
 use std::alloc::Global;
@@ -199,6 +200,13 @@ const ACCOUNT_JSON: &str =
 // The digest of the chart of an engine.
 const ENGINE_CHART: &str = "ff1ab5e9952d73032f516a62faefd5314996c7d7207cf2d55ee12d9297ecf1ce";
 
+fn offered(part: u8, id: u64) -> ServeMark {
+    ServeMark::JobOffered {
+        part: PartId::new(part),
+        id,
+    }
+}
+
 fn answered(part: u8, id: u64, is_commit: bool) -> ServeMark {
     ServeMark::JobAnswered {
         part: PartId::new(part),
@@ -208,27 +216,30 @@ fn answered(part: u8, id: u64, is_commit: bool) -> ServeMark {
 }
 
 // Two epochs with a job in each; while the second is answered two segments move.
-fn record_of_an_engine(alloc: Global) -> ServeRecord {
+fn marks_of_an_engine() -> [(u64, ServeMark); 12] {
     let moved = ServeMark::FamiliesMoved {
         families: 3,
         bytes: 250,
     };
-    let marks = [
+    [
         (100, ServeMark::EpochBegins),
-        (1_000, ServeMark::JobOffered { id: 1 }),
+        (1_000, offered(0, 1)),
         (3_500, answered(0, 1, true)),
         (5_000, ServeMark::MoveBegins { segments: 2 }),
         (5_500, ServeMark::EpochEnds),
         (6_000, ServeMark::EpochBegins),
-        (12_000, ServeMark::JobOffered { id: 2 }),
+        (12_000, offered(1, 2)),
         (13_000, moved),
         (14_000, ServeMark::SegmentsComplete { complete: 1 }),
         (25_000, answered(1, 2, false)),
         (31_000, ServeMark::SegmentsComplete { complete: 2 }),
         (32_000, ServeMark::MoveEnds),
-    ];
+    ]
+}
+
+fn record_of_an_engine(alloc: Global) -> ServeRecord {
     let mut record = ServeRecord::new(alloc);
-    for (micros, mark) in &marks {
+    for (micros, mark) in &marks_of_an_engine() {
         record.note(*mark, *micros);
     }
     record.end(40_000);
@@ -250,5 +261,32 @@ fn the_record_of_an_engine(rt: HostRuntime) -> Result<(), Fail> {
     text.clear();
     record.write_chart(rt.alloc(), &mut text)?;
     assert!(rt; digest_of(rt.alloc(), &text)?.as_str() == ENGINE_CHART);
+    Ok(())
+}
+
+// The figures of the same engine once it is closed.
+const FIGURES_JSON: &str =
+    r#"{"aborted":1,"bytes_moved":250,"committed":1,"families_moved":3,"memory_bytes":null,"microseconds":40000,"move":null,"moves_done":1,"open":0,"open_at":[],"pumps":0,"state":"at rest","waits":{"longest":13000,"median":2500,"p99":13000}}"#;
+
+const WAIT_METRICS: &str = "\
+# HELP squall_wait_seconds How long jobs waited that were answered in the last second.
+# TYPE squall_wait_seconds gauge
+squall_wait_seconds{quantile=\"0.5\"} 0.002500
+squall_wait_seconds{quantile=\"0.99\"} 0.013000
+";
+
+#[test]
+fn the_figures_of_an_engine(rt: HostRuntime) -> Result<(), Fail> {
+    let mut record = RunningRecord::new(rt.alloc())?;
+    for (micros, mark) in &marks_of_an_engine() {
+        record.note(*mark, *micros);
+    }
+    let figures = record.figures(None, None, 40_000)?;
+    assert!(rt; status_text(rt.alloc(), &figures)?.as_str() == "");
+    assert!(rt; status_json(rt.alloc(), &figures)?.as_str() == FIGURES_JSON);
+    let mut text = Vec::new(rt.alloc());
+    write_metrics(&mut text, &figures)?;
+    let text = String::from_utf8(text).ok().ok_or("it is text")?;
+    assert!(rt; text.as_str().contains(WAIT_METRICS));
     Ok(())
 }

@@ -1,7 +1,7 @@
 use Rattle.std.proofs.Common.{arith}
 use Rattle.sq_moves.specs.declared.segment.TheConstants.{SEGMENT_LIMIT}
 use Rattle.sq_live.specs.Judged.{is_moved}
-use Rattle.sq_leader.proofs.Leading.{none_yet, set_next}
+use Rattle.sq_leader.proofs.LedStages.{none_yet, set_next}
 use Rattle.sq_live.proofs.judging.moved_segments.Goals as goal
 
 pub loop-seg-init : goal.loop-seg-init

@@ -7,7 +7,7 @@ use Rattle.sq_leader.specs.Segments.{is_marked_complete}
 use Rattle.sq_node_model.specs.BeganWith.{BeganWith}
 use Rattle.sq_node_model.specs.Gathered.{GatheredValue}
 use Rattle.sq_node_model.specs.Spots.{AllGrown}
-use Rattle.sq_leader.specs.declared.stages_leader.Led.TheVariants.{Next, Ended, Missing}
+use Rattle.sq_leader.specs.declared.leading.Led.TheVariants.{Next, Ended, Missing}
 use Rattle.sq_live.specs.Account.{AccountValue}
 use Rattle.sq_leader.specs.Leading.{Leads}
 use Rattle.sq_live.specs.Judged.{MarksMoved}

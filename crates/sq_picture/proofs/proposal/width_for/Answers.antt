@@ -1,6 +1,6 @@
 use Rattle.std.proofs.Common.{◌≡◌, true, false, Option, None, subst, arith}
 use Rattle.std.specs.Prelude.{is_some}
-use Rattle.sq_moves.specs.declared.ranges_fault.ReconFault.{ReconFault}
+use Rattle.sq_moves.specs.declared.opening_fault.ReconFault.{ReconFault}
 use Rattle.sq_picture.proofs.Proposing.{width_doubled, has_fault}
 use Rattle.sq_picture.proofs.proposal.width_for.Goals as goal
 

@@ -3,7 +3,7 @@ use Rattle.sq_engine.specs.declared.engine.Served.{Served}
 use Rattle.sq_engine.specs.Engine.{segments_of}
 use Rattle.sq_serving.specs.Becoming.{desk_value}
 use Rattle.sq_serving.specs.Written.{EpochIsWritten}
-use Rattle.sq_serving.proofs.ServerEpochs.{answers_each}
+use Rattle.sq_serving.proofs.DeskEpochs.{answers_each}
 use Rattle.sq_serving.proofs.epoch.run_at_desk.Goals as goal
 
 pub returns-clause-served : goal.returns-clause-served

@@ -10,7 +10,7 @@ use Rattle.sq_serving.proofs.serving.desk_for.Goals as goal
 pub returns-in-Ok-new-clause-desk : goal.returns-in-Ok-new-clause-desk
 returns-in-Ok-new-clause-desk g c =
     let no_jobs : ℕ → List (List AskedTxn) = λ n. replicate n [] in
-    let plan = c.args.plan.now in
+    let plan = c.new_plan-plan.result.now in
     let desk : List Fed → List (List AskedTxn) → PlanValue → ServeDeskValue =
     λ heard sides plan. new_desk g.W.Write.contents c.args.outlet heard sides plan c.args.config.is_strict in
     let heard = received c.args.lines.feed in
@@ -18,3 +18,4 @@ returns-in-Ok-new-clause-desk g c =
     ∙ ap (λ (sides : List (List AskedTxn)). desk heard sides c.in-Ok.text) (c.in-Ok-new.ensures ∙ ap no_jobs c.parts-parts.ensures.parts)
     ∙ ap (λ (p : PlanValue). desk heard (no_jobs plan.parts) p) c.in-Ok.ensures
     ∙ ap (λ (h : List Fed). desk h (no_jobs plan.parts) plan) c.requires
+    ∙ ap (λ (p : PlanValue). desk [] (no_jobs p.parts) p) c.new_plan-plan.ensures.plan

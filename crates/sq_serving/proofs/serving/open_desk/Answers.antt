@@ -1,8 +1,7 @@
 use Rattle.std.proofs.Common.{subst}
-use Rattle.sq_plan.specs.PlanValue.{PlanValue}
 use Rattle.sq_serving.specs.declared.outlet.Outlet.{Outlet}
 use Rattle.sq_serving.specs.Becoming.{ServeDeskValue, desk_value}
-use Rattle.sq_serving.specs.Service.{first_desk, ServesOpening}
+use Rattle.sq_serving.specs.Service.{ServesOpening}
 use Rattle.sq_serving.proofs.serving.open_desk.Goals as goal
 
 pub returns-in-Ok : goal.returns-in-Ok
@@ -11,8 +10,6 @@ returns-in-Ok g c =
     let saves = g.V.ServeWatch.Saves c.args.watch.now in
     let desk = c.in-Ok.desk in
     let came = c.open_engine.result in
-    let first : PlanValue → ServeDeskValue = λ plan. first_desk c.args.config.is_strict contents c.args.outlet plan in
-    subst (λ (plan : PlanValue). ServesOpening saves contents c.args.opening (first plan) c.args.outlet came.1 came.0) c.new_plan.ensures.plan
-    (subst (λ (d : ServeDeskValue). ServesOpening saves contents c.args.opening d c.args.outlet came.1 came.0) c.in-Ok.ensures.desk
+    subst (λ (d : ServeDeskValue). ServesOpening saves contents c.args.opening d c.args.outlet came.1 came.0) c.in-Ok.ensures.desk
     (subst (λ (o : Outlet _). ServesOpening saves contents c.args.opening (desk_value contents desk) o came.1 came.0) c.in-Ok.ensures.outlet
-    c.open_engine.ensures))
+    c.open_engine.ensures)

@@ -1,7 +1,7 @@
 use Rattle.std.proofs.Common.{◌≡◌, length, subst, arith}
 use Rattle.std.specs.Vec.Iter.{into_iter_items}
 use Rattle.sq_store.specs.Commands.{AreStoreAnswers}
-use Rattle.sq_store.proofs.StoreRuns.{completes_more, completes_all}
+use Rattle.sq_store.proofs.RunStore.{completes_more, completes_all}
 use Rattle.sq_store.proofs.run.run_store.Goals as goal
 
 pub loop-command-preserved : goal.loop-command-preserved

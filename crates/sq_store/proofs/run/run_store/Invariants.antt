@@ -1,6 +1,6 @@
 use Rattle.std.proofs.Common.{◌+◌, ◌≤◌, vec_len, vec_capacity}
 use Rattle.std.specs.Vec.Iter.{into_iter_items, into_iter_len}
-use Rattle.sq_store.proofs.StoreRuns.{Completes}
+use Rattle.sq_store.proofs.RunStore.{Completes}
 use Rattle.sq_store.proofs.run.run_store.Given as goal
 
 -- the commands that are left are still to be answered, and there is room for their answers

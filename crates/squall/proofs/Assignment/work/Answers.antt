@@ -3,7 +3,7 @@ use Rattle.squall.proofs.Parts.{with_recalled}
 use Rattle.squall.proofs.Assignment.work.Goals as goal
 
 pub returns-in-Run : goal.returns-in-Run
-returns-in-Run g c = with_recalled (Run c.in-Run.echoes c.in-Run.strict c.in-Run.rows_out) _ (g.R.Read.remaining c.new-reader.result.inner) _ _ _ _ c.in-Run.is c.new-reader.ensures c.script.ensures
+returns-in-Run g c = with_recalled (Run c.in-Run.echoes c.in-Run.strict c.in-Run.json c.in-Run.rows_out) _ (g.R.Read.remaining c.new-reader.result.inner) _ _ _ _ c.in-Run.is c.new-reader.ensures c.script.ensures
 
 pub returns-in-Ranges : goal.returns-in-Ranges
 returns-in-Ranges g c = with_recalled (Ranges c.in-Ranges.form c.in-Ranges.sizes) _ (g.R.Read.remaining c.new-reader.result.inner) _ _ _ _ c.in-Ranges.is c.new-reader.ensures c.listing.ensures

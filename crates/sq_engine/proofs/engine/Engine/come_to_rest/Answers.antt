@@ -9,6 +9,6 @@ invariant_of-self c =
     let due = c.if-make_due.ensures in (
       c.self.invariant.0,
       due.set_up,
-      rest_here c.self.inside c.in-Ok.plan c.make_due.new.opening (at_value c.make_due.new.at) due.due due.set_up due.at
+      rest_here c.self.inside c.in-Ok.plan c.of-limit.result c.make_due.new.opening (at_value c.make_due.new.at) due.due due.set_up due.at
           (subst EndsMove (sym c.self.view_is) c.requires) c.self.invariant.2 (c.in-Ok.ensures.cases ∙ c.new_plan.ensures.plan),
     )

@@ -16,7 +16,7 @@ invariant_of-self-2 c =
     ∙ ap (λ (p : PlanValue). inside.jobs.events ++ MovesTo p ∷ []) (sym c.with_move-plan.ensures.plan) in (
       c.self.invariant.0,
       due.set_up,
-      due_here inside plan c.make_due.new.opening (at_value c.make_due.new.at) due.due due.set_up due.at
+      due_here inside plan c.args.limit c.make_due.new.opening (at_value c.make_due.new.at) due.due due.set_up due.at
           (subst EndsMove (sym c.self.view_is) c.requires) c.self.invariant.2 c.begin_move.new.self
           (adds_move plan inside.jobs c.begin_move.new.self c.with_move-plan.result.1.items events c.begin_move.ensures),
     )

@@ -1,18 +1,13 @@
 use Rattle.std.proofs.Common.{[], ◌∷◌}
 use Rattle.std.specs.Prelude.{Err}
-use Rattle.sq_text.specs.Texts.{refused_line}
 use Rattle.sq_serving.specs.declared.feed.Fed.TheVariants as fed
-use Rattle.sq_serving.proofs.Desks.{either_unheard, fault_answered, plan_refused, stopped_handles}
+use Rattle.sq_serving.proofs.Desks.{fault_answered, plan_refused, stopped_handles}
 use Rattle.sq_serving.proofs.desk.ServeDesk.take_fault.Goals as goal
-
-pub returns-in-Plan-clause-heard : goal.returns-in-Plan-clause-heard
-returns-in-Plan-clause-heard g c =
-    either_unheard (refused_line 217) (refused_line c.number-number.result) _ _ c.refuse_plan.ensures.either
 
 pub returns-in-Plan-clause-handles : goal.returns-in-Plan-clause-handles
 returns-in-Plan-clause-handles g c =
     plan_refused c.args.place c.args.faulty.now c.in-Plan.field-0 c.number-number.result _ _ c.in-Plan.is c.number-number.ensures
-    c.refuse_plan.ensures.either
+    c.say_refused.ensures.line
 
 pub returns-in-Memory-clause-handles : goal.returns-in-Memory-clause-handles
 returns-in-Memory-clause-handles g c =

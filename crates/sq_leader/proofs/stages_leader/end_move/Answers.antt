@@ -1,9 +1,0 @@
-use Rattle.sq_leader.proofs.Leading.{ends, stays_last}
-use Rattle.sq_leader.proofs.stages_leader.end_move.Goals as goal
-
-pub returns-in-Ok : goal.returns-in-Ok
-returns-in-Ok c = ends c.args.opening.now c.args.moving.stage c.args.whole.now c.args.moving c.requires.reported c.in-Ok.field-0 c.in-Ok.ensures.answer
-
-pub returns : goal.returns
-returns c =
-    stays_last c.args.opening.now c.args.moving.stage c.args.whole.now c.args.moving c.requires.reported c.requires.opening c.requires.last c.in-Err.field-0 c.in-Err.ensures.answer

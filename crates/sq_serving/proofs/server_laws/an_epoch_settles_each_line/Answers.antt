@@ -1,5 +1,0 @@
-use Rattle.sq_serving.proofs.ServerEpochs.{answers_each}
-use Rattle.sq_serving.proofs.server_laws.an_epoch_settles_each_line.Goals as goal
-
-pub returns : goal.returns
-returns c = λ segments events first last went. answers_each (λ desk. desk) segments events first last went

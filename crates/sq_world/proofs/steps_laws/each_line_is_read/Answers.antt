@@ -1,5 +1,0 @@
-use Rattle.sq_world.proofs.ReadBack.{line_is_read}
-use Rattle.sq_world.proofs.steps_laws.each_line_is_read.Goals as goal
-
-pub returns : goal.returns
-returns c = line_is_read
